@@ -20,7 +20,8 @@ use Rattle.word_rule.specs.TreeRefusals.{AppendsRefusal, ShowsNone}
 use Rattle.word_rule.specs.declared.log.Ask.TheVariants as ask
 use Rattle.word_rule.specs.declared.log.Terms.{Terms}
 use Rattle.btree_change.specs.Takings.{RefusesBase}
-use Rattle.btree_change.specs.Removing.{HoldsBesideRoot}
+use Rattle.btree_change.specs.Removing.{HoldsAlone}
+use Rattle.btree_change.specs.declared.descent.Held.{Held}
 use Rattle.btree_change.proofs.TakingThere.{taken_there}
 use Rattle.btree_change.proofs.Refusing.{leaf_alone, refuses_so, seen_so}
 
@@ -92,11 +93,11 @@ absent_after t base stamp k k1 k2 (more, is) refuses = again (subst (λ z. Refus
       };
     }
 
-module _ (t : Terms) (n base : ℕ) (s : NodeData) (changed root_changed : Bool) (k : CallerData) (path : HoldsBesideRoot t n s changed root_changed k.log.holdings) (level : s.level ≡ 0) (here : IsInFences base s) (none : at_base base (entries_of s) ≡ None) where
+module _ (t : Terms) (at : Held) (base : ℕ) (k : CallerData) (alone : HoldsAlone t at k.log.holdings) (level : at.content.level ≡ 0) (here : IsInFences base at.content) (none : at_base base (entries_of at.content) ≡ None) where
   pub shows_none : ShowsNone base k.log
   shows_none =
-      let leaf = leaf_alone t n s changed path.lock path.above k.log.holdings.held path.held path.here level in record {
-        leaves = n ∷ [];
+      let leaf = leaf_alone t at.node at.content at.changed alone.lock [] k.log.holdings.held alone.held alone.here level in record {
+        leaves = at.node ∷ [];
         held = leaf.0 base base here.0 here.1;
         none = subst (λ xs. IsNone (at_base base xs)) (sym leaf.1) (subst IsNone (sym none) refl);
       }

@@ -3,7 +3,6 @@ use Rattle.std.proofs.Common.{◌≡◌, ◌≢◌, ℕ, zero, suc, ◌+◌, ◌
 use Rattle.std.proofs.lemmas.Option.{none-some}
 use Rattle.std.specs.List.{slice_get}
 use Rattle.tree_shape.specs.Changes.{Fit, FitAs, at_slot, both, joined, pair, swallow_next}
-use Rattle.tree_shape.specs.Decisions.{is_entries}
 use Rattle.tree_shape.specs.Lawful.{IsFilledAs, IsLawfulTree, IsOrderedAs, fewest_pairs}
 use Rattle.tree_shape.specs.LocalChange.{IsChangeOf}
 use Rattle.tree_shape.specs.NodeData.{NodeData, Body, Pairs, Entries, Link, frame_of, pairs_of}
@@ -84,7 +83,7 @@ may_store n h v found marked = subst (λ o. IsSomeAnd o (λ (a : Holding). IsSom
 module _ (t : Terms) (x : Siblings) (k k1 : CallerData) (found : ℕ) (hs : HoldsSiblings t x k.log.holdings) (tree : KnowsTree k.log.holdings) (holder : HolderTells x.right.node k.log) (loads : k1 ≡ record k { log = after_node_load x.right.node 2 found k.log })
     (fit : Fit x.left.content x.right.content) where
   abbrev n : ℕ
-  n = x.above.at.node
+  n = x.above.node
 
   abbrev l : ℕ
   l = x.left.node
@@ -96,42 +95,42 @@ module _ (t : Terms) (x : Siblings) (k k1 : CallerData) (found : ℕ) (hs : Hold
   o = hs.left_first
 
   abbrev s : NodeData
-  s = x.above.at.content
+  s = x.above.content
 
   abbrev one : NodeData
   one = joined x.left.content x.right.content
 
   abbrev less : NodeData
-  less = record x.above.at.content { body = Pairs (at_slot swallow_next x.slot (pairs_of x.above.at.content)) }
+  less = record x.above.content { body = Pairs (at_slot swallow_next x.slot (pairs_of x.above.content)) }
 
   abbrev gone : NodeData
   gone = record x.right.content { body = Link 0 }
 
-  held1 : k1.log.holdings.held ≡ both_of hs.left_first hs.low hs.high (hs.upper ∷ hs.rest)
+  held1 : k1.log.holdings.held ≡ both_of hs.left_first hs.low hs.high (hs.upper ∷ [])
   held1 = ap (λ (z : CallerData). z.log.holdings.held) loads ∙ hs.held
 
   out1 : k1.log.holdings.out ≡ []
   out1 = ap (λ (z : CallerData). z.log.holdings.out) loads ∙ hs.out
 
-  apart : AreThree l r n hs.rest
+  apart : AreThree l r n
   apart = three t x k hs tree
 
   pub may_low : MayStore x.left.node k1.log
-  may_low = may_store l hs.low k1.log (ap (held_of l) held1 ∙ both_low hs.left_first hs.low hs.high (hs.upper ∷ hs.rest) l hs.left.node (λ e. apart.left_right (sym (sym hs.right.node ∙ e)))) hs.left.marked
+  may_low = may_store l hs.low k1.log (ap (held_of l) held1 ∙ both_low hs.left_first hs.low hs.high (hs.upper ∷ []) l hs.left.node (λ e. apart.left_right (sym (sym hs.right.node ∙ e)))) hs.left.marked
 
   module _ (k2 : CallerData) (writes1 : StoresHeld x.left.node (joined x.left.content x.right.content) k1 k2) (spells1 : SpellsHeld x.left.node (joined x.left.content x.right.content) k2.log) where
-    w1 : IsWrittenAs (joined x.left.content x.right.content) hs.low (λ z. both_of hs.left_first z hs.high (hs.upper ∷ hs.rest)) k1 k2
-    w1 = write_low hs.left_first one l hs.low hs.high (hs.upper ∷ hs.rest) k1 k2 (fit_kind x.left.content.body x.right.content.body fit) hs.left.node (λ e. apart.left_right (sym (sym hs.right.node ∙ e))) ((λ e. apart.left_above (sym (sym hs.parent.node ∙ e))), apart.rest_left) held1 writes1 spells1
+    w1 : IsWrittenAs (joined x.left.content x.right.content) hs.low (λ z. both_of hs.left_first z hs.high (hs.upper ∷ [])) k1 k2
+    w1 = write_low hs.left_first one l hs.low hs.high (hs.upper ∷ []) k1 k2 (fit_kind x.left.content.body x.right.content.body fit) hs.left.node (λ e. apart.left_right (sym (sym hs.right.node ∙ e))) ((λ e. apart.left_above (sym (sym hs.parent.node ∙ e))), tt) held1 writes1 spells1
 
     low_node : w1.lock.node ≡ l
     low_node = w1.node ∙ hs.left.node
 
-    pub may_upper : MayStore x.above.at.node k2.log
-    may_upper = may_store n hs.upper k2.log (ap (held_of n) w1.held ∙ (both_more hs.left_first w1.lock hs.high (hs.upper ∷ hs.rest) n (λ e. apart.left_above (sym low_node ∙ e)) (λ e. apart.right_above (sym hs.right.node ∙ e)) ∙ found_head n hs.upper hs.rest hs.parent.node)) hs.parent.marked
+    pub may_upper : MayStore x.above.node k2.log
+    may_upper = may_store n hs.upper k2.log (ap (held_of n) w1.held ∙ (both_more hs.left_first w1.lock hs.high (hs.upper ∷ []) n (λ e. apart.left_above (sym low_node ∙ e)) (λ e. apart.right_above (sym hs.right.node ∙ e)) ∙ found_head n hs.upper [] hs.parent.node)) hs.parent.marked
 
-    module _ (k3 : CallerData) (writes2 : StoresHeld x.above.at.node (record x.above.at.content { body = Pairs (at_slot swallow_next x.slot (pairs_of x.above.at.content)) }) k2 k3) (spells2 : SpellsHeld x.above.at.node (record x.above.at.content { body = Pairs (at_slot swallow_next x.slot (pairs_of x.above.at.content)) }) k3.log) where
-      w2 : IsWrittenAs (record x.above.at.content { body = Pairs (at_slot swallow_next x.slot (pairs_of x.above.at.content)) }) hs.upper (λ z. both_of hs.left_first w1.lock hs.high (z ∷ hs.rest)) k2 k3
-      w2 = write_upper hs.left_first less n w1.lock hs.high hs.upper hs.rest k2 k3 (λ e. omega (arith, e)) hs.parent.node (λ e. apart.left_above (sym low_node ∙ e)) (λ e. apart.right_above (sym hs.right.node ∙ e)) apart.rest_above w1.held writes2 spells2
+    module _ (k3 : CallerData) (writes2 : StoresHeld x.above.node (record x.above.content { body = Pairs (at_slot swallow_next x.slot (pairs_of x.above.content)) }) k2 k3) (spells2 : SpellsHeld x.above.node (record x.above.content { body = Pairs (at_slot swallow_next x.slot (pairs_of x.above.content)) }) k3.log) where
+      w2 : IsWrittenAs (record x.above.content { body = Pairs (at_slot swallow_next x.slot (pairs_of x.above.content)) }) hs.upper (λ z. both_of hs.left_first w1.lock hs.high (z ∷ [])) k2 k3
+      w2 = write_upper hs.left_first less n w1.lock hs.high hs.upper [] k2 k3 (λ e. omega (arith, e)) hs.parent.node (λ e. apart.left_above (sym low_node ∙ e)) (λ e. apart.right_above (sym hs.right.node ∙ e)) tt w1.held writes2 spells2
 
       upper_node : w2.lock.node ≡ n
       upper_node = w2.node ∙ hs.parent.node
@@ -139,8 +138,8 @@ module _ (t : Terms) (x : Siblings) (k k1 : CallerData) (found : ℕ) (hs : Hold
       pub table3 : k3.table ≡ k.table
       table3 = w2.same.table ∙ (w1.same.table ∙ ap (λ (z : CallerData). z.table) loads)
 
-      found_right : (high : Holding) (hs' : List Holding) → high.node ≡ r → hs' ≡ both_of hs.left_first w1.lock high (w2.lock ∷ hs.rest) → held_of r hs' ≡ Some high
-      found_right high hs' is held = ap (held_of r) held ∙ both_high hs.left_first w1.lock high (w2.lock ∷ hs.rest) r is (λ e. apart.left_right (sym low_node ∙ e))
+      found_right : (high : Holding) (hs' : List Holding) → high.node ≡ r → hs' ≡ both_of hs.left_first w1.lock high (w2.lock ∷ []) → held_of r hs' ≡ Some high
+      found_right high hs' is held = ap (held_of r) held ∙ both_high hs.left_first w1.lock high (w2.lock ∷ []) r is (λ e. apart.left_right (sym low_node ∙ e))
 
       pub may_link : MayStore x.right.node k3.log
       may_link = may_store r hs.high k3.log (found_right hs.high k3.log.holdings.held hs.right.node w2.held) hs.right.marked
@@ -149,8 +148,8 @@ module _ (t : Terms) (x : Siblings) (k k1 : CallerData) (found : ℕ) (hs : Hold
         linked : Holding
         linked = store_in 6 0 hs.high
 
-        held4 : k4.log.holdings.held ≡ both_of hs.left_first w1.lock (store_in 6 0 hs.high) (w2.lock ∷ hs.rest)
-        held4 = ap (λ (z : CallerData). z.log.holdings.held) stores4 ∙ (ap (edited r (store_in 6 0)) w2.held ∙ edit_high hs.left_first r (store_in 6 0) w1.lock hs.high (w2.lock ∷ hs.rest) hs.right.node (λ e. apart.left_right (sym low_node ∙ e)) ((λ e. apart.right_above (sym (sym upper_node ∙ e))), apart.rest_right))
+        held4 : k4.log.holdings.held ≡ both_of hs.left_first w1.lock (store_in 6 0 hs.high) (w2.lock ∷ [])
+        held4 = ap (λ (z : CallerData). z.log.holdings.held) stores4 ∙ (ap (edited r (store_in 6 0)) w2.held ∙ edit_high hs.left_first r (store_in 6 0) w1.lock hs.high (w2.lock ∷ []) hs.right.node (λ e. apart.left_right (sym low_node ∙ e)) ((λ e. apart.right_above (sym (sym upper_node ∙ e))), tt))
 
         pub table4 : k4.table ≡ k.table
         table4 = ap (λ (z : CallerData). z.table) stores4 ∙ table3
@@ -158,12 +157,12 @@ module _ (t : Terms) (x : Siblings) (k k1 : CallerData) (found : ℕ) (hs : Hold
         pub may_free : MayStore x.right.node k4.log
         may_free = may_store r (store_in 6 0 hs.high) k4.log (found_right (store_in 6 0 hs.high) k4.log.holdings.held hs.right.node held4) hs.right.marked
 
-        module _ (laws : SettlingLaws) (law : JoinLaw) (spare : fewest_pairs x.above.at.node < length (pairs_of x.above.at.content)) (k5 : CallerData) (stores5 : k5 ≡ record k4 { log = after_node_store x.right.node 1 2 k4.log }) where
+        module _ (laws : SettlingLaws) (law : JoinLaw) (spare : fewest_pairs x.above.node < length (pairs_of x.above.content)) (k5 : CallerData) (stores5 : k5 ≡ record k4 { log = after_node_store x.right.node 1 2 k4.log }) where
           abbrev f : Contents
           f = tree.contents
 
           abbrev g : Contents
-          g = updated (updated (updated tree.contents x.right.node (record x.right.content { body = Link 0 })) x.above.at.node (record x.above.at.content { body = Pairs (at_slot swallow_next x.slot (pairs_of x.above.at.content)) })) x.left.node (joined x.left.content x.right.content)
+          g = updated (updated (updated tree.contents x.right.node (record x.right.content { body = Link 0 })) x.above.node (record x.above.content { body = Pairs (at_slot swallow_next x.slot (pairs_of x.above.content)) })) x.left.node (joined x.left.content x.right.content)
 
           g_l : g l ≡ one
           g_l = rw (eq-eqb l l refl) refl
@@ -180,7 +179,7 @@ module _ (t : Terms) (x : Siblings) (k k1 : CallerData) (found : ℕ) (hs : Hold
                 live_parent = (parent_told t x k hs tree).0;
                 at = at_slot_is t x k hs tree;
                 next = next_slot_is t x k hs tree;
-                spare = subst (λ (z : NodeData). fewest_pairs x.above.at.node < length (pairs_of z)) (sym fn) spare;
+                spare = subst (λ (z : NodeData). fewest_pairs x.above.node < length (pairs_of z)) (sym fn) spare;
                 fit = subst (λ (z : NodeData). Fit z (f r)) (sym fl) (subst (λ (z : NodeData). Fit x.left.content z) (sym fr) fit);
                 above = g_n ∙ ap (λ (z : NodeData). record z { body = Pairs (at_slot swallow_next x.slot (pairs_of z)) }) (sym fn);
                 left = g_l ∙ (λ i. joined (sym fl i) (sym fr i));
@@ -212,20 +211,20 @@ module _ (t : Terms) (x : Siblings) (k k1 : CallerData) (found : ℕ) (hs : Hold
           abbrev freed : Holding
           freed = store_in 1 2 (store_in 6 0 hs.high)
 
-          held5 : (stored_log x.right.node 1 2 k4.log).holdings.held ≡ both_of hs.left_first w1.lock (store_in 1 2 (store_in 6 0 hs.high)) (w2.lock ∷ hs.rest)
-          held5 = ap (edited r (store_in 1 2)) held4 ∙ edit_high hs.left_first r (store_in 1 2) w1.lock (store_in 6 0 hs.high) (w2.lock ∷ hs.rest) hs.right.node (λ e. apart.left_right (sym low_node ∙ e)) ((λ e. apart.right_above (sym (sym upper_node ∙ e))), apart.rest_right)
+          held5 : (stored_log x.right.node 1 2 k4.log).holdings.held ≡ both_of hs.left_first w1.lock (store_in 1 2 (store_in 6 0 hs.high)) (w2.lock ∷ [])
+          held5 = ap (edited r (store_in 1 2)) held4 ∙ edit_high hs.left_first r (store_in 1 2) w1.lock (store_in 6 0 hs.high) (w2.lock ∷ []) hs.right.node (λ e. apart.left_right (sym low_node ∙ e)) ((λ e. apart.right_above (sym (sym upper_node ∙ e))), tt)
 
           out5 : (stored_log x.right.node 1 2 k4.log).holdings.out ≡ []
           out5 = ap (λ (z : CallerData). z.log.holdings.out) stores4 ∙ (w2.out ∙ (w1.out ∙ out1))
 
           wide : length hs.high.words ≡ 35
-          wide = wide_of t r hs.high k.log (ap (held_of r) hs.held ∙ both_high hs.left_first hs.low hs.high (hs.upper ∷ hs.rest) r hs.right.node (λ e. apart.left_right (sym hs.left.node ∙ e))) holder
+          wide = wide_of t r hs.high k.log (ap (held_of r) hs.held ∙ both_high hs.left_first hs.low hs.high (hs.upper ∷ []) r hs.right.node (λ e. apart.left_right (sym hs.left.node ∙ e))) holder
 
           now_low : IsNow hs.low (g l) w1.lock
           now_low = record { node = w1.node; mark = w1.mark; settled = w1.settled; spells = w1.spells ∙ ap Some (sym g_l); stored = w1.stored x.left.content hs.left.spells (λ e. left_differs (g_l ∙ (sym e ∙ sym (left_told t x k hs tree).1))) }
 
           now_upper : IsNow hs.upper (g n) w2.lock
-          now_upper = record { node = w2.node; mark = w2.mark; settled = w2.settled; spells = w2.spells ∙ ap Some (sym g_n); stored = w2.stored x.above.at.content hs.parent.spells (λ e. parent_differs (g_n ∙ (sym e ∙ sym (parent_told t x k hs tree).1))) }
+          now_upper = record { node = w2.node; mark = w2.mark; settled = w2.settled; spells = w2.spells ∙ ap Some (sym g_n); stored = w2.stored x.above.content hs.parent.spells (λ e. parent_differs (g_n ∙ (sym e ∙ sym (parent_told t x k hs tree).1))) }
 
           now_high : IsNow hs.high (g r) (store_in 1 2 (store_in 6 0 hs.high))
           now_high = record { node = refl; mark = refl; settled = refl; spells = spells_freed hs.high.words x.right.content wide hs.right.spells ∙ ap Some (sym g_r); stored = refl }
@@ -239,16 +238,13 @@ module _ (t : Terms) (x : Siblings) (k k1 : CallerData) (found : ℕ) (hs : Hold
           off_r : is_among (n ∷ l ∷ []) r ≡ false
           off_r = not_in r n (l ∷ []) apart.right_above (not_in r l [] (λ e. apart.left_right (sym e)) refl)
 
-          off_root : n ≢ 0 → is_among (n ∷ l ∷ []) 0 ≡ false
-          off_root some = not_in 0 n (l ∷ []) (λ e. some (sym e)) (not_in 0 l [] (λ e. (family t x k hs tree).left.no_root (sym e)) refl)
-
           settled5 : settle None (stored_log x.right.node 1 2 k4.log) ≡ record (stored_log x.right.node 1 2 k4.log) {
             holdings = record k4.log.holdings {
-              held = both_of hs.left_first (exchange (is_among (n ∷ l ∷ r ∷ [])) (is_among (n ∷ l ∷ [])) w1.lock) (exchange (is_among (n ∷ l ∷ r ∷ [])) (is_among (n ∷ l ∷ [])) (store_in 1 2 (store_in 6 0 hs.high))) (record w2.lock { settled = g n; mark = Some (frame_of (g n)) } ∷ hs.rest);
+              held = both_of hs.left_first (exchange (is_among (n ∷ l ∷ r ∷ [])) (is_among (n ∷ l ∷ [])) w1.lock) (exchange (is_among (n ∷ l ∷ r ∷ [])) (is_among (n ∷ l ∷ [])) (store_in 1 2 (store_in 6 0 hs.high))) (record w2.lock { settled = g n; mark = Some (frame_of (g n)) } ∷ []);
               out = both_left hs.left_first (not (is_among (n ∷ l ∷ []) l)) (not (is_among (n ∷ l ∷ []) r)) l r;
             };
           }
-          settled5 = settles t x k hs tree laws g (n ∷ l ∷ []) change (parent_differs, left_differs, right_differs) (stored_log x.right.node 1 2 k4.log) w1.lock (store_in 1 2 (store_in 6 0 hs.high)) w2.lock held5 out5 now_low now_high now_upper on_n off_root
+          settled5 = settles t x k hs tree laws g (n ∷ l ∷ []) change (parent_differs, left_differs, right_differs) (stored_log x.right.node 1 2 k4.log) w1.lock (store_in 1 2 (store_in 6 0 hs.high)) w2.lock held5 out5 now_low now_high now_upper on_n
 
           frees_it : after_node_store x.right.node 1 2 k4.log ≡ settle None (stored_log x.right.node 1 2 k4.log)
           frees_it = ap (λ b. if b then settle None (stored_log x.right.node 1 2 k4.log) else stored_log x.right.node 1 2 k4.log) (ap is_marked (found_right (store_in 6 0 hs.high) k4.log.holdings.held hs.right.node held4) ∙ hs.right.marked)
@@ -269,12 +265,11 @@ module _ (t : Terms) (x : Siblings) (k k1 : CallerData) (found : ℕ) (hs : Hold
                 low = record w1.lock { settled = g l; mark = Some (frame_of (g l)) };
                 high = record freed { settled = g r; mark = None };
                 upper = record w2.lock { settled = g n; mark = Some (frame_of (g n)) };
-                rest = hs.rest;
                 held = ap (λ (z : Log). z.holdings.held) (log5 ∙ settled5)
                     ∙ (λ i. both_of hs.left_first
                     (settled_group (n ∷ l ∷ r ∷ []) (n ∷ l ∷ []) w1.lock (g l) (subst (λ m. is_among (n ∷ l ∷ r ∷ []) m ≡ true) (sym low_node) (in_l t x k hs tree)) (subst (λ m. is_among (n ∷ l ∷ []) m ≡ true) (sym low_node) on_l) now_low.spells i)
                     (settled_gone (n ∷ l ∷ r ∷ []) (n ∷ l ∷ []) freed (g r) (subst (λ m. is_among (n ∷ l ∷ r ∷ []) m ≡ true) (sym hs.right.node) (in_r t x k hs tree)) (subst (λ m. is_among (n ∷ l ∷ []) m ≡ false) (sym hs.right.node) off_r) now_high.spells i)
-                    (record w2.lock { settled = g n; mark = Some (frame_of (g n)) } ∷ hs.rest));
+                    (record w2.lock { settled = g n; mark = Some (frame_of (g n)) } ∷ []));
                 out = ap (λ (z : Log). z.holdings.out) (log5 ∙ settled5) ∙ one_out hs.left_first (not (is_among (n ∷ l ∷ []) l)) (not (is_among (n ∷ l ∷ []) r)) (ap not on_l) (ap not off_r);
                 left = low_node;
                 content = g_l;
@@ -285,11 +280,7 @@ module _ (t : Terms) (x : Siblings) (k k1 : CallerData) (found : ℕ) (hs : Hold
                 gone = refl;
                 parent = upper_node;
                 parent_spells = now_upper.spells;
-                parent_inner = ap (λ (z : NodeData). is_entries z.body) g_n;
                 parent_stored = now_upper.stored;
-                parent_marked = refl;
-                root = hs.root;
-                no_root = (fam.left.no_root, fam.no_root);
                 no_parent = (apart.left_above, apart.right_above);
                 different = apart.left_right;
                 spare = spare_of l one (join_spare l r x.left.content.body x.right.content.body fam.left.no_root fam.no_root fit own.1.1.filled other.1.1.filled);

@@ -9,7 +9,7 @@ use Rattle.tree_shape.specs.Trees.{Branch, Contents, branches, branches_from}
 use Rattle.tree_shape.specs.declared.node.Frame.{Frame}
 use Rattle.tree_shape.specs.declared.pair.Pair.{Pair}
 use Rattle.word_rule.specs.CallerData.{CallerData, surplus}
-use Rattle.word_rule.specs.Held.{held_of, without_lock}
+use Rattle.word_rule.specs.Held.{held_of}
 use Rattle.word_rule.specs.NodeTells.{IsLiveNode}
 use Rattle.word_rule.specs.Spelling.{spelled, SpellsNode}
 use Rattle.word_rule.specs.Steps.{first_mark, mark_at_lock, place_by, place_by_held, place_in}
@@ -23,17 +23,13 @@ use Rattle.node_store.specs.Holding.{SpellsHeld}
 use Rattle.node_store.specs.Locking.{IsBusy, Locks}
 use Rattle.node_store.specs.Outlines.{OnlyLoads}
 use Rattle.btree_change.specs.Paths.{IsSettledLock, StepsOnNodes}
-use Rattle.btree_change.specs.Releases.{HaveSettled, LetsGo, MayGo}
-use Rattle.btree_change.specs.Removing.{HoldsBesideRoot, IsBeside, IsSettledRoot}
-use Rattle.btree_change.specs.Siblings.{HoldsChild, HoldsUnder}
+use Rattle.btree_change.specs.Removing.{HoldsAlone}
+use Rattle.btree_change.specs.Siblings.{HoldsChild}
 use Rattle.btree_change.specs.declared.descent.Held.{Held}
-use Rattle.btree_change.proofs.Mended.{without_high}
-use Rattle.btree_change.proofs.Pairings.{IsBesideLock, beside_each}
 use Rattle.btree_change.proofs.Descending.{found_child, steps_of_take, steps_then, weaken}
 use Rattle.btree_change.proofs.Outlining.{steps_of_loads}
-use Rattle.btree_change.proofs.Storing.{found_at}
 use Rattle.btree_change.proofs.Lowering.{settled_live}
-use Rattle.word_rule.proofs.Each.{all_map, all_with}
+use Rattle.word_rule.proofs.Each.{all_with}
 
 -- a pair of a node names a branch
 pub branch_at : (level low : ℕ) (pairs : List Pair) (slot : ℕ) (p : Pair) → slice_get pairs slot ≡ Some p → (b : Branch) × (Contains (branches_from level low pairs) b × (b.child ≡ p.child) × (b.frame.high ≡ p.separator) × (b.frame.level ≡ level))
@@ -152,42 +148,39 @@ none_named f live tree c q lives same = go (f c).body refl (tree.ordered c lives
     go (Link next) e ordered = absurd ordered
 
 -- the child for an address is held under its parent
-pub child_so : (t : Terms) (n : ℕ) (s : NodeData) (changed root_changed : Bool) (pc slot : ℕ) (p : Pair) (k k1 k2 : CallerData) (shape : NodeData) → k.log.terms ≡ t → HoldsBesideRoot t n s changed root_changed k.log.holdings → 0 < s.level → IsInFences pc s → slot ≡ slot_for pc (pairs_of s) → slice_get (pairs_of s) slot ≡ Some p → Locks (lock.Node p.child) k k1 → SpellsHeld p.child shape k1.log → k2.log.holdings ≡ k1.log.holdings
-    → HoldsChild t (record { above = record { at = record { node = n; content = s; changed = changed }; root_changed = root_changed }; at = record { node = p.child; content = shape; changed = false }; slot = slot }) pc k2.log.holdings
-child_so t n s changed root_changed pc slot p k k1 k2 shape terms path above fences first at locks spells same =
-    let own = settled_live t n s changed path.lock path.here in
-    let holds = slot_holds (s.level - 1) s.low pc (pairs_of s) p fences.0 (ap (slice_get (pairs_of s)) (sym first) ∙ at) in
-    let exact = branch_at (s.level - 1) s.low (pairs_of s) slot p at in
-    let named = names t n s own.0 p.child holds.0 own.1.1 holds.1.0 holds.1.1 in
+pub child_so : (t : Terms) (above : Held) (pc slot : ℕ) (p : Pair) (k k1 k2 : CallerData) (shape : NodeData) → k.log.terms ≡ t → HoldsAlone t above k.log.holdings → 0 < above.content.level → IsInFences pc above.content → slot ≡ slot_for pc (pairs_of above.content) → slice_get (pairs_of above.content) slot ≡ Some p → Locks (lock.Node p.child) k k1 → SpellsHeld p.child shape k1.log → k2.log.holdings ≡ k1.log.holdings
+    → HoldsChild t (record { above = above; at = record { node = p.child; content = shape; changed = false }; slot = slot }) pc k2.log.holdings
+child_so t above pc slot p k k1 k2 shape terms alone inner fences first at locks spells same =
+    let own = settled_live t above.node above.content above.changed alone.lock alone.here in
+    let holds = slot_holds (above.content.level - 1) above.content.low pc (pairs_of above.content) p fences.0 (ap (slice_get (pairs_of above.content)) (sym first) ∙ at) in
+    let exact = branch_at (above.content.level - 1) above.content.low (pairs_of above.content) slot p at in
+    let named = names t above.node above.content own.0 p.child holds.0 own.1.1 holds.1.0 holds.1.1 in
     let frame : exact.0.frame ≡ holds.0.frame = named.place exact.0 exact.1.0 exact.1.1 in
     let high : holds.0.frame.high ≡ p.separator = ap (λ (z : Frame). z.high) (sym frame) ∙ exact.1.2 in
-    let level : holds.0.frame.level ≡ s.level - 1 = ap (λ (z : Frame). z.level) (sym frame) ∙ exact.1.3 in
-    let taken = taken_at t p.child holds.0.frame (path.lock ∷ path.above) k k1 terms path.held path.out named.no_root (ap (λ o. first_mark o (place_by_held p.child path.above)) (by_parent t n p.child s changed path.lock holds.0 path.here named)) locks in
-    let is : taken.content ≡ shape = read_first p.child taken.content shape taken.new (path.lock ∷ path.above) k1.log taken.held taken.here.node taken.here.spells spells in
+    let level : holds.0.frame.level ≡ above.content.level - 1 = ap (λ (z : Frame). z.level) (sym frame) ∙ exact.1.3 in
+    let taken = taken_at t p.child holds.0.frame (alone.lock ∷ []) k k1 terms alone.held alone.out named.no_root (ap (λ o. first_mark o None) (by_parent t above.node p.child above.content above.changed alone.lock holds.0 alone.here named)) locks in
+    let is : taken.content ≡ shape = read_first p.child taken.content shape taken.new (alone.lock ∷ []) k1.log taken.held taken.here.node taken.here.spells spells in
     let ends : shape.high ≡ p.separator = ap (λ (z : NodeData). z.high) (sym is) ∙ (taken.high ∙ high) in record {
-      parent_within = path.within;
+      parent_within = alone.within;
       within = named.within;
-      no_root = named.no_root;
-      no_parent = named.no_parent (omega (arith, level, above));
+      no_parent = named.no_parent (omega (arith, level, inner));
       lower = taken.new;
-      upper = path.lock;
-      rest = path.above;
+      upper = alone.lock;
       held = ap (λ (z : Holdings). z.held) same ∙ taken.held;
       here = subst (λ z. IsSettledLock t p.child z false taken.new) is taken.here;
       clean = refl;
-      parent = path.here;
-      root = path.root;
+      parent = alone.here;
       out = ap (λ (z : Holdings). z.out) same ∙ taken.out;
       at = at ∙ (λ i. Some (record { child = p.child; separator = sym ends i }));
-      level = (let l = taken.level in let e = ap (λ (z : NodeData). z.level) is in omega (arith, l, e, level, above));
+      level = (let l = taken.level in let e = ap (λ (z : NodeData). z.level) is in omega (arith, l, e, level, inner));
       fences = (let l = taken.low in let h = taken.high in let a = holds.1.2 in let b = holds.1.3 in subst (IsInFences pc) is (omega (arith, l, a), omega (arith, h, b)));
     }
 
-pub child_within : (t : Terms) (n : ℕ) (s : NodeData) (changed root_changed : Bool) (holdings : Holdings) (slot : ℕ) (p : Pair) → HoldsBesideRoot t n s changed root_changed holdings → slice_get (pairs_of s) slot ≡ Some p → p.child < t.nodes
-child_within t n s changed root_changed holdings slot p path at =
-    let own = settled_live t n s changed path.lock path.here in
-    let exact = branch_at (s.level - 1) s.low (pairs_of s) slot p at in
-    (names t n s own.0 p.child exact.0 own.1.1 exact.1.0 exact.1.1).within
+pub child_within : (t : Terms) (above : Held) (holdings : Holdings) (slot : ℕ) (p : Pair) → HoldsAlone t above holdings → slice_get (pairs_of above.content) slot ≡ Some p → p.child < t.nodes
+child_within t above holdings slot p alone at =
+    let own = settled_live t above.node above.content above.changed alone.lock alone.here in
+    let exact = branch_at (above.content.level - 1) above.content.low (pairs_of above.content) slot p at in
+    (names t above.node above.content own.0 p.child exact.0 own.1.1 exact.1.0 exact.1.1).within
 
 pub child_steps : (c : ℕ) (k k1 k2 : CallerData) → Locks (lock.Node c) k k1 → OnlyLoads k1 k2 → StepsOnNodes k k2
 child_steps c k k1 k2 locks loads = steps_then k k1 k2 (steps_of_take c k k1 locks) (steps_of_loads k1 k2 loads)
@@ -197,50 +190,6 @@ pub may_read_taken : (t : Terms) (c : ℕ) (k k1 : CallerData) → Locks (lock.N
 may_read_taken t c k k1 (more, marks, nodes, version, settled, words, (tries, taken, is)) =
     subst (λ (z : CallerData). IsSomeAnd (held_of c z.log.holdings.held) (λ h. IsSome (spelled h.words))) (sym is)
     (subst (λ o. IsSomeAnd o (λ h. IsSome (spelled h.words))) (sym (ap (λ b. cond b (Some record { node = c; version = version; settled = settled; words = words; stored = false; mark = mark_at_lock c settled k.log.holdings.held }) (held_of c k.log.holdings.held)) (eq-eqb c c refl))) (subst IsSome (sym taken.spells) refl))
-
--- the node above is left
-beside_move : (n m : ℕ) (changed : Bool) (rest : List Holding) → n ≢ 0 → m ≢ 0 → IsBeside n changed rest → IsBeside m changed rest
-beside_move zero m changed rest a b root = absurd (a refl)
-beside_move (suc n) zero changed rest a b root = absurd (b refl)
-beside_move (suc n) (suc m) changed rest a b root = root
-
-beside_root : (n m : ℕ) (changed root_changed : Bool) (upper : Holding) (rest : List Holding) → n ≡ 0 → m ≢ 0 → IsSettledRoot changed upper → IsBeside n root_changed rest → IsBeside m changed (upper ∷ rest)
-beside_root zero zero changed root_changed upper rest z b lock root = absurd (b refl)
-beside_root zero (suc m) changed root_changed upper rest z b lock root = (upper, (ap (λ hs. upper ∷ hs) root, lock))
-beside_root (suc n) m changed root_changed upper rest z b lock root = absurd (omega (arith, z))
-
-pub left_root : (t : Terms) (n : ℕ) (changed root_changed : Bool) (at : Held) (holdings : Holdings) → n ≡ 0 → HoldsUnder t n changed root_changed at holdings → HoldsBesideRoot t at.node at.content at.changed changed holdings
-left_root t n changed root_changed at holdings is h = record {
-  within = h.within;
-  lock = h.lower;
-  above = h.upper ∷ h.rest;
-  held = h.held;
-  here = h.here;
-  root = beside_root n at.node changed root_changed h.upper h.rest is h.no_root (record { node = h.node ∙ is; spells = h.spells; inner = h.inner; stored = h.stored; marked = h.marked }) h.root;
-  out = h.out;
-}
-
-pub under_may : (t : Terms) (n : ℕ) (changed root_changed : Bool) (at : Held) (holdings : Holdings) → HoldsUnder t n changed root_changed at holdings → MayGo n changed holdings
-under_may t n changed root_changed at holdings h = record {
-  lock = h.upper;
-  found = ap (held_of n) h.held ∙ found_at n (h.lower ∷ []) h.upper h.rest h.node ((λ e. h.no_parent (sym h.here.node ∙ e)), tt);
-  stored = λ e. h.stored ∙ e;
-  settled = subst HaveSettled (sym h.held) (
-    subst (SpellsNode h.lower.words) (sym h.here.settled) h.here.spells,
-    (h.spells, all_map (IsBesideLock n) (λ a. SpellsNode a.words a.settled) (λ a b. b.spells) h.rest (beside_each n root_changed h.rest h.root)),
-  );
-}
-
-pub left_other : (t : Terms) (n : ℕ) (changed root_changed : Bool) (at : Held) (k k' : CallerData) → n ≢ 0 → HoldsUnder t n changed root_changed at k.log.holdings → LetsGo n k k' → HoldsBesideRoot t at.node at.content at.changed root_changed k'.log.holdings
-left_other t n changed root_changed at k k' some h l = record {
-  within = h.within;
-  lock = h.lower;
-  above = h.rest;
-  held = l.held ∙ (ap (without_lock n) h.held ∙ without_high true h.lower h.upper h.rest n h.node (λ e. h.no_parent (sym h.here.node ∙ e)) (all_map (IsBesideLock n) (λ a. a.node ≢ n) (λ a b e. some (sym e ∙ b.node)) h.rest (beside_each n root_changed h.rest h.root)));
-  here = h.here;
-  root = beside_move n at.node root_changed h.rest some h.no_root h.root;
-  out = l.out ∙ h.out;
-}
 
 -- a lock that was found taken changes nothing that is held
 pub busy_kept : (id : LockId) (k k' : CallerData) → IsBusy id k k' → (k'.log.holdings ≡ k.log.holdings) × (surplus k' ≡ surplus k) × StepsOnNodes k k'

@@ -3,7 +3,6 @@
 use Rattle.std.proofs.Common.{◌≡◌, ◌≢◌, ℕ, zero, suc, ◌-◌, ◌*◌, ◌<◌, ◌≤◌, true≢false, length, List, [], ◌∷◌, sym, refl, ap, ◌∙◌, subst, arith, Bool, true, false, ◌==◌, not, IsTrue, Some, IfSome, IsSome, eq-eqb, ne_eqb, cond}
 use Rattle.std.specs.List.{AllByRecursion}
 use Rattle.tree_shape.specs.Changes.{joined}
-use Rattle.tree_shape.specs.Decisions.{is_entries}
 use Rattle.tree_shape.specs.NodeData.{NodeData}
 use Rattle.tree_shape.specs.Numbers.{is_among}
 use Rattle.word_rule.specs.CallerData.{CallerData, surplus}
@@ -16,15 +15,17 @@ use Rattle.word_rule.specs.declared.log.Holdings.{Holdings}
 use Rattle.word_rule.specs.declared.log.Terms.{Terms}
 use Rattle.btree_change.specs.Paths.{StepsOnNodes}
 use Rattle.btree_change.specs.Releases.{HaveSettled, LetsGo, MayGo, Spends}
-use Rattle.btree_change.specs.Removing.{IsBeside}
-use Rattle.btree_change.specs.Siblings.{ReturnsNode, HoldsGone, HoldsSiblings, HoldsUnder, IsGoneOrSettled, KeepsOut, LeavesWay, MendsSiblings, both_of}
+use Rattle.btree_change.specs.Siblings.{ReturnsNode, HoldsGone, HoldsSiblings, HoldsUnder, IsGoneOrSettled, KeepsOut, LeavesParent, MendsSiblings, both_of}
 use Rattle.node_store.specs.declared.locking.Busy.{Busy}
 use Rattle.btree_change.specs.declared.sibling.Siblings.{Siblings}
-use Rattle.btree_change.proofs.Pairings.{IsBesideLock, beside_each, both_all, both_high, both_more, here}
+use Rattle.btree_change.proofs.Pairings.{both_all, both_high, here}
 use Rattle.btree_change.proofs.Loading.{found_between}
 use Rattle.btree_change.proofs.Spending.{spends_same, steps_after, surplus_steps}
-use Rattle.word_rule.proofs.Each.{all_map}
 use Rattle.btree_change.proofs.HeldLists.{found_head}
+
+-- the only lock is let go of
+pub without_one : (n : ℕ) (h : Holding) → h.node ≡ n → without_lock n (h ∷ []) ≡ []
+without_one n h is = ap (λ b. cond (not b) (h ∷ []) []) (eq-eqb h.node n is)
 
 -- a lock that isn't there is no loss
 pub without_none : (n : ℕ) (more : List Holding) → AllByRecursion (λ a. a.node ≢ n) more → without_lock n more ≡ more
@@ -39,15 +40,11 @@ pub without_low : (o : Bool) (low high : Holding) (more : List Holding) (n : ℕ
 without_low true low high more n is far rest = without_high false high low more n is far rest
 without_low false low high more n is far rest = without_high true high low more n is far rest
 
-pub rest_far : (n m : ℕ) (changed : Bool) (rest : List Holding) → m ≢ 0 → IsBeside n changed rest → AllByRecursion (λ a. a.node ≢ m) rest
-rest_far n m changed rest some root = all_map (IsBesideLock n) (λ a. a.node ≢ m) (λ h b e. some (sym e ∙ b.node)) rest (beside_each n changed rest root)
-
 -- A node was changed and settled, and so was the one above it.
-pub record AreSettled (n l : ℕ) (s : NodeData) (root_changed : Bool) (holdings : Holdings) : Type 0 where
+pub record AreSettled (n l : ℕ) (s : NodeData) (holdings : Holdings) : Type 0 where
   pub lower : Holding
   pub upper : Holding
-  pub rest : List Holding
-  pub held : holdings.held ≡ lower ∷ upper ∷ rest
+  pub held : holdings.held ≡ lower ∷ upper ∷ []
   pub node : lower.node ≡ l
   pub settled : lower.settled ≡ s
   pub spells : SpellsNode lower.words lower.settled
@@ -55,22 +52,17 @@ pub record AreSettled (n l : ℕ) (s : NodeData) (root_changed : Bool) (holdings
   pub marked : IsSome lower.mark
   pub parent : upper.node ≡ n
   pub parent_spells : SpellsNode upper.words upper.settled
-  pub parent_inner : is_entries upper.settled.body ≡ false
   pub parent_stored : upper.stored ≡ true
-  pub parent_marked : IsSome upper.mark
-  pub root : IsBeside n root_changed rest
   pub out : holdings.out ≡ []
 
 -- by a load it is known that it has its place
-pub under_so : (t : Terms) (n l : ℕ) (s : NodeData) (root_changed : Bool) (k k' : CallerData) (found : ℕ) → l < t.nodes → l ≢ 0 → l ≢ n → k.log.terms ≡ t → AreSettled n l s root_changed k.log.holdings → HolderTells l k.log → k' ≡ record k { log = after_node_load l 2 found k.log } → HoldsUnder t n true root_changed (record { node = l; content = s; changed = true }) k'.log.holdings
-under_so t n l s root_changed k k' found within no_root no_parent terms a tells loads =
-    subst (λ (z : CallerData). HoldsUnder t n true root_changed (record { node = l; content = s; changed = true }) z.log.holdings) (sym loads) (record {
+pub under_so : (t : Terms) (n l : ℕ) (s : NodeData) (k k' : CallerData) (found : ℕ) → l < t.nodes → l ≢ n → k.log.terms ≡ t → AreSettled n l s k.log.holdings → HolderTells l k.log → k' ≡ record k { log = after_node_load l 2 found k.log } → HoldsUnder t n true (record { node = l; content = s; changed = true }) k'.log.holdings
+under_so t n l s k k' found within no_parent terms a tells loads =
+    subst (λ (z : CallerData). HoldsUnder t n true (record { node = l; content = s; changed = true }) z.log.holdings) (sym loads) (record {
       within = within;
-      no_root = no_root;
       no_parent = no_parent;
       lower = a.lower;
       upper = a.upper;
-      rest = a.rest;
       held = a.held;
       here = record {
         node = a.node;
@@ -82,15 +74,12 @@ under_so t n l s root_changed k k' found within no_root no_parent terms a tells 
       };
       node = a.parent;
       spells = a.parent_spells;
-      inner = a.parent_inner;
       stored = a.parent_stored;
-      marked = a.parent_marked;
-      root = a.root;
       out = a.out;
     })
   where
     own : IsHeldNode k.log.terms a.lower
-    own = subst (λ o. IfSome o (IsHeldNode k.log.terms)) (ap (held_of l) a.held ∙ found_head l a.lower (a.upper ∷ a.rest) a.node) tells
+    own = subst (λ o. IfSome o (IsHeldNode k.log.terms)) (ap (held_of l) a.held ∙ found_head l a.lower (a.upper ∷ []) a.node) tells
 
 pub loaded_none : (n at found : ℕ) (k k' : CallerData) → k' ≡ record k { log = after_node_load n at found k.log } → Spends 0 k k'
 loaded_none n at found k k' is = subst (Spends 0 k) (sym is) (record { table = refl; left = refl; terms = refl; role = refl; past = refl; receipts = refl; loader = refl; made = refl; lineage = refl; allowance = refl; credit = omega arith; loads = (_ ∷ [], refl) })
@@ -100,27 +89,23 @@ surplus_kept k k' s = (λ i. (s.budget i).credit - 64 * s.left i)
 
 -- the right one of two joined children is given back
 module _ (t : Terms) (x : Siblings) (k : CallerData) (gone : HoldsGone t x k.log.holdings) where
-  far_rest : AllByRecursion (λ a. a.node ≢ x.right.node) gone.rest
-  far_rest = rest_far x.above.at.node x.right.node x.above.root_changed gone.rest gone.no_root.1 gone.root
-
   pub gone_ready : AllByRecursion (IsGoneOrSettled x.right.node) k.log.holdings.held
-  gone_ready = subst (AllByRecursion (IsGoneOrSettled x.right.node)) (sym gone.held) (both_all (IsGoneOrSettled x.right.node) gone.left_first gone.low gone.high (gone.upper ∷ gone.rest)
+  gone_ready = subst (AllByRecursion (IsGoneOrSettled x.right.node)) (sym gone.held) (both_all (IsGoneOrSettled x.right.node) gone.left_first gone.low gone.high (gone.upper ∷ [])
       ((λ e. absurd (gone.different (sym gone.left ∙ e))), (λ _. gone.spells))
       ((λ _. gone.gone), (λ ne. absurd (ne gone.right)))
-      (((λ e. absurd (gone.no_parent.1 (sym (sym gone.parent ∙ e)))), (λ _. gone.parent_spells)), all_map (IsBesideLock x.above.at.node) (IsGoneOrSettled x.right.node) (λ h b. ((λ e. absurd (gone.no_root.1 (sym e ∙ b.node))), (λ _. b.spells))) gone.rest (beside_each x.above.at.node x.above.root_changed gone.rest gone.root)))
+      (((λ e. absurd (gone.no_parent.1 (sym (sym gone.parent ∙ e)))), (λ _. gone.parent_spells)), tt))
 
   pub gone_held : IsSome (held_of x.right.node k.log.holdings.held)
-  gone_held = subst IsSome (sym (ap (held_of x.right.node) gone.held ∙ both_high gone.left_first gone.low gone.high (gone.upper ∷ gone.rest) x.right.node gone.right (λ e. gone.different (sym gone.left ∙ e)))) refl
+  gone_held = subst IsSome (sym (ap (held_of x.right.node) gone.held ∙ both_high gone.left_first gone.low gone.high (gone.upper ∷ []) x.right.node gone.right (λ e. gone.different (sym gone.left ∙ e)))) refl
 
   pub gone_out : IsTrue (is_among k.log.holdings.out x.right.node)
   gone_out = subst (λ os. IsTrue (is_among os x.right.node)) (sym gone.out) (here x.right.node [])
 
-  pub settled_back : (k' : CallerData) → ReturnsNode x.right.node k k' → AreSettled x.above.at.node x.left.node (joined x.left.content x.right.content) x.above.root_changed k'.log.holdings
+  pub settled_back : (k' : CallerData) → ReturnsNode x.right.node k k' → AreSettled x.above.node x.left.node (joined x.left.content x.right.content) k'.log.holdings
   settled_back k' back = record {
     lower = gone.low;
     upper = gone.upper;
-    rest = gone.rest;
-    held = back.held ∙ (ap (without_lock x.right.node) gone.held ∙ without_high gone.left_first gone.low gone.high (gone.upper ∷ gone.rest) x.right.node gone.right (λ e. gone.different (sym gone.left ∙ e)) ((λ e. gone.no_parent.1 (sym (sym gone.parent ∙ e))), far_rest));
+    held = back.held ∙ (ap (without_lock x.right.node) gone.held ∙ without_high gone.left_first gone.low gone.high (gone.upper ∷ []) x.right.node gone.right (λ e. gone.different (sym gone.left ∙ e)) ((λ e. gone.no_parent.1 (sym (sym gone.parent ∙ e))), tt));
     node = gone.left;
     settled = gone.content;
     spells = gone.spells;
@@ -128,17 +113,14 @@ module _ (t : Terms) (x : Siblings) (k : CallerData) (gone : HoldsGone t x k.log
     marked = gone.marked;
     parent = gone.parent;
     parent_spells = gone.parent_spells;
-    parent_inner = gone.parent_inner;
     parent_stored = gone.parent_stored;
-    parent_marked = gone.parent_marked;
-    root = gone.root;
     out = back.out ∙ (ap (all_but x.right.node) gone.out ∙ ap (λ b. cond (not b) (x.right.node ∷ []) []) (eq-eqb x.right.node x.right.node refl));
   }
 
 pub joins_so : (t : Terms) (x : Siblings) (k k1 k2 k3 : CallerData) (found : ℕ) (way : NodeData) → k.log.terms ≡ t → HoldsSiblings t x k.log.holdings → HoldsGone t x k1.log.holdings → StepsOnNodes k k1 → ReturnsNode x.right.node k1 k2 → HolderTells x.left.node k2.log → k3 ≡ record k2 { log = after_node_load x.left.node 2 found k2.log } → way ≡ joined x.left.content x.right.content → MendsSiblings t x (record { node = x.left.node; content = way; changed = true }) k k3
 joins_so t x k k1 k2 k3 found way terms hs gone steps back tells loads is =
     subst (λ z. MendsSiblings t x (record { node = x.left.node; content = z; changed = true }) k k3) (sym is) (record {
-      holds = under_so t x.above.at.node x.left.node (joined x.left.content x.right.content) x.above.root_changed k2 k3 found hs.left_within gone.no_root.0 gone.no_parent.0 (back.spends.terms ∙ (steps.terms ∙ terms)) (settled_back t x k1 gone k2 back) tells loads;
+      holds = under_so t x.above.node x.left.node (joined x.left.content x.right.content) k2 k3 found hs.left_within gone.no_parent.0 (back.spends.terms ∙ (steps.terms ∙ terms)) (settled_back t x k1 gone k2 back) tells loads;
       level = hs.level;
       spare = gone.spare;
       spends = steps_after 1 0 1 k k2 k3 (omega arith) (steps_after 0 1 1 k k1 k2 (omega arith) (spends_same k k1 steps) back.spends) (loaded_none x.left.node 2 found k2 k3 loads);
@@ -157,33 +139,31 @@ as_returned n why k k' keeps = let s = keeps.spends in record {
 
 -- the right one of two joined children was lost
 module _ (t : Terms) (x : Siblings) (why : Busy) (k k1 k2 : CallerData) (gone : HoldsGone t x k1.log.holdings) (steps : StepsOnNodes k k1) (keeps : KeepsOut x.right.node why k1 k2) where
-  settled_lost : AreSettled x.above.at.node x.left.node (joined x.left.content x.right.content) x.above.root_changed (as_given x.right.node k1 k2).log.holdings
+  settled_lost : AreSettled x.above.node x.left.node (joined x.left.content x.right.content) (as_given x.right.node k1 k2).log.holdings
   settled_lost = settled_back t x k1 gone (as_given x.right.node k1 k2) (as_returned x.right.node why k1 k2 keeps)
 
   pub lost_may : MayGo x.left.node true k2.log.holdings
   lost_may = let a = settled_lost in record {
     lock = a.lower;
-    found = ap (held_of x.left.node) a.held ∙ found_head x.left.node a.lower (a.upper ∷ a.rest) a.node;
+    found = ap (held_of x.left.node) a.held ∙ found_head x.left.node a.lower (a.upper ∷ []) a.node;
     stored = λ e. absurd (true≢false e);
-    settled = subst HaveSettled (sym a.held) (a.spells, (a.parent_spells, all_map (IsBesideLock x.above.at.node) (λ h. SpellsNode h.words h.settled) (λ h b. b.spells) a.rest (beside_each x.above.at.node x.above.root_changed a.rest a.root)));
+    settled = subst HaveSettled (sym a.held) (a.spells, (a.parent_spells, tt));
   }
 
   pub lost_surplus : 1 < surplus k → 0 < surplus k2
   lost_surplus some = surplus_steps 1 k k2 1 (steps_after 0 1 1 k k1 k2 (omega arith) (spends_same k k1 steps) keeps.spends) (omega (arith, some))
 
-  pub join_lost : (k3 : CallerData) → LetsGo x.left.node k2 k3 → LeavesWay x why k k3
+  pub join_lost : (k3 : CallerData) → LetsGo x.left.node k2 k3 → LeavesParent x why k k3
   join_lost k3 goes = let a = settled_lost in record {
     lost = keeps.lost;
     cause = found_between why k k1 k2 k3 steps.loads keeps.cause goes.steps.loads;
     spends = steps_after 1 1 2 k k2 k3 (omega arith) (steps_after 0 1 1 k k1 k2 (omega arith) (spends_same k k1 steps) keeps.spends) goes.steps;
-    way = record {
+    above = record {
       lock = a.upper;
-      above = a.rest;
-      held = goes.held ∙ (ap (without_lock x.left.node) a.held ∙ without_low true a.lower a.upper a.rest x.left.node a.node (λ e. gone.no_parent.0 (sym (sym a.parent ∙ e))) (rest_far x.above.at.node x.left.node x.above.root_changed a.rest gone.no_root.0 a.root));
+      held = goes.held ∙ (ap (without_lock x.left.node) a.held ∙ without_low true a.lower a.upper [] x.left.node a.node (λ e. gone.no_parent.0 (sym (sym a.parent ∙ e))) tt);
       node = a.parent;
       spells = a.parent_spells;
       stored = a.parent_stored;
-      root = a.root;
     };
     out = subst (λ ns. length ns ≤ 2) (sym (goes.out ∙ (keeps.out ∙ gone.out))) (omega arith);
   }

@@ -21,31 +21,28 @@ use Rattle.word_rule.specs.declared.log.Terms.{Terms}
 use Rattle.node_store.specs.Holding.{SpellsHeld}
 use Rattle.node_store.specs.Locking.{Locks}
 use Rattle.btree_change.specs.Paths.{IsSettledLock}
-use Rattle.btree_change.specs.Removing.{HoldsLocks}
+use Rattle.btree_change.specs.Removing.{HoldsLock}
 use Rattle.btree_change.specs.Siblings.{HoldsChild, HoldsSiblings, IsInEither}
 use Rattle.btree_change.specs.declared.sibling.Child.{Child}
 use Rattle.btree_change.specs.declared.sibling.Siblings.{Siblings}
 use Rattle.btree_change.specs.declared.descent.Held.{Held}
-use Rattle.btree_change.specs.declared.way.Way.{Way}
 use Rattle.btree_change.proofs.Joining.{inside_of}
 use Rattle.btree_change.proofs.Locked.{IsTakenAt, branch_at, by_parent, names, none_named, read_first, taken_at}
-use Rattle.btree_change.proofs.Mended.{rest_far, without_low}
+use Rattle.btree_change.proofs.Mended.{without_low}
 use Rattle.word_rule.proofs.Each.{all_with}
 use Rattle.btree_change.proofs.Lowering.{settled_live}
 
-pub siblings_are : (x : Siblings) (above : Way) (left right : Held) (slot : ℕ) → x.above ≡ above → x.left ≡ left → x.right ≡ right → x.slot ≡ slot → record { above = above; left = left; right = right; slot = slot } ≡ x
+pub siblings_are : (x : Siblings) (above left right : Held) (slot : ℕ) → x.above ≡ above → x.left ≡ left → x.right ≡ right → x.slot ≡ slot → record { above = above; left = left; right = right; slot = slot } ≡ x
 siblings_are x above left right slot a l r e = (λ i. record { above = sym a i; left = sym l i; right = sym r i; slot = sym e i })
 
--- the child is let go of, and the way is left
-pub child_left : (t : Terms) (child : Child) (pc : ℕ) (k k' : CallerData) → (h : HoldsChild t child pc k.log.holdings) → k' ≡ record k { log = after_node_release_same child.at.node k.log } → HoldsLocks child.above.at.node child.above.at.changed child.above.root_changed k'.log.holdings
-child_left t child pc k k' h is = subst (λ (z : CallerData). HoldsLocks child.above.at.node child.above.at.changed child.above.root_changed z.log.holdings) (sym is) (record {
+-- the child is let go of, and the parent is left
+pub child_left : (t : Terms) (child : Child) (pc : ℕ) (k k' : CallerData) → (h : HoldsChild t child pc k.log.holdings) → k' ≡ record k { log = after_node_release_same child.at.node k.log } → HoldsLock child.above.node child.above.changed k'.log.holdings
+child_left t child pc k k' h is = subst (λ (z : CallerData). HoldsLock child.above.node child.above.changed z.log.holdings) (sym is) (record {
   lock = h.upper;
-  above = h.rest;
-  held = ap (without_lock child.at.node) h.held ∙ without_low true h.lower h.upper h.rest child.at.node h.here.node (λ e. h.no_parent (sym (sym h.parent.node ∙ e))) (rest_far child.above.at.node child.at.node child.above.root_changed h.rest h.no_root h.root);
+  held = ap (without_lock child.at.node) h.held ∙ without_low true h.lower h.upper [] child.at.node h.here.node (λ e. h.no_parent (sym (sym h.parent.node ∙ e))) tt;
   node = h.parent.node;
   spells = subst (SpellsNode h.upper.words) (sym h.parent.settled) h.parent.spells;
   stored = h.parent.stored;
-  root = h.root;
 })
 
 -- how many pairs a parent has
@@ -68,12 +65,12 @@ sibling_within t n s changed h slot p lock at =
     (names t n s own.0 p.child exact.0 own.1.1 exact.1.0 exact.1.1).within
 
 module _ (t : Terms) (child : Child) (pc first beside : ℕ) (q : Pair) (k k1 k2 k3 : CallerData) (found : ℕ) (shape : NodeData) (h : HoldsChild t child pc k.log.holdings) (tree : KnowsTree k.log.holdings) (terms : k.log.terms ≡ t) (loads : k1 ≡ record k { log = after_node_load child.at.node 2 found k.log })
-    (near : (first ≡ child.slot) ⊎ (first + 1 ≡ child.slot)) (at : slice_get (pairs_of child.above.at.content) beside ≡ Some q) (locks : Locks (lock.Node q.child) k1 k2) (spells : SpellsHeld q.child shape k2.log) (same : k3.log.holdings ≡ k2.log.holdings) where
+    (near : (first ≡ child.slot) ⊎ (first + 1 ≡ child.slot)) (at : slice_get (pairs_of child.above.content) beside ≡ Some q) (locks : Locks (lock.Node q.child) k1 k2) (spells : SpellsHeld q.child shape k2.log) (same : k3.log.holdings ≡ k2.log.holdings) where
   abbrev s : NodeData
-  s = child.above.at.content
+  s = child.above.content
 
   abbrev n : ℕ
-  n = child.above.at.node
+  n = child.above.node
 
   abbrev c : Held
   c = child.at
@@ -87,18 +84,18 @@ module _ (t : Terms) (child : Child) (pc first beside : ℕ) (q : Pair) (k k1 k2
   child_told : IsTrue (tree.live child.at.node) × (tree.contents child.at.node ≡ child.at.content)
   child_told = let e = told.0 h.here.marked in (subst (λ m. IsTrue (tree.live m)) h.here.node e.0, subst (λ m. tree.contents m ≡ h.lower.settled) h.here.node e.1 ∙ h.here.settled)
 
-  parent_told : IsTrue (tree.live child.above.at.node) × (tree.contents child.above.at.node ≡ child.above.at.content)
+  parent_told : IsTrue (tree.live child.above.node) × (tree.contents child.above.node ≡ child.above.content)
   parent_told = let e = told.1 h.parent.marked in (subst (λ m. IsTrue (tree.live m)) h.parent.node e.0, subst (λ m. tree.contents m ≡ h.upper.settled) h.parent.node e.1 ∙ h.parent.settled)
 
-  slot_of : (slot : ℕ) (p : Pair) → slice_get (pairs_of child.above.at.content) slot ≡ Some p → slice_get (pairs_of (tree.contents n)) slot ≡ Some p
+  slot_of : (slot : ℕ) (p : Pair) → slice_get (pairs_of child.above.content) slot ≡ Some p → slice_get (pairs_of (tree.contents n)) slot ≡ Some p
   slot_of slot p is = ap (λ (z : NodeData). slice_get (pairs_of z) slot) parent_told.1 ∙ is
 
-  exact : (b : Branch) × (Contains (branches (child.above.at.content.level - 1) child.above.at.content) b × (b.child ≡ q.child) × (b.frame.high ≡ q.separator) × (b.frame.level ≡ child.above.at.content.level - 1))
-  exact = branch_at (child.above.at.content.level - 1) child.above.at.content.low (pairs_of child.above.at.content) beside q at
+  exact : (b : Branch) × (Contains (branches (child.above.content.level - 1) child.above.content) b × (b.child ≡ q.child) × (b.frame.high ≡ q.separator) × (b.frame.level ≡ child.above.content.level - 1))
+  exact = branch_at (child.above.content.level - 1) child.above.content.low (pairs_of child.above.content) beside q at
 
   -- the tree has the neighbour at this place
   fits : FitsParent tree.contents exact.0
-  fits = all_with (FitsParent tree.contents) (branches (child.above.at.content.level - 1) child.above.at.content) exact.0 (subst (λ (z : NodeData). AllByRecursion (FitsParent tree.contents) (branches (z.level - 1) z)) parent_told.1 (tree.lawful.tree.fitting n parent_told.0)) exact.1.0
+  fits = all_with (FitsParent tree.contents) (branches (child.above.content.level - 1) child.above.content) exact.0 (subst (λ (z : NodeData). AllByRecursion (FitsParent tree.contents) (branches (z.level - 1) z)) parent_told.1 (tree.lawful.tree.fitting n parent_told.0)) exact.1.0
 
   q_level : (tree.contents q.child).level ≡ exact.0.frame.level
   q_level = ap (λ m. (tree.contents m).level) (sym exact.1.1) ∙ fits.level
@@ -107,7 +104,7 @@ module _ (t : Terms) (child : Child) (pc first beside : ℕ) (q : Pair) (k k1 k2
   q_low = ap (λ m. (tree.contents m).low) (sym exact.1.1) ∙ fits.low
 
   -- with the child as the left one or as the right one
-  module _ (l r : Pair) (at_first : slice_get (pairs_of child.above.at.content) first ≡ Some l) (at_next : slice_get (pairs_of child.above.at.content) (first + 1) ≡ Some r) (which : ((l.child ≡ child.at.node) × (r.child ≡ q.child)) ⊎ ((l.child ≡ q.child) × (r.child ≡ child.at.node))) where
+  module _ (l r : Pair) (at_first : slice_get (pairs_of child.above.content) first ≡ Some l) (at_next : slice_get (pairs_of child.above.content) (first + 1) ≡ Some r) (which : ((l.child ≡ child.at.node) × (r.child ≡ q.child)) ⊎ ((l.child ≡ q.child) × (r.child ≡ child.at.node))) where
     fam : Neighbours tree.contents tree.live n first l r
     fam = neighbours tree.contents tree.live tree.lawful.tree n first l r parent_told.0 (slot_of first l at_first) (slot_of (first + 1) r at_next)
 
@@ -123,15 +120,15 @@ module _ (t : Terms) (child : Child) (pc first beside : ℕ) (q : Pair) (k k1 k2
         let mine = settled_live t child.at.node child.at.content child.at.changed h.lower h.here in
         rw mine.1.0 (ap (λ (z : NodeData). place_in q.child (branches (z.level - 1) z)) (h.here.settled ∙ sym child_told.1) ∙ none_named tree.contents tree.live tree.lawful.tree child.at.node q.child child_told.0 level_same)
 
-    taken : IsTakenAt t q.child exact.0.frame (h.lower ∷ h.upper ∷ h.rest) k2.log.holdings
+    taken : IsTakenAt t q.child exact.0.frame (h.lower ∷ h.upper ∷ []) k2.log.holdings
     taken =
-        let mine = settled_live t n child.above.at.content child.above.at.changed h.upper h.parent in
-        let named = names t n child.above.at.content mine.0 q.child exact.0 mine.1.1 exact.1.0 exact.1.1 in
-        taken_at t q.child exact.0.frame (h.lower ∷ h.upper ∷ h.rest) k1 k2 (ap (λ (z : CallerData). z.log.terms) loads ∙ terms) (ap (λ (z : CallerData). z.log.holdings.held) loads ∙ h.held) (ap (λ (z : CallerData). z.log.holdings.out) loads ∙ h.out) named.no_root
-        (ap (λ o. first_mark o (place_by_held q.child (h.upper ∷ h.rest))) none_by_child ∙ ap (λ o. first_mark o (place_by_held q.child h.rest)) (by_parent t n q.child child.above.at.content child.above.at.changed h.upper exact.0 h.parent named)) locks
+        let mine = settled_live t n child.above.content child.above.changed h.upper h.parent in
+        let named = names t n child.above.content mine.0 q.child exact.0 mine.1.1 exact.1.0 exact.1.1 in
+        taken_at t q.child exact.0.frame (h.lower ∷ h.upper ∷ []) k1 k2 (ap (λ (z : CallerData). z.log.terms) loads ∙ terms) (ap (λ (z : CallerData). z.log.holdings.held) loads ∙ h.held) (ap (λ (z : CallerData). z.log.holdings.out) loads ∙ h.out) named.no_root
+        (ap (λ o. first_mark o (place_by_held q.child (h.upper ∷ []))) none_by_child ∙ ap (λ o. first_mark o None) (by_parent t n q.child child.above.content child.above.changed h.upper exact.0 h.parent named)) locks
 
     shape_is : taken.content ≡ shape
-    shape_is = read_first q.child taken.content shape taken.new (h.lower ∷ h.upper ∷ h.rest) k2.log taken.held taken.here.node taken.here.spells spells
+    shape_is = read_first q.child taken.content shape taken.new (h.lower ∷ h.upper ∷ []) k2.log taken.held taken.here.node taken.here.spells spells
 
     shape_high : shape.high ≡ q.separator
     shape_high = ap (λ (z : NodeData). z.high) (sym shape_is) ∙ (taken.high ∙ exact.1.2)
@@ -142,7 +139,7 @@ module _ (t : Terms) (child : Child) (pc first beside : ℕ) (q : Pair) (k k1 k2
     shape_level : shape.level ≡ child.at.content.level
     shape_level = ap (λ (z : NodeData). z.level) (sym shape_is) ∙ (taken.level ∙ (sym q_level ∙ (level_same ∙ ap (λ (z : NodeData). z.level) child_told.1)))
 
-    held3 : k3.log.holdings.held ≡ taken.new ∷ h.lower ∷ h.upper ∷ h.rest
+    held3 : k3.log.holdings.held ≡ taken.new ∷ h.lower ∷ h.upper ∷ []
     held3 = ap (λ (z : Holdings). z.held) same ∙ taken.held
 
     out3 : k3.log.holdings.out ≡ []
@@ -152,7 +149,7 @@ module _ (t : Terms) (child : Child) (pc first beside : ℕ) (q : Pair) (k k1 k2
     here3 = subst (λ z. IsSettledLock t q.child z false taken.new) shape_is taken.here
 
     q_within : q.child < t.nodes
-    q_within = sibling_within t n child.above.at.content child.above.at.changed h.upper beside q h.parent at
+    q_within = sibling_within t n child.above.content child.above.changed h.upper beside q h.parent at
 
   abbrev other : Held
   other = record { node = q.child; content = shape; changed = false }
@@ -160,8 +157,8 @@ module _ (t : Terms) (child : Child) (pc first beside : ℕ) (q : Pair) (k k1 k2
   pub right_so : first ≡ child.slot → beside ≡ first + 1 → HoldsSiblings t (record { above = child.above; left = child.at; right = record { node = q.child; content = shape; changed = false }; slot = first }) k3.log.holdings × IsInEither pc (record { above = child.above; left = child.at; right = record { node = q.child; content = shape; changed = false }; slot = first })
   right_so is next_is =
       let l : Pair = pair child.at.node child.at.content.high in
-      let at_first : slice_get (pairs_of child.above.at.content) first ≡ Some (pair child.at.node child.at.content.high) = ap (slice_get (pairs_of child.above.at.content)) is ∙ h.at in
-      let at_next : slice_get (pairs_of child.above.at.content) (first + 1) ≡ Some q = ap (slice_get (pairs_of child.above.at.content)) (sym next_is) ∙ at in
+      let at_first : slice_get (pairs_of child.above.content) first ≡ Some (pair child.at.node child.at.content.high) = ap (slice_get (pairs_of child.above.content)) is ∙ h.at in
+      let at_next : slice_get (pairs_of child.above.content) (first + 1) ≡ Some q = ap (slice_get (pairs_of child.above.content)) (sym next_is) ∙ at in
       let which : ((l.child ≡ child.at.node) × (q.child ≡ q.child)) ⊎ ((l.child ≡ q.child) × (q.child ≡ child.at.node)) = inl (refl, refl) in
       let tk = taken l q at_first at_next which in
       let high = shape_high l q at_first at_next which in
@@ -176,12 +173,10 @@ module _ (t : Terms) (child : Child) (pc first beside : ℕ) (q : Pair) (k k1 k2
           low = h.lower;
           high = tk.new;
           upper = h.upper;
-          rest = h.rest;
           held = held3 l q at_first at_next which;
           left = h.here;
           right = here3 l q at_first at_next which;
           parent = h.parent;
-          root = h.root;
           out = out3 l q at_first at_next which;
           at = at_first;
           next = at_next ∙ (λ i. Some (record { child = q.child; separator = sym high i }));
@@ -194,8 +189,8 @@ module _ (t : Terms) (child : Child) (pc first beside : ℕ) (q : Pair) (k k1 k2
   pub left_so : first + 1 ≡ child.slot → beside ≡ first → HoldsSiblings t (record { above = child.above; left = record { node = q.child; content = shape; changed = false }; right = child.at; slot = first }) k3.log.holdings × IsInEither pc (record { above = child.above; left = record { node = q.child; content = shape; changed = false }; right = child.at; slot = first })
   left_so is first_is =
       let r : Pair = pair child.at.node child.at.content.high in
-      let at_first : slice_get (pairs_of child.above.at.content) first ≡ Some q = ap (slice_get (pairs_of child.above.at.content)) (sym first_is) ∙ at in
-      let at_next : slice_get (pairs_of child.above.at.content) (first + 1) ≡ Some (pair child.at.node child.at.content.high) = ap (slice_get (pairs_of child.above.at.content)) is ∙ h.at in
+      let at_first : slice_get (pairs_of child.above.content) first ≡ Some q = ap (slice_get (pairs_of child.above.content)) (sym first_is) ∙ at in
+      let at_next : slice_get (pairs_of child.above.content) (first + 1) ≡ Some (pair child.at.node child.at.content.high) = ap (slice_get (pairs_of child.above.content)) is ∙ h.at in
       let which : ((q.child ≡ child.at.node) × (r.child ≡ q.child)) ⊎ ((q.child ≡ q.child) × (r.child ≡ child.at.node)) = inr (refl, refl) in
       let tk = taken q r at_first at_next which in
       let high = shape_high q r at_first at_next which in
@@ -212,12 +207,10 @@ module _ (t : Terms) (child : Child) (pc first beside : ℕ) (q : Pair) (k k1 k2
           low = tk.new;
           high = h.lower;
           upper = h.upper;
-          rest = h.rest;
           held = held3 q r at_first at_next which;
           left = here3 q r at_first at_next which;
           right = h.here;
           parent = h.parent;
-          root = h.root;
           out = out3 q r at_first at_next which;
           at = at_first ∙ (λ i. Some (record { child = q.child; separator = sym high i }));
           next = at_next;

@@ -19,12 +19,10 @@ use Rattle.word_rule.specs.Spelling.{SpellsNode}
 use Rattle.word_rule.specs.declared.log.Holding.{Holding}
 use Rattle.word_rule.specs.declared.log.Log.{Log}
 use Rattle.word_rule.specs.declared.log.Terms.{Terms}
-use Rattle.btree_change.specs.Removing.{IsBeside}
 use Rattle.btree_change.specs.Siblings.{HoldsSiblings, both_of}
 use Rattle.btree_change.specs.declared.sibling.Siblings.{Siblings}
 use Rattle.btree_change.proofs.HeldLists.{HeldOnce, found_head}
-use Rattle.btree_change.proofs.Settling.{FitsChange, IsHeldChange, SettlingLaws, StaysSettled, left_out, settled_after, settled_group, stay_settled, stays_fit}
-use Rattle.word_rule.proofs.Each.{all_map}
+use Rattle.btree_change.proofs.Settling.{FitsChange, IsHeldChange, SettlingLaws, left_out, settled_after, settled_group}
 
 -- numbers of short lists
 pub here : (x : ℕ) (xs : List ℕ) → is_among (x ∷ xs) x ≡ true
@@ -87,29 +85,6 @@ and_no : (b : Bool) → (b && false) ≡ false
 and_no true = refl
 and_no false = refl
 
--- what is held beside a node
-pub record IsBesideLock (n : ℕ) (h : Holding) : Type 0 where
-  pub far : n ≢ 0
-  pub node : h.node ≡ 0
-  pub spells : SpellsNode h.words h.settled
-  pub marked : IsSome h.mark
-
-pub beside_each : (n : ℕ) (changed : Bool) (rest : List Holding) → IsBeside n changed rest → AllByRecursion (IsBesideLock n) rest
-beside_each zero changed rest root = subst (AllByRecursion (IsBesideLock zero)) (sym root) tt
-beside_each (suc n) changed rest (root, (is, r)) = subst (AllByRecursion (IsBesideLock (suc n))) (sym is) (record { far = λ e. omega (arith, e); node = r.node; spells = r.spells; marked = r.marked }, tt)
-
-beside_once : (n : ℕ) (changed : Bool) (rest : List Holding) → IsBeside n changed rest → HeldOnce rest
-beside_once zero changed rest root = subst HeldOnce (sym root) tt
-beside_once (suc n) changed rest (root, (is, r)) = subst HeldOnce (sym is) (tt, tt)
-
-each_two : (P Q R : Holding → Type 0) → ((h : Holding) → P h → Q h → R h) → (rest : List Holding) → AllByRecursion P rest → AllByRecursion Q rest → AllByRecursion R rest
-each_two P Q R f [] all also = tt
-each_two P Q R f (h ∷ rest) all also = (f h all.0 also.0, each_two P Q R f rest all.1 also.1)
-
-none_left : (test : ℕ → Bool) (rest : List Holding) → AllByRecursion (λ h. test h.node ≡ false) rest → filter test (map node_of rest) ≡ []
-none_left test [] all = refl
-none_left test (h ∷ rest) all = ap (λ b. cond b (h.node ∷ filter test (map node_of rest)) (filter test (map node_of rest))) all.0 ∙ none_left test rest all.1
-
 -- a lock in which a node was written
 pub record IsNow (h : Holding) (s : NodeData) (h' : Holding) : Type 0 where
   pub node : h'.node ≡ h.node
@@ -118,18 +93,15 @@ pub record IsNow (h : Holding) (s : NodeData) (h' : Holding) : Type 0 where
   pub spells : SpellsNode h'.words s
   pub stored : h'.stored ≡ true
 
--- siblings and the node above them are three nodes, and the locks beside theirs are of others
-pub record AreThree (l r n : ℕ) (rest : List Holding) : Type 0 where
+-- siblings and the node above them are three nodes
+pub record AreThree (l r n : ℕ) : Type 0 where
   pub left_right : l ≢ r
   pub left_above : l ≢ n
   pub right_above : r ≢ n
-  pub rest_left : AllByRecursion (λ a. a.node ≢ l) rest
-  pub rest_right : AllByRecursion (λ a. a.node ≢ r) rest
-  pub rest_above : AllByRecursion (λ a. a.node ≢ n) rest
 
 module _ (t : Terms) (x : Siblings) (k : CallerData) (hs : HoldsSiblings t x k.log.holdings) (tree : KnowsTree k.log.holdings) where
   abbrev n : ℕ
-  n = x.above.at.node
+  n = x.above.node
 
   abbrev l : ℕ
   l = x.left.node
@@ -149,8 +121,8 @@ module _ (t : Terms) (x : Siblings) (k : CallerData) (hs : HoldsSiblings t x k.l
   abbrev IsTold : Holding → Type 0
   IsTold h = IsSome h.mark → IsTrue (tree.live h.node) × (tree.contents h.node ≡ h.settled)
 
-  told : IsTold hs.low × IsTold hs.high × AllByRecursion (λ (h : Holding). IsSome h.mark → IsTrue (tree.live h.node) × (tree.contents h.node ≡ h.settled)) (hs.upper ∷ hs.rest)
-  told = both_each (λ (h : Holding). IsSome h.mark → IsTrue (tree.live h.node) × (tree.contents h.node ≡ h.settled)) hs.left_first hs.low hs.high (hs.upper ∷ hs.rest)
+  told : IsTold hs.low × IsTold hs.high × AllByRecursion (λ (h : Holding). IsSome h.mark → IsTrue (tree.live h.node) × (tree.contents h.node ≡ h.settled)) (hs.upper ∷ [])
+  told = both_each (λ (h : Holding). IsSome h.mark → IsTrue (tree.live h.node) × (tree.contents h.node ≡ h.settled)) hs.left_first hs.low hs.high (hs.upper ∷ [])
       (subst (AllByRecursion (λ (h : Holding). IsSome h.mark → IsTrue (tree.live h.node) × (tree.contents h.node ≡ h.settled))) hs.held tree.marked)
 
   pub left_told : IsTrue (tree.live l) × (tree.contents l ≡ x.left.content)
@@ -159,7 +131,7 @@ module _ (t : Terms) (x : Siblings) (k : CallerData) (hs : HoldsSiblings t x k.l
   pub right_told : IsTrue (tree.live r) × (tree.contents r ≡ x.right.content)
   right_told = let e = told.1 hs.right.marked in (subst (λ m. IsTrue (tree.live m)) hs.right.node e.0, subst (λ m. tree.contents m ≡ hs.high.settled) hs.right.node e.1 ∙ hs.right.settled)
 
-  pub parent_told : IsTrue (tree.live n) × (tree.contents n ≡ x.above.at.content)
+  pub parent_told : IsTrue (tree.live n) × (tree.contents n ≡ x.above.content)
   parent_told = let e = told.2.0 hs.parent.marked in (subst (λ m. IsTrue (tree.live m)) hs.parent.node e.0, subst (λ m. tree.contents m ≡ hs.upper.settled) hs.parent.node e.1 ∙ hs.parent.settled)
 
   pub at_slot_is : slice_get (pairs_of (tree.contents n)) x.slot ≡ Some p
@@ -183,32 +155,17 @@ module _ (t : Terms) (x : Siblings) (k : CallerData) (hs : HoldsSiblings t x k.l
   pub in_r : is_among group r ≡ true
   in_r = later r n (l ∷ r ∷ []) (later r l (r ∷ []) (here r []))
 
-  pub outside : (m : ℕ) → m ≢ n → m ≢ l → m ≢ r → is_among group m ≡ false
-  outside m a b c = not_in m n (l ∷ r ∷ []) a (not_in m l (r ∷ []) b (not_in m r [] c refl))
-
-  pub beside : AllByRecursion (IsBesideLock n) hs.rest
-  beside = beside_each n x.above.root_changed hs.rest hs.root
-
-  rest_far : (m : ℕ) → m ≢ 0 → AllByRecursion (λ a. a.node ≢ m) hs.rest
-  rest_far m some = all_map (IsBesideLock n) (λ a. a.node ≢ m) (λ h b e. some (sym e ∙ b.node)) hs.rest beside
-
-  rest_parent : AllByRecursion (λ a. a.node ≢ n) hs.rest
-  rest_parent = all_map (IsBesideLock n) (λ a. a.node ≢ n) (λ h b e. b.far (sym e ∙ b.node)) hs.rest beside
-
-  pub three : AreThree l r n hs.rest
+  pub three : AreThree l r n
   three = record {
     left_right = family.different;
     left_above = family.left.no_parent;
     right_above = family.no_parent;
-    rest_left = rest_far l family.left.no_root;
-    rest_right = rest_far r family.no_root;
-    rest_above = rest_parent;
   }
 
   -- The three locks with other words, where these make a lawful change of the tree.
   module _ (laws : SettlingLaws) (g : Contents) (reached : List ℕ) (change : IsChangeOf tree.contents tree.live n (n ∷ l ∷ r ∷ []) [] g None reached) (differ : (g n ≢ tree.contents n) × (g l ≢ tree.contents l) × (g r ≢ tree.contents r))
-      (v : Log) (low high upper : Holding) (held : v.holdings.held ≡ both_of hs.left_first low high (upper ∷ hs.rest)) (out : v.holdings.out ≡ []) (is_low : IsNow hs.low (g l) low) (is_high : IsNow hs.high (g r) high) (is_upper : IsNow hs.upper (g n) upper)
-      (on : IsTrue (is_among reached n)) (off_rest : n ≢ 0 → is_among reached 0 ≡ false) where
+      (v : Log) (low high upper : Holding) (held : v.holdings.held ≡ both_of hs.left_first low high (upper ∷ [])) (out : v.holdings.out ≡ []) (is_low : IsNow hs.low (g l) low) (is_high : IsNow hs.high (g r) high) (is_upper : IsNow hs.upper (g n) upper)
+      (on : IsTrue (is_among reached n)) where
     low_node : low.node ≡ l
     low_node = is_low.node ∙ hs.left.node
 
@@ -218,17 +175,6 @@ module _ (t : Terms) (x : Siblings) (k : CallerData) (hs : HoldsSiblings t x k.l
     upper_node : upper.node ≡ n
     upper_node = is_upper.node ∙ hs.parent.node
 
-    stays : AllByRecursion (StaysSettled tree.contents tree.live (n ∷ l ∷ r ∷ []) reached) hs.rest
-    stays = each_two (IsBesideLock n) IsTold (StaysSettled tree.contents tree.live (n ∷ l ∷ r ∷ []) reached)
-        (λ h b tells. record {
-          mark = b.marked;
-          spells = b.spells;
-          lives = (tells b.marked).0;
-          content = (tells b.marked).1;
-          outside = subst (λ m. is_among (n ∷ l ∷ r ∷ []) m ≡ false) (sym b.node) (outside 0 (λ e. b.far (sym e)) (λ e. family.left.no_root (sym e)) (λ e. family.no_root (sym e)));
-          off = subst (λ m. is_among reached m ≡ false) (sym b.node) (off_rest b.far);
-        }) hs.rest beside told.2.1
-
     fits : (h' h : Holding) (m : ℕ) → h'.node ≡ m → IsNow h (g m) h' → IsTrue (tree.live m) × (tree.contents m ≡ h.settled) → FitsChange tree.contents tree.live (n ∷ l ∷ r ∷ []) [] g h'
     fits h' h m node now tells = record {
       marked = λ _. (subst (λ j. IsTrue (tree.live j)) (sym node) tells.0, ap tree.contents node ∙ (tells.1 ∙ sym now.settled), now.spells ∙ ap (λ j. Some (g j)) (sym node));
@@ -237,13 +183,13 @@ module _ (t : Terms) (x : Siblings) (k : CallerData) (hs : HoldsSiblings t x k.l
     }
 
     found_low : held_of l v.holdings.held ≡ Some low
-    found_low = ap (held_of l) held ∙ both_low hs.left_first low high (upper ∷ hs.rest) l low_node (λ e. family.different (sym (sym high_node ∙ e)))
+    found_low = ap (held_of l) held ∙ both_low hs.left_first low high (upper ∷ []) l low_node (λ e. family.different (sym (sym high_node ∙ e)))
 
     found_high : held_of r v.holdings.held ≡ Some high
-    found_high = ap (held_of r) held ∙ both_high hs.left_first low high (upper ∷ hs.rest) r high_node (λ e. family.different (sym low_node ∙ e))
+    found_high = ap (held_of r) held ∙ both_high hs.left_first low high (upper ∷ []) r high_node (λ e. family.different (sym low_node ∙ e))
 
     found_upper : held_of n v.holdings.held ≡ Some upper
-    found_upper = ap (held_of n) held ∙ (both_more hs.left_first low high (upper ∷ hs.rest) n (λ e. family.left.no_parent (sym low_node ∙ e)) (λ e. family.no_parent (sym high_node ∙ e)) ∙ found_head n upper hs.rest upper_node)
+    found_upper = ap (held_of n) held ∙ (both_more hs.left_first low high (upper ∷ []) n (λ e. family.left.no_parent (sym low_node ∙ e)) (λ e. family.no_parent (sym high_node ∙ e)) ∙ found_head n upper [] upper_node)
 
     marks : (m : ℕ) (h' h : Holding) (s : NodeData) → held_of m v.holdings.held ≡ Some h' → IsNow h s h' → IsSome h.mark → IsTrue (marked_in v.holdings.held m)
     marks m h' h s found now marked = ap is_marked found ∙ (ap is_some now.mark ∙ marked)
@@ -257,13 +203,12 @@ module _ (t : Terms) (x : Siblings) (k : CallerData) (hs : HoldsSiblings t x k.l
     high_test : test high.node ≡ not (is_among reached r)
     high_test = ap test high_node ∙ ap (λ b. b && not (is_among reached r)) in_r
 
-    tail : filter test (upper.node ∷ map node_of hs.rest) ≡ []
-    tail = ap (λ b. cond b (upper.node ∷ filter test (map node_of hs.rest)) (filter test (map node_of hs.rest))) (ap test upper_node ∙ (ap (λ b. is_among (n ∷ l ∷ r ∷ []) n && not b) on ∙ and_no (is_among (n ∷ l ∷ r ∷ []) n)))
-        ∙ none_left test hs.rest (all_map (StaysSettled tree.contents tree.live (n ∷ l ∷ r ∷ []) reached) (λ h. test h.node ≡ false) (λ h s. ap (λ b. b && not (is_among reached h.node)) s.outside) hs.rest stays)
+    tail : filter test (upper.node ∷ []) ≡ []
+    tail = ap (λ b. cond b (upper.node ∷ []) []) (ap test upper_node ∙ (ap (λ b. is_among (n ∷ l ∷ r ∷ []) n && not b) on ∙ and_no (is_among (n ∷ l ∷ r ∷ []) n)))
 
-    filtered : (o : Bool) → filter (λ m. is_among (n ∷ l ∷ r ∷ []) m && not (is_among reached m)) (map node_of (both_of o low high (upper ∷ hs.rest))) ≡ both_left o (not (is_among reached l)) (not (is_among reached r)) l r
-    filtered true = two test low.node high.node (not (is_among reached l)) (not (is_among reached r)) l r low_node high_node low_test high_test (upper.node ∷ map node_of hs.rest) tail
-    filtered false = two test high.node low.node (not (is_among reached r)) (not (is_among reached l)) r l high_node low_node high_test low_test (upper.node ∷ map node_of hs.rest) tail
+    filtered : (o : Bool) → filter (λ m. is_among (n ∷ l ∷ r ∷ []) m && not (is_among reached m)) (map node_of (both_of o low high (upper ∷ []))) ≡ both_left o (not (is_among reached l)) (not (is_among reached r)) l r
+    filtered true = two test low.node high.node (not (is_among reached l)) (not (is_among reached r)) l r low_node high_node low_test high_test (upper.node ∷ []) tail
+    filtered false = two test high.node low.node (not (is_among reached r)) (not (is_among reached l)) r l high_node low_node high_test low_test (upper.node ∷ []) tail
 
     pub left_is : left_out (n ∷ l ∷ r ∷ []) reached v.holdings ≡ both_left hs.left_first (not (is_among reached l)) (not (is_among reached r)) l r
     left_is = (λ i. left_out (n ∷ l ∷ r ∷ []) reached (record v.holdings { held = held i; out = out i })) ∙ filtered hs.left_first
@@ -277,14 +222,14 @@ module _ (t : Terms) (x : Siblings) (k : CallerData) (hs : HoldsSiblings t x k.l
       dead = λ m e. absurd (true≢false (sym (subst (λ xs. is_among xs m ≡ true) out e)));
       change = change;
       each = subst (AllByRecursion (FitsChange tree.contents tree.live (n ∷ l ∷ r ∷ []) [] g)) (sym held)
-          (both_all (FitsChange tree.contents tree.live (n ∷ l ∷ r ∷ []) [] g) hs.left_first low high (upper ∷ hs.rest)
+          (both_all (FitsChange tree.contents tree.live (n ∷ l ∷ r ∷ []) [] g) hs.left_first low high (upper ∷ [])
           (fits low hs.low l low_node is_low (left_told.0, left_told.1 ∙ sym hs.left.settled))
           (fits high hs.high r high_node is_high (right_told.0, right_told.1 ∙ sym hs.right.settled))
-          (fits upper hs.upper n upper_node is_upper (parent_told.0, parent_told.1 ∙ sym hs.parent.settled), stays_fit tree.contents tree.live n (n ∷ l ∷ r ∷ []) [] g reached change hs.rest stays));
-      once = subst HeldOnce (sym held) (both_once hs.left_first low high (upper ∷ hs.rest) (λ e. family.different (sym low_node ∙ (e ∙ high_node)))
-          ((λ e. family.left.no_parent (sym low_node ∙ (sym e ∙ upper_node))), subst (λ m. AllByRecursion (λ a. a.node ≢ m) hs.rest) (sym low_node) (rest_far l family.left.no_root))
-          ((λ e. family.no_parent (sym high_node ∙ (sym e ∙ upper_node))), subst (λ m. AllByRecursion (λ a. a.node ≢ m) hs.rest) (sym high_node) (rest_far r family.no_root))
-          (subst (λ m. AllByRecursion (λ a. a.node ≢ m) hs.rest) (sym upper_node) rest_parent, beside_once n x.above.root_changed hs.rest hs.root));
+          (fits upper hs.upper n upper_node is_upper (parent_told.0, parent_told.1 ∙ sym hs.parent.settled), tt));
+      once = subst HeldOnce (sym held) (both_once hs.left_first low high (upper ∷ []) (λ e. family.different (sym low_node ∙ (e ∙ high_node)))
+          ((λ e. family.left.no_parent (sym low_node ∙ (sym e ∙ upper_node))), tt)
+          ((λ e. family.no_parent (sym high_node ∙ (sym e ∙ upper_node))), tt)
+          (tt, tt));
       group_held = (marks n upper hs.upper (g n) found_upper is_upper hs.parent.marked, (marks l low hs.low (g l) found_low is_low hs.left.marked, (marks r high hs.high (g r) found_high is_high hs.right.marked, tt)));
       fresh_held = tt;
       differ = (differ.0, (differ.1, (differ.2, tt)));
@@ -292,14 +237,13 @@ module _ (t : Terms) (x : Siblings) (k : CallerData) (hs : HoldsSiblings t x k.l
       room = few;
     }
 
-    pub settles : settle None v ≡ record v { holdings = record v.holdings { held = both_of hs.left_first (exchange (is_among (n ∷ l ∷ r ∷ [])) (is_among reached) low) (exchange (is_among (n ∷ l ∷ r ∷ [])) (is_among reached) high) (record upper { settled = g n; mark = Some (frame_of (g n)) } ∷ hs.rest); out = both_left hs.left_first (not (is_among reached l)) (not (is_among reached r)) l r } }
+    pub settles : settle None v ≡ record v { holdings = record v.holdings { held = both_of hs.left_first (exchange (is_among (n ∷ l ∷ r ∷ [])) (is_among reached) low) (exchange (is_among (n ∷ l ∷ r ∷ [])) (is_among reached) high) (record upper { settled = g n; mark = Some (frame_of (g n)) } ∷ []); out = both_left hs.left_first (not (is_among reached l)) (not (is_among reached r)) l r } }
     settles =
         settled_after laws v tree.contents tree.live n (n ∷ l ∷ r ∷ []) [] g reached held_change
         ∙ (λ i. record v { holdings = record v.holdings { held = lists i; out = left_is i } })
       where
-        lists : map (exchange (is_among (n ∷ l ∷ r ∷ [])) (is_among reached)) v.holdings.held ≡ both_of hs.left_first (exchange (is_among (n ∷ l ∷ r ∷ [])) (is_among reached) low) (exchange (is_among (n ∷ l ∷ r ∷ [])) (is_among reached) high) (record upper { settled = g n; mark = Some (frame_of (g n)) } ∷ hs.rest)
+        lists : map (exchange (is_among (n ∷ l ∷ r ∷ [])) (is_among reached)) v.holdings.held ≡ both_of hs.left_first (exchange (is_among (n ∷ l ∷ r ∷ [])) (is_among reached) low) (exchange (is_among (n ∷ l ∷ r ∷ [])) (is_among reached) high) (record upper { settled = g n; mark = Some (frame_of (g n)) } ∷ [])
         lists = ap (map (exchange (is_among (n ∷ l ∷ r ∷ [])) (is_among reached))) held
-            ∙ (both_map (exchange (is_among (n ∷ l ∷ r ∷ [])) (is_among reached)) hs.left_first low high (upper ∷ hs.rest)
+            ∙ (both_map (exchange (is_among (n ∷ l ∷ r ∷ [])) (is_among reached)) hs.left_first low high (upper ∷ [])
             ∙ (λ i. both_of hs.left_first (exchange (is_among (n ∷ l ∷ r ∷ [])) (is_among reached) low) (exchange (is_among (n ∷ l ∷ r ∷ [])) (is_among reached) high)
-            (settled_group (n ∷ l ∷ r ∷ []) reached upper (g n) (subst (λ m. is_among (n ∷ l ∷ r ∷ []) m ≡ true) (sym upper_node) in_n) (subst (λ m. is_among reached m ≡ true) (sym upper_node) on) is_upper.spells i
-            ∷ stay_settled tree.contents tree.live (n ∷ l ∷ r ∷ []) reached hs.rest stays i)))
+            (settled_group (n ∷ l ∷ r ∷ []) reached upper (g n) (subst (λ m. is_among (n ∷ l ∷ r ∷ []) m ≡ true) (sym upper_node) in_n) (subst (λ m. is_among reached m ≡ true) (sym upper_node) on) is_upper.spells i ∷ [])))

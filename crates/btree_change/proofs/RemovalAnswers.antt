@@ -1,5 +1,5 @@
 -- What a removal answers, from the steps of its way.
-use Rattle.std.proofs.Common.{◌≡◌, ℕ, zero, suc, ◌+◌, ◌*◌, ◌<◌, ◌≤◌, [], ◌∷◌, length, sym, ap, ◌∙◌, subst, arith, Bool, false, IsNone}
+use Rattle.std.proofs.Common.{◌≡◌, ℕ, zero, suc, ◌+◌, ◌*◌, ◌<◌, ◌≤◌, [], ◌∷◌, length, sym, ap, ◌∙◌, subst, arith, Bool, true, false, IsNone}
 use Rattle.std.proofs.lemmas.Bool.{ltb-false}
 use mathlib.Core.List.{IsPrefix}
 use Rattle.reg_model.specs.History.{state_after}
@@ -12,13 +12,14 @@ use Rattle.reg_model.specs.declared.span.Member.{Member}
 use Rattle.tree_shape.specs.NodeData.{NodeData, Body, Pairs, Entries, Link, IsInFences}
 use Rattle.word_rule.specs.CallerData.{CallerData, surplus}
 use Rattle.word_rule.specs.Callers.{start}
+use Rattle.word_rule.specs.Spelling.{SpellsNode}
 use Rattle.word_rule.specs.declared.log.Holdings.{Holdings}
 use Rattle.word_rule.specs.declared.log.Terms.{Terms}
 use Rattle.btree_change.specs.Paths.{HoldsLeftOver, HoldsNothing, IsLeftOut, StepsOnNodes}
-use Rattle.btree_change.specs.Releases.{Spends}
+use Rattle.btree_change.specs.Releases.{LetsGo, Spends}
 use Rattle.btree_change.specs.Removal.{AnswersRemoval, AnswersRightly, taken_by_removal}
-use Rattle.btree_change.specs.Removing.{HoldsBesideRoot, IsSpare, IsSpareAs}
-use Rattle.btree_change.specs.Siblings.{HoldsChild, LeavesWay, is_small_body}
+use Rattle.btree_change.specs.Removing.{IsSpare, IsSpareAs}
+use Rattle.btree_change.specs.Siblings.{HoldsChild, HoldsUnder, LeavesParent, is_small_body}
 use Rattle.btree_change.specs.declared.sibling.Siblings.{Siblings}
 use Rattle.node_store.specs.Locking.{FoundBusy}
 use Rattle.node_store.specs.declared.locking.Busy.{Busy}
@@ -28,8 +29,8 @@ use Rattle.btree_change.specs.Takings.{RefusesBase, TakesMember}
 use Rattle.btree_change.specs.Updates.{AnswersUpdate}
 use Rattle.btree_change.specs.declared.sibling.Child.{Child}
 use Rattle.btree_change.specs.declared.descent.Held.{Held}
-use Rattle.btree_change.specs.declared.way.Way.{Way}
 use Rattle.btree_change.proofs.Joining.{spare_of}
+use Rattle.btree_change.proofs.Releases.{lock_gone}
 use Rattle.btree_change.proofs.Rooted.{surplus_left}
 use Rattle.btree_change.proofs.Spending.{answers_so, refused_call, spends_after, spends_before, spends_same, steps_after, surplus_steps}
 
@@ -38,12 +39,24 @@ not_small (Pairs pairs) e = let l = ltb-false (length pairs) 7 e in omega (arith
 not_small (Entries entries) e = let l = ltb-false (length entries) 5 e in omega (arith, l)
 not_small (Link next) e = tt
 
--- a child that isn't small is gone to as it is
-pub kept_so : (t : Terms) (child : Child) (pc : ℕ) (way below : Way) (holdings holdings' : Holdings) → HoldsChild t child pc holdings → child.above ≡ way → is_small_body child.at.content.body ≡ false → HoldsBesideRoot t child.at.node child.at.content child.at.changed below.root_changed holdings' → below.at ≡ child.at
-    → HoldsBesideRoot t below.at.node below.at.content below.at.changed below.root_changed holdings' × IsInFences pc below.at.content × IsSpare below.at.node below.at.content × (below.at.content.level + 1 ≡ way.at.content.level)
-kept_so t child pc way below holdings holdings' h above large held at =
-    subst (λ (z : Held). HoldsBesideRoot t z.node z.content z.changed below.root_changed holdings' × IsInFences pc z.content × IsSpare z.node z.content × (z.content.level + 1 ≡ way.at.content.level)) (sym at)
-    (held, h.fences, spare_of child.at.node child.at.content (not_small child.at.content.body large), h.level ∙ ap (λ (w : Way). w.at.content.level) above)
+-- a child that isn't small has one to spare
+pub child_spare : (n : ℕ) (s : NodeData) → is_small_body s.body ≡ false → IsSpare n s
+child_spare n s large = spare_of n s (not_small s.body large)
+
+-- a child is held under its parent
+pub child_under : (t : Terms) (child : Child) (pc : ℕ) (holdings : Holdings) → HoldsChild t child pc holdings → HoldsUnder t child.above.node child.above.changed child.at holdings
+child_under t child pc holdings h = record {
+  within = h.within;
+  no_parent = h.no_parent;
+  lower = h.lower;
+  upper = h.upper;
+  held = h.held;
+  here = h.here;
+  node = h.parent.node;
+  spells = subst (SpellsNode h.upper.words) (sym h.parent.settled) h.parent.spells;
+  stored = h.parent.stored;
+  out = h.out;
+}
 
 -- the root is no child, so it needs nothing to spare
 pub root_spare : (n : ℕ) (s : NodeData) → n ≡ 0 → IsSpare n s
@@ -61,11 +74,11 @@ rightly_seen t base (removed.NotFound stamp) k l k' l' same same' (begins, count
 rightly_seen t base removed.Spent k l k' l' same same' wrong = absurd wrong
 
 -- a removal was answered between its way down and the last of it that is let go of
-around : (r : Receipt) (taken : ℕ) (k k1 k2 k3 : CallerData) → Spends 26 k k1 → SpendsCall (r ∷ []) taken 0 k1 k2 → Spends 2 k2 k3 → HoldsNothing k3.log.holdings → AnswersUpdate r taken k k3
-around r taken k k1 k2 k3 down call up = answers_so r taken 28 k k3 (omega arith)
-    (spends_after 26 2 28 (r ∷ []) taken k k1 k3 (omega arith) down (spends_before 0 2 2 (r ∷ []) taken k1 k2 k3 (omega arith) call up))
+around : (r : Receipt) (taken : ℕ) (k k1 k2 k3 : CallerData) → Spends 24 k k1 → SpendsCall (r ∷ []) taken 0 k1 k2 → Spends 1 k2 k3 → HoldsNothing k3.log.holdings → AnswersUpdate r taken k k3
+around r taken k k1 k2 k3 down call up = answers_so r taken 25 k k3 (omega arith)
+    (spends_after 24 1 25 (r ∷ []) taken k k1 k3 (omega arith) down (spends_before 0 1 1 (r ∷ []) taken k1 k2 k3 (omega arith) call up))
 
-pub refusal_so : (t : Terms) (base : ℕ) (answer : Removed) (k k1 k2 k3 : CallerData) → Spends 26 k k1 → RefusesBase t base answer k1 k2 → Spends 2 k2 k3 → HoldsNothing k3.log.holdings → AnswersRemoval t base answer k k3
+pub refusal_so : (t : Terms) (base : ℕ) (answer : Removed) (k k1 k2 k3 : CallerData) → Spends 24 k k1 → RefusesBase t base answer k1 k2 → Spends 1 k2 k3 → HoldsNothing k3.log.holdings → AnswersRemoval t base answer k k3
 refusal_so t base answer k k1 k2 k3 down refuses up nothing =
     let r = receipt.Deregister base answer in let taken = taken_by_removal answer in record {
       right = rightly_seen t base answer k1 k k2 k3 down.past (sym up.past) refuses.right;
@@ -73,8 +86,8 @@ refusal_so t base answer k k1 k2 k3 down refuses up nothing =
     }
 
 -- the same of one that was done
-pub done_so : (t : Terms) (base n number : ℕ) (root_changed : Bool) (m : Member) (k k1 k2 k3 : CallerData) → Spends 26 k k1 → TakesMember t base n root_changed number m k1 k2 → Spends 2 k2 k3 → HoldsNothing k3.log.holdings → AnswersRemoval t base (removed.Done number m) k k3
-done_so t base n number root_changed m k k1 k2 k3 down takes up nothing = record {
+pub done_so : (t : Terms) (base n number : ℕ) (m : Member) (k k1 k2 k3 : CallerData) → Spends 24 k k1 → TakesMember t base n number m k1 k2 → Spends 1 k2 k3 → HoldsNothing k3.log.holdings → AnswersRemoval t base (removed.Done number m) k k3
+done_so t base n number m k k1 k2 k3 down takes up nothing = record {
   right = rightly_seen t base (removed.Done number m) k1 k k2 k3 down.past (sym up.past) takes.right;
   call = around (receipt.Deregister base (removed.Done number m)) 1 k k1 k2 k3 down (record {
     table = takes.table;
@@ -91,25 +104,25 @@ done_so t base n number root_changed m k k1 k2 k3 down takes up nothing = record
 }
 
 -- the way down, and the leaf read
-pub read_spends : (k k1 k2 : CallerData) → Spends 26 k k1 → StepsOnNodes k1 k2 → Spends 26 k k2
-read_spends k k1 k2 down steps = steps_after 26 0 26 k k1 k2 (omega arith) down (spends_same k1 k2 steps)
+pub read_spends : (k k1 k2 : CallerData) → Spends 24 k k1 → StepsOnNodes k1 k2 → Spends 24 k k2
+read_spends k k1 k2 down steps = steps_after 24 0 24 k k1 k2 (omega arith) down (spends_same k1 k2 steps)
 
 -- releases are left to let go of the way
-pub surplus_refused : (t : Terms) (base : ℕ) (answer : Removed) (k k1 k2 : CallerData) → Spends 26 k k1 → 64 ≤ surplus k → RefusesBase t base answer k1 k2 → 1 < surplus k2
-surplus_refused t base answer k k1 k2 down most refuses = let left = surplus_left 26 k k1 down most (omega arith) in let a = ap (λ z. z.credit) refuses.call.budget in let b : 64 * k2.left ≡ 64 * k1.left = ap (λ z. 64 * z) refuses.call.left in omega (arith, left, a, b)
+pub surplus_refused : (t : Terms) (base : ℕ) (answer : Removed) (k k1 k2 : CallerData) → Spends 24 k k1 → 64 ≤ surplus k → RefusesBase t base answer k1 k2 → 0 < surplus k2
+surplus_refused t base answer k k1 k2 down most refuses = let left = surplus_left 24 k k1 down most (omega arith) in let a = ap (λ z. z.credit) refuses.call.budget in let b : 64 * k2.left ≡ 64 * k1.left = ap (λ z. 64 * z) refuses.call.left in omega (arith, left, a, b)
 
-pub surplus_taken : (t : Terms) (base n number : ℕ) (root_changed : Bool) (m : Member) (k k1 k2 : CallerData) → Spends 26 k k1 → 64 ≤ surplus k → TakesMember t base n root_changed number m k1 k2 → 1 < surplus k2
-surplus_taken t base n number root_changed m k k1 k2 down most takes = let left = surplus_left 26 k k1 down most (omega arith) in let a = ap (λ z. z.credit) takes.budget in let b : 64 * k2.left ≡ 64 * k1.left = ap (λ z. 64 * z) takes.left in omega (arith, left, a, b)
+pub surplus_taken : (t : Terms) (base n number : ℕ) (m : Member) (k k1 k2 : CallerData) → Spends 24 k k1 → 64 ≤ surplus k → TakesMember t base n number m k1 k2 → 0 < surplus k2
+surplus_taken t base n number m k k1 k2 down most takes = let left = surplus_left 24 k k1 down most (omega arith) in let a = ap (λ z. z.credit) takes.budget in let b : 64 * k2.left ≡ 64 * k1.left = ap (λ z. 64 * z) takes.left in omega (arith, left, a, b)
 
--- a node of the way was lost: what is left once the way was let go of
-pub left_over : (x : Siblings) (why : Busy) (k k2 k3 : CallerData) → LeavesWay x why k k2 → k3.log.holdings.held ≡ [] → k3.log.holdings.out ≡ k2.log.holdings.out → HoldsLeftOver why k3.log.holdings
-left_over x why k k2 k3 lost held out = (held, subst (λ w. IsLeftOut w k3.log.holdings.out) (sym lost.lost) (subst (λ ns. length ns ≤ 2) (sym out) lost.out))
+-- a node that left the tree was lost: what is left once its parent was let go of
+pub left_over : (x : Siblings) (why : Busy) (k k2 k3 : CallerData) → LeavesParent x why k k2 → LetsGo x.above.node k2 k3 → HoldsLeftOver why k3.log.holdings
+left_over x why k k2 k3 lost goes = (lock_gone x.above.node true k2 k3 lost.above goes, subst (λ w. IsLeftOut w k3.log.holdings.out) (sym lost.lost) (subst (λ ns. length ns ≤ 2) (sym goes.out) lost.out))
 
-pub left_surplus : (x : Siblings) (why : Busy) (k k2 : CallerData) → LeavesWay x why k k2 → 3 < surplus k → 1 < surplus k2
-left_surplus x why k k2 lost some = surplus_steps 2 k k2 2 lost.spends (omega (arith, some))
+pub left_surplus : (x : Siblings) (why : Busy) (k k2 : CallerData) → LeavesParent x why k k2 → 2 < surplus k → 0 < surplus k2
+left_surplus x why k k2 lost some = surplus_steps 2 k k2 1 lost.spends (omega (arith, some))
 
-pub left_spends : (x : Siblings) (why : Busy) (k k2 k3 : CallerData) → LeavesWay x why k k2 → Spends 2 k2 k3 → Spends 4 k k3
-left_spends x why k k2 k3 lost up = steps_after 2 2 4 k k2 k3 (omega arith) lost.spends up
+pub left_spends : (x : Siblings) (why : Busy) (k k2 k3 : CallerData) → LeavesParent x why k k2 → LetsGo x.above.node k2 k3 → Spends 3 k k3
+left_spends x why k k2 k3 lost goes = steps_after 2 1 3 k k2 k3 (omega arith) lost.spends goes.steps
 
-pub left_cause : (x : Siblings) (why : Busy) (k k2 k3 : CallerData) → LeavesWay x why k k2 → Spends 2 k2 k3 → FoundBusy why k k3
-left_cause x why k k2 k3 lost up = found_still why k k2 k3 lost.cause up.loads
+pub left_cause : (x : Siblings) (why : Busy) (k k2 k3 : CallerData) → LeavesParent x why k k2 → LetsGo x.above.node k2 k3 → FoundBusy why k k3
+left_cause x why k k2 k3 lost goes = found_still why k k2 k3 lost.cause goes.steps.loads

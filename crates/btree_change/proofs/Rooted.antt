@@ -1,5 +1,5 @@
 -- The way of a removal begins at the root; and what a mended child of it is.
-use Rattle.std.proofs.Common.{◌≡◌, ◌≢◌, ℕ, zero, suc, ◌*◌, ◌<◌, ◌≤◌, length, refl, ap, subst, arith, false, sym, []}
+use Rattle.std.proofs.Common.{◌≡◌, ◌≢◌, ℕ, zero, suc, ◌*◌, ◌^◌, ◌<◌, ◌≤◌, length, refl, ap, subst, arith, sym}
 use Rattle.tree_shape.specs.Changes.{pair}
 use Rattle.tree_shape.specs.Lawful.{IsOrderedAs, fewest_pairs}
 use Rattle.tree_shape.specs.NodeData.{IsInFences, NodeData, Body, Pairs, Entries, Link, pairs_of}
@@ -10,29 +10,28 @@ use Rattle.word_rule.specs.declared.log.Holdings.{Holdings}
 use Rattle.word_rule.specs.declared.log.Terms.{Terms}
 use Rattle.btree_change.specs.Stands.{HoldsRoot}
 use Rattle.btree_change.specs.declared.descent.Held.{Held}
-use Rattle.btree_change.specs.Removing.{HoldsBesideRoot, IsBeside, IsSpare, IsSpareAs}
+use Rattle.btree_change.specs.Removing.{HoldsAlone, IsSpare, IsSpareAs}
 use Rattle.btree_change.specs.Siblings.{HoldsSiblings, SameKind}
 use Rattle.btree_change.specs.declared.sibling.Siblings.{Siblings}
 use Rattle.btree_change.specs.Releases.{Spends}
 use Rattle.btree_change.proofs.Neighbouring.{some_pairs}
 use Rattle.btree_change.proofs.Lowering.{settled_live}
 
-pub root_beside : (t : Terms) (at : Held) (holdings : Holdings) → HoldsRoot t at holdings
-    → HoldsBesideRoot t at.node at.content at.changed false holdings × (at.node ≡ 0) × (at.content.level ≤ 12) × ((pc : ℕ) → pc ≤ 18446744073709551615 → IsInFences pc at.content)
-root_beside t at holdings r = (
-  record {
-    within = subst (λ n. n < t.nodes) (sym r.root) r.within;
-    lock = r.lock;
-    above = [];
-    held = r.held;
-    here = r.here;
-    root = subst (λ n. IsBeside n false []) (sym r.root) refl;
-    out = r.out;
-  },
-  r.root,
-  (settled_live t at.node at.content at.changed r.lock r.here).1.1.height r.root,
-  λ pc most. (let l = r.low in omega (arith, l), let h = r.high in omega (arith, h, most)),
-)
+pub root_alone : (t : Terms) (at : Held) (holdings : Holdings) → HoldsRoot t at holdings → HoldsAlone t at holdings
+root_alone t at holdings r = record {
+  within = subst (λ n. n < t.nodes) (sym r.root) r.within;
+  lock = r.lock;
+  held = r.held;
+  here = r.here;
+  out = r.out;
+}
+
+pub root_low : (t : Terms) (at : Held) (holdings : Holdings) → HoldsRoot t at holdings → at.content.level ≤ 12
+root_low t at holdings r = (settled_live t at.node at.content at.changed r.lock r.here).1.1.height r.root
+
+-- the root has all addresses
+pub root_has : (t : Terms) (at : Held) (pc : ℕ) (holdings : Holdings) → HoldsRoot t at holdings → pc < 2 ^ 64 → IsInFences pc at.content
+root_has t at pc holdings r most = (let l = r.low in omega (arith, l), let h = r.high in omega (arith, h, most))
 
 -- two nodes of one level are of one kind
 same_kind : (s u : NodeData) (a b : Body) → IsOrderedAs s a → IsOrderedAs u b → s.level ≡ u.level → SameKind a b
@@ -55,11 +54,11 @@ spare_pairs zero s spare body more = more refl
 spare_pairs (suc n) s spare body more = let few = (fewest_below (suc n) (λ z. omega (arith, z))).1 in let six : 6 < length (pairs_of s) = subst IsSpareAs body spare in omega (arith, few, six)
 
 -- where the root doesn't sink, the parent of two that are joined has a pair to spare
-pub joins_spare : (t : Terms) (x : Siblings) (holdings : Holdings) → HoldsSiblings t x holdings → IsSpare x.above.at.node x.above.at.content → (x.above.at.node ≡ 0 → length (pairs_of x.above.at.content) ≢ 2) → fewest_pairs x.above.at.node < length (pairs_of x.above.at.content)
+pub joins_spare : (t : Terms) (x : Siblings) (holdings : Holdings) → HoldsSiblings t x holdings → IsSpare x.above.node x.above.content → (x.above.node ≡ 0 → length (pairs_of x.above.content) ≢ 2) → fewest_pairs x.above.node < length (pairs_of x.above.content)
 joins_spare t x holdings hs spare more =
-    let own = settled_live t x.above.at.node x.above.at.content x.above.at.changed hs.upper hs.parent in
-    let two = (some_pairs t x.above.at.node x.above.at.content x.above.at.changed hs.upper x.slot (pair x.left.node x.left.content.high) hs.parent hs.at).0 in
-    spare_pairs x.above.at.node x.above.at.content spare (filled_pairs x.above.at.node x.above.at.content own.1.1.filled (omega (arith, two))) (λ z. (let ne = more z in omega (arith, two, ne)))
+    let own = settled_live t x.above.node x.above.content x.above.changed hs.upper hs.parent in
+    let two = (some_pairs t x.above.node x.above.content x.above.changed hs.upper x.slot (pair x.left.node x.left.content.high) hs.parent hs.at).0 in
+    spare_pairs x.above.node x.above.content spare (filled_pairs x.above.node x.above.content own.1.1.filled (omega (arith, two))) (λ z. (let ne = more z in omega (arith, two, ne)))
 
 -- releases that are left after some were used
 pub surplus_left : (n : ℕ) (k k' : CallerData) → Spends n k k' → 64 ≤ surplus k → n ≤ 30 → 2 < surplus k'

@@ -4,7 +4,6 @@ use Rattle.std.proofs.lemmas.List.{append_cancel_left}
 use Rattle.std.proofs.lemmas.Option.{same_Some}
 use Rattle.std.specs.List.{slice_get}
 use Rattle.tree_shape.specs.Changes.{Overfill, at_slot, first_half, joined, last_half, pair, separate_at, share_of, size}
-use Rattle.tree_shape.specs.Decisions.{is_entries}
 use Rattle.tree_shape.specs.Lawful.{IsLawfulTree}
 use Rattle.tree_shape.specs.LocalChange.{IsChangeOf}
 use Rattle.tree_shape.specs.NodeData.{NodeData, Pairs, IsInFences, frame_of, pairs_of}
@@ -51,10 +50,10 @@ pub others_of : (x : Siblings) (pc : ℕ) (c : Chosen) → IsChosen x pc c → (
 others_of x pc c (inl (node, other, below)) = inr other
 others_of x pc c (inr (node, other, above)) = inl other
 
-module _ (t : Terms) (x : Siblings) (k k1 : CallerData) (found : ℕ) (hs : HoldsSiblings t x k.log.holdings) (tree : KnowsTree k.log.holdings) (loads : k1 ≡ record k { log = after_node_load x.above.at.node 2 found k.log })
+module _ (t : Terms) (x : Siblings) (k k1 : CallerData) (found : ℕ) (hs : HoldsSiblings t x k.log.holdings) (tree : KnowsTree k.log.holdings) (loads : k1 ≡ record k { log = after_node_load x.above.node 2 found k.log })
     (over : Overfill x.left.content x.right.content) where
   abbrev n : ℕ
-  n = x.above.at.node
+  n = x.above.node
 
   abbrev l : ℕ
   l = x.left.node
@@ -71,21 +70,21 @@ module _ (t : Terms) (x : Siblings) (k k1 : CallerData) (found : ℕ) (hs : Hold
   abbrev top : NodeData
   top = (shares_for x).above
 
-  held1 : k1.log.holdings.held ≡ both_of hs.left_first hs.low hs.high (hs.upper ∷ hs.rest)
+  held1 : k1.log.holdings.held ≡ both_of hs.left_first hs.low hs.high (hs.upper ∷ [])
   held1 = ap (λ (z : CallerData). z.log.holdings.held) loads ∙ hs.held
 
-  apart : AreThree l r n hs.rest
+  apart : AreThree l r n
   apart = three t x k hs tree
 
   high_far_l : hs.high.node ≢ l
   high_far_l e = apart.left_right (sym (sym hs.right.node ∙ e))
 
   pub may_left : MayStore x.left.node k1.log
-  may_left = may_store l hs.low k1.log (ap (held_of l) held1 ∙ both_low hs.left_first hs.low hs.high (hs.upper ∷ hs.rest) l hs.left.node high_far_l) hs.left.marked
+  may_left = may_store l hs.low k1.log (ap (held_of l) held1 ∙ both_low hs.left_first hs.low hs.high (hs.upper ∷ []) l hs.left.node high_far_l) hs.left.marked
 
   module _ (k2 : CallerData) (writes1 : StoresHeld x.left.node (shares_for x).left k1 k2) (spells1 : SpellsHeld x.left.node (shares_for x).left k2.log) where
-    w1 : IsWrittenAs (shares_for x).left hs.low (λ z. both_of hs.left_first z hs.high (hs.upper ∷ hs.rest)) k1 k2
-    w1 = write_low hs.left_first fst l hs.low hs.high (hs.upper ∷ hs.rest) k1 k2 (share_kinds x.left.content.body x.right.content.body over).0 hs.left.node high_far_l ((λ e. apart.left_above (sym (sym hs.parent.node ∙ e))), apart.rest_left) held1 writes1 spells1
+    w1 : IsWrittenAs (shares_for x).left hs.low (λ z. both_of hs.left_first z hs.high (hs.upper ∷ [])) k1 k2
+    w1 = write_low hs.left_first fst l hs.low hs.high (hs.upper ∷ []) k1 k2 (share_kinds x.left.content.body x.right.content.body over).0 hs.left.node high_far_l ((λ e. apart.left_above (sym (sym hs.parent.node ∙ e))), tt) held1 writes1 spells1
 
     low_node : w1.lock.node ≡ l
     low_node = w1.node ∙ hs.left.node
@@ -94,11 +93,11 @@ module _ (t : Terms) (x : Siblings) (k k1 : CallerData) (found : ℕ) (hs : Hold
     low_far_r e = apart.left_right (sym low_node ∙ e)
 
     pub may_right : MayStore x.right.node k2.log
-    may_right = may_store r hs.high k2.log (ap (held_of r) w1.held ∙ both_high hs.left_first w1.lock hs.high (hs.upper ∷ hs.rest) r hs.right.node low_far_r) hs.right.marked
+    may_right = may_store r hs.high k2.log (ap (held_of r) w1.held ∙ both_high hs.left_first w1.lock hs.high (hs.upper ∷ []) r hs.right.node low_far_r) hs.right.marked
 
     module _ (k3 : CallerData) (writes2 : StoresHeld x.right.node (shares_for x).right k2 k3) (spells2 : SpellsHeld x.right.node (shares_for x).right k3.log) where
-      w2 : IsWrittenAs (shares_for x).right hs.high (λ z. both_of hs.left_first w1.lock z (hs.upper ∷ hs.rest)) k2 k3
-      w2 = write_high hs.left_first snd r w1.lock hs.high (hs.upper ∷ hs.rest) k2 k3 (share_kinds x.left.content.body x.right.content.body over).1 hs.right.node low_far_r ((λ e. apart.right_above (sym (sym hs.parent.node ∙ e))), apart.rest_right) w1.held writes2 spells2
+      w2 : IsWrittenAs (shares_for x).right hs.high (λ z. both_of hs.left_first w1.lock z (hs.upper ∷ [])) k2 k3
+      w2 = write_high hs.left_first snd r w1.lock hs.high (hs.upper ∷ []) k2 k3 (share_kinds x.left.content.body x.right.content.body over).1 hs.right.node low_far_r ((λ e. apart.right_above (sym (sym hs.parent.node ∙ e))), tt) w1.held writes2 spells2
 
       high_node : w2.lock.node ≡ r
       high_node = w2.node ∙ hs.right.node
@@ -106,13 +105,13 @@ module _ (t : Terms) (x : Siblings) (k k1 : CallerData) (found : ℕ) (hs : Hold
       pub table3 : k3.table ≡ k.table
       table3 = w2.same.table ∙ (w1.same.table ∙ ap (λ (z : CallerData). z.table) loads)
 
-      pub may_above : MayStore x.above.at.node k3.log
-      may_above = may_store n hs.upper k3.log (ap (held_of n) w2.held ∙ (both_more hs.left_first w1.lock w2.lock (hs.upper ∷ hs.rest) n (λ e. apart.left_above (sym low_node ∙ e)) (λ e. apart.right_above (sym high_node ∙ e)) ∙ found_head n hs.upper hs.rest hs.parent.node)) hs.parent.marked
+      pub may_above : MayStore x.above.node k3.log
+      may_above = may_store n hs.upper k3.log (ap (held_of n) w2.held ∙ (both_more hs.left_first w1.lock w2.lock (hs.upper ∷ []) n (λ e. apart.left_above (sym low_node ∙ e)) (λ e. apart.right_above (sym high_node ∙ e)) ∙ found_head n hs.upper [] hs.parent.node)) hs.parent.marked
 
-      module _ (k4 : CallerData) (writes3 : StoresHeld x.above.at.node (shares_for x).above k3 k4) (spells3 : SpellsHeld x.above.at.node (shares_for x).above k4.log)
+      module _ (k4 : CallerData) (writes3 : StoresHeld x.above.node (shares_for x).above k3 k4) (spells3 : SpellsHeld x.above.node (shares_for x).above k4.log)
           (laws : SettlingLaws) (law : ShareLaw) (small : IsTrue (is_small_body x.left.content.body || is_small_body x.right.content.body)) where
-        w3 : IsWrittenAs (shares_for x).above hs.upper (λ z. both_of hs.left_first w1.lock w2.lock (z ∷ hs.rest)) k3 k4
-        w3 = write_upper hs.left_first top n w1.lock w2.lock hs.upper hs.rest k3 k4 (λ e. omega (arith, e)) hs.parent.node (λ e. apart.left_above (sym low_node ∙ e)) (λ e. apart.right_above (sym high_node ∙ e)) apart.rest_above w2.held writes3 spells3
+        w3 : IsWrittenAs (shares_for x).above hs.upper (λ z. both_of hs.left_first w1.lock w2.lock (z ∷ [])) k3 k4
+        w3 = write_upper hs.left_first top n w1.lock w2.lock hs.upper [] k3 k4 (λ e. omega (arith, e)) hs.parent.node (λ e. apart.left_above (sym low_node ∙ e)) (λ e. apart.right_above (sym high_node ∙ e)) tt w2.held writes3 spells3
 
         upper_node : w3.lock.node ≡ n
         upper_node = w3.node ∙ hs.parent.node
@@ -124,7 +123,7 @@ module _ (t : Terms) (x : Siblings) (k k1 : CallerData) (found : ℕ) (hs : Hold
         f = tree.contents
 
         abbrev g : Contents
-        g = updated (updated (updated tree.contents x.right.node (shares_for x).right) x.above.at.node (shares_for x).above) x.left.node (shares_for x).left
+        g = updated (updated (updated tree.contents x.right.node (shares_for x).right) x.above.node (shares_for x).above) x.left.node (shares_for x).left
 
         g_l : g l ≡ fst
         g_l = rw (eq-eqb l l refl) refl
@@ -186,7 +185,7 @@ module _ (t : Terms) (x : Siblings) (k k1 : CallerData) (found : ℕ) (hs : Hold
         now_high = record { node = w2.node; mark = w2.mark; settled = w2.settled; spells = w2.spells ∙ ap Some (sym g_r); stored = w2.stored x.right.content hs.right.spells (λ e. right_differs (g_r ∙ (sym e ∙ sym (right_told t x k hs tree).1))) }
 
         now_upper : IsNow hs.upper (g n) w3.lock
-        now_upper = record { node = w3.node; mark = w3.mark; settled = w3.settled; spells = w3.spells ∙ ap Some (sym g_n); stored = w3.stored x.above.at.content hs.parent.spells (λ e. parent_differs (g_n ∙ (sym e ∙ sym (parent_told t x k hs tree).1))) }
+        now_upper = record { node = w3.node; mark = w3.mark; settled = w3.settled; spells = w3.spells ∙ ap Some (sym g_n); stored = w3.stored x.above.content hs.parent.spells (λ e. parent_differs (g_n ∙ (sym e ∙ sym (parent_told t x k hs tree).1))) }
 
         out4 : k4.log.holdings.out ≡ []
         out4 = w3.out ∙ (w2.out ∙ (w1.out ∙ (ap (λ (z : CallerData). z.log.holdings.out) loads ∙ hs.out)))
@@ -194,14 +193,11 @@ module _ (t : Terms) (x : Siblings) (k k1 : CallerData) (found : ℕ) (hs : Hold
         on_n : is_among (n ∷ l ∷ r ∷ []) n ≡ true
         on_n = in_n t x k hs tree
 
-        off_root : n ≢ 0 → is_among (n ∷ l ∷ r ∷ []) 0 ≡ false
-        off_root some = not_in 0 n (l ∷ r ∷ []) (λ e. some (sym e)) (not_in 0 l (r ∷ []) (λ e. (family t x k hs tree).left.no_root (sym e)) (not_in 0 r [] (λ e. (family t x k hs tree).no_root (sym e)) refl))
-
         pub may_leave : (m : ℕ) → (m ≡ l) ⊎ (m ≡ r) → MayRelease m k4.log
-        may_leave m (inl e) = may_release laws k4.log f tree.live n (n ∷ l ∷ r ∷ []) [] g (n ∷ l ∷ r ∷ []) (held_change t x k hs tree laws g (n ∷ l ∷ r ∷ []) change (parent_differs, left_differs, right_differs) k4.log w1.lock w2.lock w3.lock w3.held out4 now_low now_high now_upper on_n off_root) m w1.lock
-            (ap (held_of m) w3.held ∙ both_low hs.left_first w1.lock w2.lock (w3.lock ∷ hs.rest) m (low_node ∙ sym e) (λ z. apart.left_right (sym (sym high_node ∙ (z ∙ e))))) (subst IsSome (sym now_low.spells) refl)
-        may_leave m (inr e) = may_release laws k4.log f tree.live n (n ∷ l ∷ r ∷ []) [] g (n ∷ l ∷ r ∷ []) (held_change t x k hs tree laws g (n ∷ l ∷ r ∷ []) change (parent_differs, left_differs, right_differs) k4.log w1.lock w2.lock w3.lock w3.held out4 now_low now_high now_upper on_n off_root) m w2.lock
-            (ap (held_of m) w3.held ∙ both_high hs.left_first w1.lock w2.lock (w3.lock ∷ hs.rest) m (high_node ∙ sym e) (λ z. apart.left_right (sym low_node ∙ (z ∙ e)))) (subst IsSome (sym now_high.spells) refl)
+        may_leave m (inl e) = may_release laws k4.log f tree.live n (n ∷ l ∷ r ∷ []) [] g (n ∷ l ∷ r ∷ []) (held_change t x k hs tree laws g (n ∷ l ∷ r ∷ []) change (parent_differs, left_differs, right_differs) k4.log w1.lock w2.lock w3.lock w3.held out4 now_low now_high now_upper on_n) m w1.lock
+            (ap (held_of m) w3.held ∙ both_low hs.left_first w1.lock w2.lock (w3.lock ∷ []) m (low_node ∙ sym e) (λ z. apart.left_right (sym (sym high_node ∙ (z ∙ e))))) (subst IsSome (sym now_low.spells) refl)
+        may_leave m (inr e) = may_release laws k4.log f tree.live n (n ∷ l ∷ r ∷ []) [] g (n ∷ l ∷ r ∷ []) (held_change t x k hs tree laws g (n ∷ l ∷ r ∷ []) change (parent_differs, left_differs, right_differs) k4.log w1.lock w2.lock w3.lock w3.held out4 now_low now_high now_upper on_n) m w2.lock
+            (ap (held_of m) w3.held ∙ both_high hs.left_first w1.lock w2.lock (w3.lock ∷ []) m (high_node ∙ sym e) (λ z. apart.left_right (sym low_node ∙ (z ∙ e)))) (subst IsSome (sym now_high.spells) refl)
 
         abbrev low5 : Holding
         low5 = record w1.lock { settled = g l; mark = Some (frame_of (g l)) }
@@ -216,21 +212,21 @@ module _ (t : Terms) (x : Siblings) (k k1 : CallerData) (found : ℕ) (hs : Hold
         none_out true c d e h = (λ i. cond (e i) (l ∷ cond (h i) (r ∷ []) []) (cond (h i) (r ∷ []) []))
         none_out false c d e h = (λ i. cond (h i) (r ∷ cond (e i) (l ∷ []) []) (cond (e i) (l ∷ []) []))
 
-        settled4 : settle None k4.log ≡ record k4.log { holdings = record k4.log.holdings { held = both_of hs.left_first (record w1.lock { settled = g l; mark = Some (frame_of (g l)) }) (record w2.lock { settled = g r; mark = Some (frame_of (g r)) }) (record w3.lock { settled = g n; mark = Some (frame_of (g n)) } ∷ hs.rest); out = [] } }
+        settled4 : settle None k4.log ≡ record k4.log { holdings = record k4.log.holdings { held = both_of hs.left_first (record w1.lock { settled = g l; mark = Some (frame_of (g l)) }) (record w2.lock { settled = g r; mark = Some (frame_of (g r)) }) (record w3.lock { settled = g n; mark = Some (frame_of (g n)) } ∷ []); out = [] } }
         settled4 =
-            settles t x k hs tree laws g (n ∷ l ∷ r ∷ []) change (parent_differs, left_differs, right_differs) k4.log w1.lock w2.lock w3.lock w3.held out4 now_low now_high now_upper on_n off_root
+            settles t x k hs tree laws g (n ∷ l ∷ r ∷ []) change (parent_differs, left_differs, right_differs) k4.log w1.lock w2.lock w3.lock w3.held out4 now_low now_high now_upper on_n
             ∙ (λ i. record k4.log {
               holdings = record k4.log.holdings {
                 held = both_of hs.left_first
                     (settled_group (n ∷ l ∷ r ∷ []) (n ∷ l ∷ r ∷ []) w1.lock (g l) (subst (λ m. is_among (n ∷ l ∷ r ∷ []) m ≡ true) (sym low_node) (in_l t x k hs tree)) (subst (λ m. is_among (n ∷ l ∷ r ∷ []) m ≡ true) (sym low_node) (in_l t x k hs tree)) now_low.spells i)
                     (settled_group (n ∷ l ∷ r ∷ []) (n ∷ l ∷ r ∷ []) w2.lock (g r) (subst (λ m. is_among (n ∷ l ∷ r ∷ []) m ≡ true) (sym high_node) (in_r t x k hs tree)) (subst (λ m. is_among (n ∷ l ∷ r ∷ []) m ≡ true) (sym high_node) (in_r t x k hs tree)) now_high.spells i)
-                    (record w3.lock { settled = g n; mark = Some (frame_of (g n)) } ∷ hs.rest);
+                    (record w3.lock { settled = g n; mark = Some (frame_of (g n)) } ∷ []);
                 out = none_out hs.left_first (not (is_among (n ∷ l ∷ r ∷ []) l)) (not (is_among (n ∷ l ∷ r ∷ []) r)) (ap not (in_l t x k hs tree)) (ap not (in_r t x k hs tree)) i;
               };
             })
 
         abbrev left_go : ℕ → CallerData
-        left_go other = record k4 { log = record (after_node_release_same other (record k4.log { holdings = record k4.log.holdings { held = both_of hs.left_first (record w1.lock { settled = g l; mark = Some (frame_of (g l)) }) (record w2.lock { settled = g r; mark = Some (frame_of (g r)) }) (record w3.lock { settled = g n; mark = Some (frame_of (g n)) } ∷ hs.rest); out = [] } })) { budget = after_spending k4.log.budget } }
+        left_go other = record k4 { log = record (after_node_release_same other (record k4.log { holdings = record k4.log.holdings { held = both_of hs.left_first (record w1.lock { settled = g l; mark = Some (frame_of (g l)) }) (record w2.lock { settled = g r; mark = Some (frame_of (g r)) }) (record w3.lock { settled = g n; mark = Some (frame_of (g n)) } ∷ []); out = [] } })) { budget = after_spending k4.log.budget } }
 
         gone_is : (other : ℕ) (k5 : CallerData) → k5 ≡ record k4 { log = after_node_release other k4.log } → k5 ≡ left_go other
         gone_is other k5 is = is ∙ ap (λ (z : Log). record k4 { log = record (after_node_release_same other z) { budget = after_spending z.budget } }) settled4
@@ -238,12 +234,11 @@ module _ (t : Terms) (x : Siblings) (k k1 : CallerData) (found : ℕ) (hs : Hold
         spent : (other : ℕ) (k5 : CallerData) → k5 ≡ record k4 { log = after_node_release other k4.log } → Spends 1 k4 k5
         spent other k5 is = subst (Spends 1 k4) (sym (gone_is other k5 is)) (record { table = refl; left = refl; terms = refl; role = refl; past = refl; receipts = refl; loader = refl; made = refl; lineage = refl; allowance = refl; credit = omega arith; loads = none_more k4.log.trace.loads })
 
-        left_stays : (k5 : CallerData) → k5 ≡ record k4 { log = after_node_release r k4.log } → AreSettled n l (shares_for x).left x.above.root_changed k5.log.holdings
-        left_stays k5 is = subst (λ (z : CallerData). AreSettled n l (shares_for x).left x.above.root_changed z.log.holdings) (sym (gone_is r k5 is)) (record {
+        left_stays : (k5 : CallerData) → k5 ≡ record k4 { log = after_node_release r k4.log } → AreSettled n l (shares_for x).left k5.log.holdings
+        left_stays k5 is = subst (λ (z : CallerData). AreSettled n l (shares_for x).left z.log.holdings) (sym (gone_is r k5 is)) (record {
           lower = low5;
           upper = upper5;
-          rest = hs.rest;
-          held = without_high hs.left_first low5 high5 (upper5 ∷ hs.rest) r high_node low_far_r ((λ e. apart.right_above (sym (sym upper_node ∙ e))), apart.rest_right);
+          held = without_high hs.left_first low5 high5 (upper5 ∷ []) r high_node low_far_r ((λ e. apart.right_above (sym (sym upper_node ∙ e))), tt);
           node = low_node;
           settled = g_l;
           spells = now_low.spells;
@@ -251,19 +246,15 @@ module _ (t : Terms) (x : Siblings) (k k1 : CallerData) (found : ℕ) (hs : Hold
           marked = refl;
           parent = upper_node;
           parent_spells = now_upper.spells;
-          parent_inner = ap (λ (z : NodeData). is_entries z.body) g_n;
           parent_stored = now_upper.stored;
-          parent_marked = refl;
-          root = hs.root;
           out = refl;
         })
 
-        right_stays : (k5 : CallerData) → k5 ≡ record k4 { log = after_node_release l k4.log } → AreSettled n r (shares_for x).right x.above.root_changed k5.log.holdings
-        right_stays k5 is = subst (λ (z : CallerData). AreSettled n r (shares_for x).right x.above.root_changed z.log.holdings) (sym (gone_is l k5 is)) (record {
+        right_stays : (k5 : CallerData) → k5 ≡ record k4 { log = after_node_release l k4.log } → AreSettled n r (shares_for x).right k5.log.holdings
+        right_stays k5 is = subst (λ (z : CallerData). AreSettled n r (shares_for x).right z.log.holdings) (sym (gone_is l k5 is)) (record {
           lower = high5;
           upper = upper5;
-          rest = hs.rest;
-          held = without_low hs.left_first low5 high5 (upper5 ∷ hs.rest) l low_node (λ e. apart.left_right (sym (sym high_node ∙ e))) ((λ e. apart.left_above (sym (sym upper_node ∙ e))), apart.rest_left);
+          held = without_low hs.left_first low5 high5 (upper5 ∷ []) l low_node (λ e. apart.left_right (sym (sym high_node ∙ e))) ((λ e. apart.left_above (sym (sym upper_node ∙ e))), tt);
           node = high_node;
           settled = g_r;
           spells = now_high.spells;
@@ -271,10 +262,7 @@ module _ (t : Terms) (x : Siblings) (k k1 : CallerData) (found : ℕ) (hs : Hold
           marked = refl;
           parent = upper_node;
           parent_spells = now_upper.spells;
-          parent_inner = ap (λ (z : NodeData). is_entries z.body) g_n;
           parent_stored = now_upper.stored;
-          parent_marked = refl;
-          root = hs.root;
           out = refl;
         })
 
@@ -287,7 +275,7 @@ module _ (t : Terms) (x : Siblings) (k k1 : CallerData) (found : ℕ) (hs : Hold
               (shares_for x).left,
               (
                 subst (λ m. MendsSiblings t x (record { node = m; content = (shares_for x).left; changed = true }) k k6) (sym node) (record {
-                  holds = under_so t n l (shares_for x).left x.above.root_changed k5 k6 seen hs.left_within (family t x k hs tree).left.no_root apart.left_above ((spent r k5 lets').terms ∙ (steps4.terms ∙ terms)) (left_stays k5 lets') tells' loads2;
+                  holds = under_so t n l (shares_for x).left k5 k6 seen hs.left_within apart.left_above ((spent r k5 lets').terms ∙ (steps4.terms ∙ terms)) (left_stays k5 lets') tells' loads2;
                   level = hs.level;
                   spare = spare_of l (shares_for x).left (share_spares x.left.content.body x.right.content.body over).0;
                   spends = spends;
@@ -303,7 +291,7 @@ module _ (t : Terms) (x : Siblings) (k k1 : CallerData) (found : ℕ) (hs : Hold
               (shares_for x).right,
               (
                 subst (λ m. MendsSiblings t x (record { node = m; content = (shares_for x).right; changed = true }) k k6) (sym node) (record {
-                  holds = under_so t n r (shares_for x).right x.above.root_changed k5 k6 seen hs.right_within (family t x k hs tree).no_root apart.right_above ((spent l k5 lets').terms ∙ (steps4.terms ∙ terms)) (right_stays k5 lets') tells' loads2;
+                  holds = under_so t n r (shares_for x).right k5 k6 seen hs.right_within apart.right_above ((spent l k5 lets').terms ∙ (steps4.terms ∙ terms)) (right_stays k5 lets') tells' loads2;
                   level = hs.level;
                   spare = spare_of r (shares_for x).right (share_spares x.left.content.body x.right.content.body over).1;
                   spends = spends;

@@ -12,8 +12,7 @@ use Rattle.word_rule.specs.declared.log.Holdings.{Holdings}
 use Rattle.word_rule.specs.declared.log.Terms.{Terms}
 use Rattle.btree_change.specs.Paths.{StepsOnNodes}
 use Rattle.btree_change.specs.Releases.{HaveSettled, LetsGo, MayGo}
-use Rattle.btree_change.specs.Removing.{IsBeside}
-use Rattle.btree_change.specs.Siblings.{ReturnsNode, HoldsSiblings, HoldsSunk, IsGoneOrSettled, KeepsOut, LeavesWay, SinksRoot, sunk_root}
+use Rattle.btree_change.specs.Siblings.{ReturnsNode, HoldsSiblings, HoldsSunk, IsGoneOrSettled, KeepsOut, LeavesParent, SinksRoot, sunk_root}
 use Rattle.node_store.specs.declared.locking.Busy.{Busy}
 use Rattle.word_rule.proofs.HeadPlays.{all_but_shorter}
 use Rattle.btree_change.specs.declared.sibling.Siblings.{Siblings}
@@ -70,7 +69,6 @@ module _ (x : Siblings) (k : CallerData) (gone : HoldsSunk x k.log.holdings) whe
             holds = record {
               within = (omega (arith, within));
               lock = gone.upper;
-              above = [];
               held = ap (λ (z : Holdings). z.held) kept ∙ held2;
               here = record {
                 node = gone.root;
@@ -80,7 +78,6 @@ module _ (x : Siblings) (k : CallerData) (gone : HoldsSunk x k.log.holdings) whe
                 marked = gone.marked;
                 live = subst (λ m. IfSome gone.upper.mark (IsLiveNode t m (sunk_root x))) gone.root (subst (λ z. IfSome gone.upper.mark (IsLiveNode t gone.upper.node z)) gone.content (subst (λ z. IfSome gone.upper.mark (IsLiveNode z gone.upper.node gone.upper.settled)) terms2 own.live));
               };
-              root = refl;
               out = ap (λ (z : Holdings). z.out) kept ∙ out2;
             };
             level = hs.level;
@@ -88,10 +85,7 @@ module _ (x : Siblings) (k : CallerData) (gone : HoldsSunk x k.log.holdings) whe
           })
 
 -- a child was lost, and the other one let go of
-module _ (x : Siblings) (why : Busy) (k k1 : CallerData) (gone : HoldsSunk x k1.log.holdings) (steps : StepsOnNodes k k1) (root : x.above.at.node ≡ 0) where
-  beside : IsBeside x.above.at.node x.above.root_changed []
-  beside = subst (λ n. IsBeside n x.above.root_changed []) (sym root) refl
-
+module _ (x : Siblings) (why : Busy) (k k1 : CallerData) (gone : HoldsSunk x k1.log.holdings) (steps : StepsOnNodes k k1) (root : x.above.node ≡ 0) where
   module _ (k2 : CallerData) (keeps : KeepsOut x.left.node why k1 k2) where
     held_lost : k2.log.holdings.held ≡ gone.high ∷ gone.upper ∷ []
     held_lost = held1 x k1 gone (as_given x.left.node k1 k2) (as_returned x.left.node why k1 k2 keeps)
@@ -107,37 +101,33 @@ module _ (x : Siblings) (why : Busy) (k k1 : CallerData) (gone : HoldsSunk x k1.
     pub left_lost_surplus : 1 < surplus k → 0 < surplus k2
     left_lost_surplus some = surplus_steps 1 k k2 1 (steps_after 0 1 1 k k1 k2 (omega arith) (spends_same k k1 steps) keeps.spends) (omega (arith, some))
 
-    pub left_lost : (k3 : CallerData) → LetsGo x.right.node k2 k3 → LeavesWay x why k k3
+    pub left_lost : (k3 : CallerData) → LetsGo x.right.node k2 k3 → LeavesParent x why k k3
     left_lost k3 goes = record {
       lost = keeps.lost;
       cause = found_between why k k1 k2 k3 steps.loads keeps.cause goes.steps.loads;
       spends = steps_after 1 1 2 k k2 k3 (omega arith) (steps_after 0 1 1 k k1 k2 (omega arith) (spends_same k k1 steps) keeps.spends) goes.steps;
-      way = record {
+      above = record {
         lock = gone.upper;
-        above = [];
         held = goes.held ∙ (ap (without_lock x.right.node) held_lost ∙ without_low true gone.high gone.upper [] x.right.node gone.right (upper_far x k1 gone x.right.node gone.no_root.1) tt);
         node = gone.root ∙ sym root;
         spells = gone.spells;
         stored = gone.stored;
-        root = beside;
       };
       out = (let two = gone.two_out in let e = ap length (goes.out ∙ keeps.out) in omega (arith, two, e));
     }
 
   -- the left one was given back, and the right one lost
-  pub right_lost : (k2 k3 : CallerData) → ReturnsNode x.left.node k1 k2 → KeepsOut x.right.node why k2 k3 → LeavesWay x why k k3
+  pub right_lost : (k2 k3 : CallerData) → ReturnsNode x.left.node k1 k2 → KeepsOut x.right.node why k2 k3 → LeavesParent x why k k3
   right_lost k2 k3 back keeps = record {
     lost = keeps.lost;
     cause = found_after why k k2 k3 (keeps_then k k1 k2 steps.loads back.spends.loads) keeps.cause;
     spends = steps_after 1 1 2 k k2 k3 (omega arith) (steps_after 0 1 1 k k1 k2 (omega arith) (spends_same k k1 steps) back.spends) keeps.spends;
-    way = record {
+    above = record {
       lock = gone.upper;
-      above = [];
       held = held2 x k1 gone k2 back (as_given x.right.node k2 k3) (as_returned x.right.node why k2 k3 keeps);
       node = gone.root ∙ sym root;
       spells = gone.spells;
       stored = gone.stored;
-      root = beside;
     };
     out = (let two = gone.two_out in let e = ap length (keeps.out ∙ back.out) in let fewer = all_but_shorter x.left.node k1.log.holdings.out in omega (arith, two, e, fewer));
   }

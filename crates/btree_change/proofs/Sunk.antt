@@ -32,7 +32,6 @@ use Rattle.btree_change.proofs.Written.{IsWrittenAs, edit_high, edit_low, spells
 use Rattle.btree_change.proofs.Joining.{may_store, never_free, wide_of}
 use Rattle.btree_change.proofs.Raised.{spells_raised}
 use Rattle.btree_change.proofs.Lowering.{settled_live}
-use Rattle.btree_change.proofs.Releases.{none_beside}
 
 abbrev pub SinkLaw : Type 0
 SinkLaw = (f : Contents) (live : ℕ → Bool) (p q : Pair) (g : Contents) → IsLawfulTree f live → IsSink f live p q g → IsChangeOf f live 0 (0 ∷ p.child ∷ q.child ∷ []) [] g None (0 ∷ [])
@@ -70,9 +69,9 @@ without_two l r true far = (here l (r ∷ []), subst (λ os. IsTrue (is_among os
 without_two l r false far = (later l r (l ∷ []) (here l []), subst (λ os. IsTrue (is_among os r)) (sym (but_second r l (λ e. far (sym e)))) (here r []), ap (all_but r) (but_second r l (λ e. far (sym e))) ∙ but_one r)
 
 module _ (t : Terms) (x : Siblings) (k k1 k2 : CallerData) (seen seen' : ℕ) (hs : HoldsSiblings t x k.log.holdings) (tree : KnowsTree k.log.holdings) (holder : HolderTells x.left.node k.log) (loads : k1 ≡ record k { log = after_node_load x.left.node 2 seen k.log })
-    (holder' : HolderTells x.right.node k1.log) (loads' : k2 ≡ record k1 { log = after_node_load x.right.node 2 seen' k1.log }) (root : x.above.at.node ≡ 0) (two : length (pairs_of x.above.at.content) ≡ 2) (fit : Fit x.left.content x.right.content) where
+    (holder' : HolderTells x.right.node k1.log) (loads' : k2 ≡ record k1 { log = after_node_load x.right.node 2 seen' k1.log }) (root : x.above.node ≡ 0) (two : length (pairs_of x.above.content) ≡ 2) (fit : Fit x.left.content x.right.content) where
   abbrev n : ℕ
-  n = x.above.at.node
+  n = x.above.node
 
   abbrev l : ℕ
   l = x.left.node
@@ -80,16 +79,16 @@ module _ (t : Terms) (x : Siblings) (k k1 k2 : CallerData) (seen seen' : ℕ) (h
   abbrev r : ℕ
   r = x.right.node
 
-  held1 : k1.log.holdings.held ≡ both_of hs.left_first hs.low hs.high (hs.upper ∷ hs.rest)
+  held1 : k1.log.holdings.held ≡ both_of hs.left_first hs.low hs.high (hs.upper ∷ [])
   held1 = ap (λ (z : CallerData). z.log.holdings.held) loads ∙ hs.held
 
-  held2 : k2.log.holdings.held ≡ both_of hs.left_first hs.low hs.high (hs.upper ∷ hs.rest)
+  held2 : k2.log.holdings.held ≡ both_of hs.left_first hs.low hs.high (hs.upper ∷ [])
   held2 = ap (λ (z : CallerData). z.log.holdings.held) loads' ∙ held1
 
   out2 : k2.log.holdings.out ≡ []
   out2 = ap (λ (z : CallerData). z.log.holdings.out) loads' ∙ (ap (λ (z : CallerData). z.log.holdings.out) loads ∙ hs.out)
 
-  apart : AreThree l r n hs.rest
+  apart : AreThree l r n
   apart = three t x k hs tree
 
   low_far_r : hs.low.node ≢ r
@@ -99,14 +98,14 @@ module _ (t : Terms) (x : Siblings) (k k1 k2 : CallerData) (seen seen' : ℕ) (h
   high_far_l e = apart.left_right (sym (sym hs.right.node ∙ e))
 
   wide_low : length hs.low.words ≡ 35
-  wide_low = wide_of t l hs.low k.log (ap (held_of l) hs.held ∙ both_low hs.left_first hs.low hs.high (hs.upper ∷ hs.rest) l hs.left.node high_far_l) holder
+  wide_low = wide_of t l hs.low k.log (ap (held_of l) hs.held ∙ both_low hs.left_first hs.low hs.high (hs.upper ∷ []) l hs.left.node high_far_l) holder
 
   wide_high : length hs.high.words ≡ 35
-  wide_high = wide_of t r hs.high k1.log (ap (held_of r) held1 ∙ both_high hs.left_first hs.low hs.high (hs.upper ∷ hs.rest) r hs.right.node low_far_r) holder'
+  wide_high = wide_of t r hs.high k1.log (ap (held_of r) held1 ∙ both_high hs.left_first hs.low hs.high (hs.upper ∷ []) r hs.right.node low_far_r) holder'
 
-  module _ (k3 : CallerData) (writes : StoresHeld x.above.at.node (sunk_root x) k2 k3) (spells : SpellsHeld x.above.at.node (sunk_root x) k3.log) where
-    w : IsWrittenAs (sunk_root x) hs.upper (λ z. both_of hs.left_first hs.low hs.high (z ∷ hs.rest)) k2 k3
-    w = write_upper hs.left_first (sunk_root x) n hs.low hs.high hs.upper hs.rest k2 k3 (fits_no_free x.left.content.body x.right.content.body fit) hs.parent.node (λ e. apart.left_above (sym hs.left.node ∙ e)) (λ e. apart.right_above (sym hs.right.node ∙ e)) apart.rest_above held2 writes spells
+  module _ (k3 : CallerData) (writes : StoresHeld x.above.node (sunk_root x) k2 k3) (spells : SpellsHeld x.above.node (sunk_root x) k3.log) where
+    w : IsWrittenAs (sunk_root x) hs.upper (λ z. both_of hs.left_first hs.low hs.high (z ∷ [])) k2 k3
+    w = write_upper hs.left_first (sunk_root x) n hs.low hs.high hs.upper [] k2 k3 (fits_no_free x.left.content.body x.right.content.body fit) hs.parent.node (λ e. apart.left_above (sym hs.left.node ∙ e)) (λ e. apart.right_above (sym hs.right.node ∙ e)) tt held2 writes spells
 
     upper_node : w.lock.node ≡ n
     upper_node = w.node ∙ hs.parent.node
@@ -118,31 +117,31 @@ module _ (t : Terms) (x : Siblings) (k k1 k2 : CallerData) (seen seen' : ℕ) (h
     upper_far_r e = apart.right_above (sym (sym upper_node ∙ e))
 
     pub may_raise : MayStore x.right.node k3.log
-    may_raise = may_store r hs.high k3.log (ap (held_of r) w.held ∙ both_high hs.left_first hs.low hs.high (w.lock ∷ hs.rest) r hs.right.node low_far_r) hs.right.marked
+    may_raise = may_store r hs.high k3.log (ap (held_of r) w.held ∙ both_high hs.left_first hs.low hs.high (w.lock ∷ []) r hs.right.node low_far_r) hs.right.marked
 
     module _ (k4 : CallerData) (stores4 : k4 ≡ record k3 { log = after_node_store x.right.node 2 (x.right.content.level + 1) k3.log }) where
       abbrev high4 : Holding
       high4 = store_in 2 (x.right.content.level + 1) hs.high
 
-      held4 : k4.log.holdings.held ≡ both_of hs.left_first hs.low (store_in 2 (x.right.content.level + 1) hs.high) (w.lock ∷ hs.rest)
-      held4 = ap (λ (z : CallerData). z.log.holdings.held) stores4 ∙ (ap (edited r (store_in 2 (x.right.content.level + 1))) w.held ∙ edit_high hs.left_first r (store_in 2 (x.right.content.level + 1)) hs.low hs.high (w.lock ∷ hs.rest) hs.right.node low_far_r (upper_far_r, apart.rest_right))
+      held4 : k4.log.holdings.held ≡ both_of hs.left_first hs.low (store_in 2 (x.right.content.level + 1) hs.high) (w.lock ∷ [])
+      held4 = ap (λ (z : CallerData). z.log.holdings.held) stores4 ∙ (ap (edited r (store_in 2 (x.right.content.level + 1))) w.held ∙ edit_high hs.left_first r (store_in 2 (x.right.content.level + 1)) hs.low hs.high (w.lock ∷ []) hs.right.node low_far_r (upper_far_r, tt))
 
       pub may_link : MayStore x.left.node k4.log
-      may_link = may_store l hs.low k4.log (ap (held_of l) held4 ∙ both_low hs.left_first hs.low high4 (w.lock ∷ hs.rest) l hs.left.node high_far_l) hs.left.marked
+      may_link = may_store l hs.low k4.log (ap (held_of l) held4 ∙ both_low hs.left_first hs.low high4 (w.lock ∷ []) l hs.left.node high_far_l) hs.left.marked
 
       module _ (k5 : CallerData) (stores5 : k5 ≡ record k4 { log = after_node_store x.left.node 6 0 k4.log }) where
-        held5 : k5.log.holdings.held ≡ both_of hs.left_first (store_in 6 0 hs.low) (store_in 2 (x.right.content.level + 1) hs.high) (w.lock ∷ hs.rest)
-        held5 = ap (λ (z : CallerData). z.log.holdings.held) stores5 ∙ (ap (edited l (store_in 6 0)) held4 ∙ edit_low hs.left_first l (store_in 6 0) hs.low high4 (w.lock ∷ hs.rest) hs.left.node high_far_l (upper_far_l, apart.rest_left))
+        held5 : k5.log.holdings.held ≡ both_of hs.left_first (store_in 6 0 hs.low) (store_in 2 (x.right.content.level + 1) hs.high) (w.lock ∷ [])
+        held5 = ap (λ (z : CallerData). z.log.holdings.held) stores5 ∙ (ap (edited l (store_in 6 0)) held4 ∙ edit_low hs.left_first l (store_in 6 0) hs.low high4 (w.lock ∷ []) hs.left.node high_far_l (upper_far_l, tt))
 
         found_low : held_of l k5.log.holdings.held ≡ Some (store_in 6 0 hs.low)
-        found_low = ap (held_of l) held5 ∙ both_low hs.left_first (store_in 6 0 hs.low) high4 (w.lock ∷ hs.rest) l hs.left.node high_far_l
+        found_low = ap (held_of l) held5 ∙ both_low hs.left_first (store_in 6 0 hs.low) high4 (w.lock ∷ []) l hs.left.node high_far_l
 
         pub may_free : MayStore x.left.node k5.log
         may_free = may_store l (store_in 6 0 hs.low) k5.log found_low hs.left.marked
 
         module _ (laws : SettlingLaws) (law : SinkLaw) (k6 : CallerData) (stores6 : k6 ≡ record k5 { log = after_node_store x.left.node 1 2 k5.log }) where
           abbrev g : Contents
-          g = updated (updated (updated tree.contents x.right.node (record x.right.content { level = x.right.content.level + 1 })) x.left.node (record x.left.content { body = Link 0 })) x.above.at.node (sunk_root x)
+          g = updated (updated (updated tree.contents x.right.node (record x.right.content { level = x.right.content.level + 1 })) x.left.node (record x.left.content { body = Link 0 })) x.above.node (sunk_root x)
 
           g_n : g n ≡ sunk_root x
           g_n = rw (eq-eqb n n refl) refl
@@ -153,7 +152,7 @@ module _ (t : Terms) (x : Siblings) (k k1 k2 : CallerData) (seen seen' : ℕ) (h
           g_r : g r ≡ record x.right.content { level = x.right.content.level + 1 }
           g_r = rw (ne_eqb r n apart.right_above, ne_eqb r l (λ e. apart.left_right (sym e)), eq-eqb r r refl) refl
 
-          f_n : tree.contents n ≡ x.above.at.content
+          f_n : tree.contents n ≡ x.above.content
           f_n = (parent_told t x k hs tree).1
 
           pairs_are : pairs_of (tree.contents n) ≡ pair x.left.node x.left.content.high ∷ pair x.right.node x.right.content.high ∷ []
@@ -172,7 +171,7 @@ module _ (t : Terms) (x : Siblings) (k k1 k2 : CallerData) (seen seen' : ℕ) (h
           change = subst (λ m. IsChangeOf tree.contents tree.live m (m ∷ l ∷ r ∷ []) [] g None (m ∷ [])) (sym root) (law tree.contents tree.live (pair x.left.node x.left.content.high) (pair x.right.node x.right.content.high) g tree.lawful is_sink)
 
           parent_differs : g n ≢ tree.contents n
-          parent_differs e = let same : x.left.content.level ≡ x.above.at.content.level = ap (λ (z : NodeData). z.level) (sym g_n ∙ (e ∙ f_n)) in let level = hs.level in omega (arith, same, level)
+          parent_differs e = let same : x.left.content.level ≡ x.above.content.level = ap (λ (z : NodeData). z.level) (sym g_n ∙ (e ∙ f_n)) in let level = hs.level in omega (arith, same, level)
 
           left_differs : g l ≢ tree.contents l
           left_differs e =
@@ -183,7 +182,7 @@ module _ (t : Terms) (x : Siblings) (k k1 k2 : CallerData) (seen seen' : ℕ) (h
           right_differs e = let same : x.right.content.level + 1 ≡ x.right.content.level = ap (λ (z : NodeData). z.level) (sym g_r ∙ (e ∙ (right_told t x k hs tree).1)) in omega (arith, same)
 
           low_level : x.right.content.level + 1 < 4294967296
-          low_level = let own = settled_live t n x.above.at.content x.above.at.changed hs.upper hs.parent in let h = own.1.1.height root in let a = hs.level in let b = hs.neighbours.level in omega (arith, h, a, b)
+          low_level = let own = settled_live t n x.above.content x.above.changed hs.upper hs.parent in let h = own.1.1.height root in let a = hs.level in let b = hs.neighbours.level in omega (arith, h, a, b)
 
           now_low : IsNow hs.low (g l) (store_in 1 2 (store_in 6 0 hs.low))
           now_low = record { node = refl; mark = refl; settled = refl; spells = spells_freed hs.low.words x.left.content wide_low hs.left.spells ∙ ap Some (sym g_l); stored = refl }
@@ -192,13 +191,13 @@ module _ (t : Terms) (x : Siblings) (k k1 k2 : CallerData) (seen seen' : ℕ) (h
           now_high = record { node = refl; mark = refl; settled = refl; spells = spells_raised hs.high.words x.right.content (x.right.content.level + 1) wide_high hs.right.spells low_level ∙ ap Some (sym g_r); stored = refl }
 
           now_upper : IsNow hs.upper (g n) w.lock
-          now_upper = record { node = w.node; mark = w.mark; settled = w.settled; spells = w.spells ∙ ap Some (sym g_n); stored = w.stored x.above.at.content hs.parent.spells (λ e. parent_differs (g_n ∙ (sym e ∙ sym f_n))) }
+          now_upper = record { node = w.node; mark = w.mark; settled = w.settled; spells = w.spells ∙ ap Some (sym g_n); stored = w.stored x.above.content hs.parent.spells (λ e. parent_differs (g_n ∙ (sym e ∙ sym f_n))) }
 
           abbrev v6 : Log
           v6 = stored_log x.left.node 1 2 k5.log
 
-          held6 : (stored_log x.left.node 1 2 k5.log).holdings.held ≡ both_of hs.left_first (store_in 1 2 (store_in 6 0 hs.low)) (store_in 2 (x.right.content.level + 1) hs.high) (w.lock ∷ hs.rest)
-          held6 = ap (edited l (store_in 1 2)) held5 ∙ edit_low hs.left_first l (store_in 1 2) (store_in 6 0 hs.low) high4 (w.lock ∷ hs.rest) hs.left.node high_far_l (upper_far_l, apart.rest_left)
+          held6 : (stored_log x.left.node 1 2 k5.log).holdings.held ≡ both_of hs.left_first (store_in 1 2 (store_in 6 0 hs.low)) (store_in 2 (x.right.content.level + 1) hs.high) (w.lock ∷ [])
+          held6 = ap (edited l (store_in 1 2)) held5 ∙ edit_low hs.left_first l (store_in 1 2) (store_in 6 0 hs.low) high4 (w.lock ∷ []) hs.left.node high_far_l (upper_far_l, tt)
 
           out6 : (stored_log x.left.node 1 2 k5.log).holdings.out ≡ []
           out6 = ap (λ (z : CallerData). z.log.holdings.out) stores5 ∙ (ap (λ (z : CallerData). z.log.holdings.out) stores4 ∙ (w.out ∙ out2))
@@ -214,11 +213,11 @@ module _ (t : Terms) (x : Siblings) (k k1 k2 : CallerData) (seen seen' : ℕ) (h
 
           settled6 : settle None (stored_log x.left.node 1 2 k5.log) ≡ record (stored_log x.left.node 1 2 k5.log) {
             holdings = record (stored_log x.left.node 1 2 k5.log).holdings {
-              held = both_of hs.left_first (exchange (is_among (n ∷ l ∷ r ∷ [])) (is_among (n ∷ [])) (store_in 1 2 (store_in 6 0 hs.low))) (exchange (is_among (n ∷ l ∷ r ∷ [])) (is_among (n ∷ [])) (store_in 2 (x.right.content.level + 1) hs.high)) (record w.lock { settled = g n; mark = Some (frame_of (g n)) } ∷ hs.rest);
+              held = both_of hs.left_first (exchange (is_among (n ∷ l ∷ r ∷ [])) (is_among (n ∷ [])) (store_in 1 2 (store_in 6 0 hs.low))) (exchange (is_among (n ∷ l ∷ r ∷ [])) (is_among (n ∷ [])) (store_in 2 (x.right.content.level + 1) hs.high)) (record w.lock { settled = g n; mark = Some (frame_of (g n)) } ∷ []);
               out = both_left hs.left_first (not (is_among (n ∷ []) l)) (not (is_among (n ∷ []) r)) l r;
             };
           }
-          settled6 = settles t x k hs tree laws g (n ∷ []) change (parent_differs, left_differs, right_differs) (stored_log x.left.node 1 2 k5.log) (store_in 1 2 (store_in 6 0 hs.low)) (store_in 2 (x.right.content.level + 1) hs.high) w.lock held6 out6 now_low now_high now_upper on_n (λ some. absurd (some root))
+          settled6 = settles t x k hs tree laws g (n ∷ []) change (parent_differs, left_differs, right_differs) (stored_log x.left.node 1 2 k5.log) (store_in 1 2 (store_in 6 0 hs.low)) (store_in 2 (x.right.content.level + 1) hs.high) w.lock held6 out6 now_low now_high now_upper on_n
 
           frees_it : after_node_store x.left.node 1 2 k5.log ≡ settle None (stored_log x.left.node 1 2 k5.log)
           frees_it = ap (λ b. if b then settle None (stored_log x.left.node 1 2 k5.log) else stored_log x.left.node 1 2 k5.log) (ap is_marked found_low ∙ hs.left.marked)
@@ -241,7 +240,7 @@ module _ (t : Terms) (x : Siblings) (k k1 k2 : CallerData) (seen seen' : ℕ) (h
                     ∙ (λ i. both_of hs.left_first
                     (settled_gone (n ∷ l ∷ r ∷ []) (n ∷ []) (store_in 1 2 (store_in 6 0 hs.low)) (g l) (subst (λ m. is_among (n ∷ l ∷ r ∷ []) m ≡ true) (sym hs.left.node) (in_l t x k hs tree)) (subst (λ m. is_among (n ∷ []) m ≡ false) (sym hs.left.node) off_l) now_low.spells i)
                     (settled_gone (n ∷ l ∷ r ∷ []) (n ∷ []) (store_in 2 (x.right.content.level + 1) hs.high) (g r) (subst (λ m. is_among (n ∷ l ∷ r ∷ []) m ≡ true) (sym hs.right.node) (in_r t x k hs tree)) (subst (λ m. is_among (n ∷ []) m ≡ false) (sym hs.right.node) off_r) now_high.spells i)
-                    (record w.lock { settled = g n; mark = Some (frame_of (g n)) } ∷ none_beside n x.above.root_changed hs.rest root hs.root i));
+                    (record w.lock { settled = g n; mark = Some (frame_of (g n)) } ∷ []));
                 left = hs.left.node;
                 left_gone = refl;
                 right = hs.right.node;

@@ -18,17 +18,15 @@ use Rattle.word_rule.specs.declared.log.Holding.{Holding}
 use Rattle.word_rule.specs.declared.log.Terms.{Terms}
 use Rattle.node_store.specs.Entries.{leaf_without, with_entries, without_entry_at}
 use Rattle.node_store.specs.Holding.{SpellsHeld, StoresHeld}
-use Rattle.node_store.specs.Outlines.{OnlyLoads}
 use Rattle.btree_change.specs.Paths.{StepsOnNodes}
-use Rattle.btree_change.specs.Removing.{HoldsBesideRoot}
-use Rattle.btree_change.proofs.Descending.{steps_then}
+use Rattle.btree_change.specs.Removing.{HoldsAlone}
+use Rattle.btree_change.specs.declared.descent.Held.{Held}
 use Rattle.btree_change.proofs.Descents.{steps_of_load}
 use Rattle.btree_change.proofs.HeldLists.{found_head}
 use Rattle.btree_change.proofs.Lowering.{settled_live}
-use Rattle.btree_change.proofs.Outlining.{spells_held, steps_of_loads}
+use Rattle.btree_change.proofs.HeldOutlines.{alone_spells}
 use Rattle.btree_change.proofs.Putting.{leaf_at_zero}
 use Rattle.btree_change.proofs.Storing.{IsRewritten, rewritten_so}
-use Rattle.btree_change.proofs.Takings.{beside_far}
 
 -- what stands at a place is there whatever else would be
 stands_there : (es : List Member) (k : ℕ) (m : Member) → slice_get es k ≡ Some m → get_or es k m ≡ m
@@ -51,41 +49,30 @@ taken_there base begun s m leaf order held is stands =
     let here : begun - 1 ≡ found.0 = omega (arith, is, place) in
     found.1.there m ∙ ap Some (stands_there (entries_of s) found.0 m (ap (slice_get (entries_of s)) (sym here) ∙ stands))
 
-module _ (t : Terms) (n : ℕ) (s : NodeData) (b rb : Bool) (k k0 k1 : CallerData) (found : ℕ) (path : HoldsBesideRoot t n s b rb k.log.holdings) (level : s.level ≡ 0) (tree : KnowsTree k.log.holdings)
-    (load : k0 ≡ record k { log = after_node_load n 5 found k.log }) where
-  pub cut_leaf : IsLeaf s
-  cut_leaf = leaf_at_zero s (settled_live t n s b path.lock path.here).1.1.ordered level
+module _ (t : Terms) (at : Held) (k k1 : CallerData) (found : ℕ) (alone : HoldsAlone t at k.log.holdings) (load : k1 ≡ record k { log = after_node_load at.node 5 found k.log }) where
+  same_held : k1.log.holdings ≡ k.log.holdings
+  same_held = ap (λ (z : CallerData). z.log.holdings) load
 
-  same_first : k0.log.holdings ≡ k.log.holdings
-  same_first = ap (λ (z : CallerData). z.log.holdings) load
+  pub cut_leaf : at.content.level ≡ 0 → IsLeaf at.content
+  cut_leaf level = leaf_at_zero at.content (settled_live t at.node at.content at.changed alone.lock alone.here).1.1.ordered level
 
-  pub cut_spells_first : SpellsHeld n s k0.log
-  cut_spells_first = spells_held n s path.lock k0.log (ap (held_of n) (ap (λ hs. hs.held) same_first ∙ path.held) ∙ found_head n path.lock path.above path.here.node) path.here.spells
+  pub cut_alone : HoldsAlone t at k1.log.holdings
+  cut_alone = subst (HoldsAlone t at) (sym same_held) alone
 
-  module _ (loads : OnlyLoads k0 k1) where
-    same_held : k1.log.holdings ≡ k.log.holdings
-    same_held = ap (λ (z : CallerData). z.log.holdings) loads.1 ∙ same_first
+  pub cut_tree : KnowsTree k.log.holdings → KnowsTree k1.log.holdings
+  cut_tree tree = subst KnowsTree (sym same_held) tree
 
-    pub cut_path : HoldsBesideRoot t n s b rb k1.log.holdings
-    cut_path = subst (HoldsBesideRoot t n s b rb) (sym same_held) path
+  pub cut_spells : SpellsHeld at.node at.content k1.log
+  cut_spells = alone_spells t at k1.log cut_alone
 
-    pub cut_tree : KnowsTree k1.log.holdings
-    cut_tree = subst KnowsTree (sym same_held) tree
+  pub may_cut_there : MayStore at.node k1.log
+  may_cut_there = subst (λ o. IsSomeAnd o (λ (h : Holding). IsSome h.mark ⊎ IsTrue (is_among k1.log.holdings.out at.node))) (sym (ap (held_of at.node) cut_alone.held ∙ found_head at.node cut_alone.lock [] cut_alone.here.node)) (inl cut_alone.here.marked)
 
-    found_here : held_of n k1.log.holdings.held ≡ Some path.lock
-    found_here = ap (held_of n) (ap (λ hs. hs.held) same_held ∙ path.held) ∙ found_head n path.lock path.above path.here.node
+  pub cut_steps : StepsOnNodes k k1
+  cut_steps = steps_of_load at.node 5 found k k1 load
 
-    pub cut_spells : SpellsHeld n s k1.log
-    cut_spells = spells_held n s path.lock k1.log found_here path.here.spells
-
-    pub may_cut_there : MayStore n k1.log
-    may_cut_there = subst (λ o. IsSomeAnd o (λ (h : Holding). IsSome h.mark ⊎ IsTrue (is_among k1.log.holdings.out n))) (sym found_here) (inl path.here.marked)
-
-    pub cut_steps : StepsOnNodes k k1
-    cut_steps = steps_then k k0 k1 (steps_of_load n 5 found k k0 load) (steps_of_loads k0 k1 loads)
-
-    pub cut_written : (base begun : ℕ) (k2 : CallerData) → leaf_without (begun - 1) s ≡ record s { body = Entries (without base (entries_of s)) } → StoresHeld n (leaf_without (begun - 1) s) k1 k2 → SpellsHeld n (leaf_without (begun - 1) s) k2.log
-        → IsRewritten (record s { body = Entries (without base (entries_of s)) }) cut_path.lock [] cut_path.above k1 k2
-    cut_written base begun k2 is stores spells =
-        rewritten_so (record s { body = Entries (without base (entries_of s)) }) n cut_path.lock [] cut_path.above k1 k2 (λ e. omega (arith, e)) cut_path.here.node tt (beside_far n rb cut_path.above cut_path.root) cut_path.held
-        (subst (λ z. StoresHeld n z k1 k2) is stores) (subst (λ z. SpellsHeld n z k2.log) is spells)
+  pub cut_written : (base begun : ℕ) (k2 : CallerData) → leaf_without (begun - 1) at.content ≡ record at.content { body = Entries (without base (entries_of at.content)) } → StoresHeld at.node (leaf_without (begun - 1) at.content) k1 k2 → SpellsHeld at.node (leaf_without (begun - 1) at.content) k2.log
+      → IsRewritten (record at.content { body = Entries (without base (entries_of at.content)) }) cut_alone.lock [] [] k1 k2
+  cut_written base begun k2 is stores spells =
+      rewritten_so (record at.content { body = Entries (without base (entries_of at.content)) }) at.node cut_alone.lock [] [] k1 k2 (λ e. omega (arith, e)) cut_alone.here.node tt tt cut_alone.held
+      (subst (λ z. StoresHeld at.node z k1 k2) is stores) (subst (λ z. SpellsHeld at.node z k2.log) is spells)

@@ -31,8 +31,9 @@ use Rattle.word_rule.specs.declared.log.Receipts.{Receipts}
 use Rattle.word_rule.specs.declared.log.Terms.{Terms}
 use Rattle.btree_change.specs.Paths.{StepsOnNodes}
 use Rattle.btree_change.specs.Takings.{TakesMember}
-use Rattle.btree_change.specs.Removing.{HoldsBesideRoot, IsBeside, IsSpare, IsSpareAs}
-use Rattle.btree_change.proofs.LeafCommits.{LeafLaws, StaysAs, lawful_commit, settled_after}
+use Rattle.btree_change.specs.Removing.{HoldsAlone, IsSpare, IsSpareAs}
+use Rattle.btree_change.specs.declared.descent.Held.{Held}
+use Rattle.btree_change.proofs.LeafCommits.{LeafLaws, lawful_commit, settled_after}
 use Rattle.btree_change.proofs.Storing.{IsRewritten}
 use Rattle.word_rule.proofs.Each.{all_with}
 use Rattle.word_rule.proofs.Listings.{there_at}
@@ -59,39 +60,36 @@ enough : (n base : ℕ) (s : NodeData) (m : Member) → IsLeaf s → IsSpare n s
 enough zero base s m leaf spare e = some_there base (entries_of s) m e
 enough (suc n) base s m leaf spare e = rw (ne_eqb (suc n) 0 (λ z. omega (arith, z))) (subst IsSpareAs leaf spare)
 
--- what is held beside a node stays as it is
-pub beside_stays : (n m : ℕ) (changed : Bool) (above : List Holding) → m ≡ n → IsBeside n changed above → AllByRecursion (StaysAs m) above
-beside_stays zero m changed above same is = subst (AllByRecursion (StaysAs m)) (sym is) tt
-beside_stays (suc n) m changed above same (root, (is, lock)) = subst (AllByRecursion (StaysAs m)) (sym is) (record { far = λ e. (let z = lock.node in omega (arith, e, z, same)); spells = lock.spells; inner = lock.inner }, tt)
-
-pub beside_far : (n : ℕ) (changed : Bool) (above : List Holding) → IsBeside n changed above → AllByRecursion (λ a. a.node ≢ n) above
-beside_far zero changed above is = subst (AllByRecursion (λ (a : Holding). a.node ≢ zero)) (sym is) tt
-beside_far (suc n) changed above (root, (is, lock)) = subst (AllByRecursion (λ (a : Holding). a.node ≢ suc n)) (sym is) ((λ e. (let z = lock.node in omega (arith, e, z))), tt)
-
 -- the entries of the live nodes that are held are registered
 abbrev pub EntriesAre : List Member → List Holding → Type 0
 EntriesAre registered held = AllByRecursion (λ h. IsSome h.mark → (m : Member) → Contains (entries_of h.settled) m → at_base m.span.first registered ≡ Some m) held
 
-module _ (law : TakeLaw) (laws : LeafLaws) (t : Terms) (n base : ℕ) (s : NodeData) (m : Member) (changed root_changed : Bool) (k k1 k2 : CallerData) (path : HoldsBesideRoot t n s changed root_changed k1.log.holdings) (tree : KnowsTree k1.log.holdings) (leaf : IsLeaf s) (level : s.level ≡ 0)
-    (fences : IsInFences base s) (spare : IsSpare n s) (has : at_base base (entries_of s) ≡ Some m) (written : IsRewritten (record s { body = Entries (without base (entries_of s)) }) path.lock [] path.above k1 k2) where
+module _ (law : TakeLaw) (laws : LeafLaws) (t : Terms) (at : Held) (base : ℕ) (m : Member) (k k1 k2 : CallerData) (alone : HoldsAlone t at k1.log.holdings) (tree : KnowsTree k1.log.holdings) (leaf : IsLeaf at.content) (level : at.content.level ≡ 0)
+    (fences : IsInFences base at.content) (spare : IsSpare at.node at.content) (has : at_base base (entries_of at.content) ≡ Some m) (written : IsRewritten (record at.content { body = Entries (without base (entries_of at.content)) }) alone.lock [] [] k1 k2) where
+  abbrev n : ℕ
+  n = at.node
+
+  abbrev s : NodeData
+  s = at.content
+
   abbrev now : NodeData
   now = record s { body = Entries (without base (entries_of s)) }
 
-  told : IsTrue (tree.live path.lock.node) × (tree.contents path.lock.node ≡ path.lock.settled)
-  told = (subst (AllByRecursion (λ (h : Holding). IsSome h.mark → IsTrue (tree.live h.node) × (tree.contents h.node ≡ h.settled))) path.held tree.marked).0 path.here.marked
+  told : IsTrue (tree.live alone.lock.node) × (tree.contents alone.lock.node ≡ alone.lock.settled)
+  told = (subst (AllByRecursion (λ (h : Holding). IsSome h.mark → IsTrue (tree.live h.node) × (tree.contents h.node ≡ h.settled))) alone.held tree.marked).0 alone.here.marked
 
   -- the tree with the leaf changed
   abbrev after : Contents
   after = updated tree.contents written.lock.node (record s { body = Entries (without base (entries_of s)) })
 
   contents_here : tree.contents written.lock.node ≡ s
-  contents_here = ap tree.contents written.node ∙ (told.1 ∙ path.here.settled)
+  contents_here = ap tree.contents written.node ∙ (told.1 ∙ alone.here.settled)
 
   after_here : after written.lock.node ≡ now
   after_here = rw (eq-eqb written.lock.node written.lock.node refl) refl
 
   node : written.lock.node ≡ n
-  node = written.node ∙ path.here.node
+  node = written.node ∙ alone.here.node
 
   take : IsTake tree.contents tree.live written.lock.node base m after
   take = record {
@@ -109,31 +107,28 @@ module _ (law : TakeLaw) (laws : LeafLaws) (t : Terms) (n base : ℕ) (s : NodeD
   in_leaf = let a = le-leb s.low base fences.0 in let b = le-leb base s.high fences.1 in rw (a, b) refl
 
   marked : is_some written.lock.mark ≡ true
-  marked = ap is_some written.mark ∙ path.here.marked
+  marked = ap is_some written.mark ∙ alone.here.marked
 
   here : tree.contents written.lock.node ≡ written.lock.settled
-  here = contents_here ∙ (sym path.here.settled ∙ sym written.settled)
-
-  stays : AllByRecursion (StaysAs written.lock.node) path.above
-  stays = beside_stays n written.lock.node root_changed path.above node path.root
+  here = contents_here ∙ (sym alone.here.settled ∙ sym written.settled)
 
   abbrev exact : Log
-  exact = record k2.log { holdings = record { held = written.lock ∷ path.above; out = [] } }
+  exact = record k2.log { holdings = record { held = written.lock ∷ []; out = [] } }
 
   exact_is : exact ≡ k2.log
-  exact_is = (λ i. record k2.log { holdings = record { held = sym written.held i; out = sym (written.out ∙ path.out) i } })
+  exact_is = (λ i. record k2.log { holdings = record { held = sym written.held i; out = sym (written.out ∙ alone.out) i } })
 
   pub may_take : 0 < k2.log.budget.allowance → MayCommit t (update.Deregister base) k2.log
   may_take due = record {
     due = due;
     member = tt;
     lawful = subst (λ z. IsTrue (is_lawful z (Some (update.Deregister base)))) exact_is
-        (lawful_commit laws k2.log (update.Deregister base) written.lock path.above now marked written.spells stays in_leaf level tree.contents tree.live after here after_here change);
+        (lawful_commit laws k2.log (update.Deregister base) written.lock [] now marked written.spells tt in_leaf level tree.contents tree.live after here after_here change);
   }
 
-  settles : settle (Some (update.Deregister base)) k2.log ≡ record k2.log { holdings = record { held = record written.lock { settled = now; mark = Some (frame_of now) } ∷ path.above; out = [] } }
+  settles : settle (Some (update.Deregister base)) k2.log ≡ record k2.log { holdings = record { held = record written.lock { settled = now; mark = Some (frame_of now) } ∷ []; out = [] } }
   settles = ap (settle (Some (update.Deregister base))) (sym exact_is)
-      ∙ settled_after laws k2.log (update.Deregister base) written.lock path.above now marked written.spells stays in_leaf level tree.contents tree.live after here after_here change
+      ∙ settled_after laws k2.log (update.Deregister base) written.lock [] now marked written.spells tt in_leaf level tree.contents tree.live after here after_here change
 
   differs : s ≢ now
   differs e = none-some m (sym (none_without base (entries_of s)) ∙ (ap (λ (z : NodeData). at_base base (entries_of z)) (sym e) ∙ has))
@@ -142,15 +137,15 @@ module _ (law : TakeLaw) (laws : LeafLaws) (t : Terms) (n base : ℕ) (s : NodeD
   registered : (members : List Member) → EntriesAre members k2.log.holdings.held → at_base base members ≡ Some m
   registered members entries =
       let there = there_at base (entries_of s) m has in
-      let told = (subst (EntriesAre members) written.held entries).0 marked m (subst (λ (z : NodeData). Contains (entries_of z) m) (sym (written.settled ∙ path.here.settled)) there.0) in
+      let told = (subst (EntriesAre members) written.held entries).0 marked m (subst (λ (z : NodeData). Contains (entries_of z) m) (sym (written.settled ∙ alone.here.settled)) there.0) in
       subst (λ b. at_base b members ≡ Some m) there.1 told
 
   done_is : (number : ℕ) (members : List Member) (r : Receipt) → at_base base members ≡ Some m → IsSomeAnd (at_base base members) (λ x. r ≡ receipt.Deregister base (removed.Done number x)) → r ≡ receipt.Deregister base (removed.Done number m)
   done_is number members r e done = subst (λ o. IsSomeAnd o (λ x. r ≡ receipt.Deregister base (removed.Done number x))) e done
 
-  pub take_so : (k3 : CallerData) (found number : ℕ) → StepsOnNodes k k2 → k.log.terms ≡ t → AfterCommit (update.Deregister base) found k2.log k3.log → number ≡ length k3.log.past → k3 ≡ record k2 { log = k3.log } → TakesMember t base n root_changed number m k k3
+  pub take_so : (k3 : CallerData) (found number : ℕ) → StepsOnNodes k k2 → k.log.terms ≡ t → AfterCommit (update.Deregister base) found k2.log k3.log → number ≡ length k3.log.past → k3 ≡ record k2 { log = k3.log } → TakesMember t base at.node number m k k3
   take_so k3 found number steps terms (before, r, (tells, done, is)) counted rest =
-      let log : k3.log ≡ after_update (update.Deregister base) before r (record k2.log { holdings = record { held = record written.lock { settled = now; mark = Some (frame_of now) } ∷ path.above; out = [] } }) = is ∙ ap (after_update (update.Deregister base) before r) settles in
+      let log : k3.log ≡ after_update (update.Deregister base) before r (record k2.log { holdings = record { held = record written.lock { settled = now; mark = Some (frame_of now) } ∷ []; out = [] } }) = is ∙ ap (after_update (update.Deregister base) before r) settles in
       let past : k3.log.past ≡ before ++ update.Deregister base ∷ [] = ap (λ z. z.past) log in
       let member = registered (state_after (start k2.log.terms) before).registered tells.entries in
       let answer : r ≡ receipt.Deregister base (removed.Done number m) = done_is (length before + 1) (state_after (start k2.log.terms) before).registered r member done ∙ ap (λ j. receipt.Deregister base (removed.Done j m)) (sym (counted ∙ (ap length past ∙ length-append before (update.Deregister base ∷ [])))) in
@@ -167,12 +162,10 @@ module _ (law : TakeLaw) (laws : LeafLaws) (t : Terms) (n base : ℕ) (s : NodeD
         budget = ap (λ z. z.budget) log ∙ ap (λ (b : Budget). record b { allowance = b.allowance - 1 }) steps.budget;
         holds = record {
           lock = record written.lock { settled = now; mark = Some (frame_of now) };
-          above = path.above;
           held = ap (λ z. z.holdings.held) log;
           node = node;
           spells = written.spells;
-          stored = written.stored s path.here.spells differs;
-          root = path.root;
+          stored = written.stored s alone.here.spells differs;
         };
         out = ap (λ z. z.holdings.out) log;
       }

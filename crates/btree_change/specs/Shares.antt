@@ -9,7 +9,7 @@ use Rattle.btree_change.specs.declared.sibling.Siblings.{Siblings}
 -- what two children hold once they have even shares, and their parent
 abbrev pub shares_for : Siblings → Shares
 shares_for x =
-    let a = x.left.content in let b = x.right.content in let s = x.above.at.content in record {
+    let a = x.left.content in let b = x.right.content in let s = x.above.content in record {
       left = first_half (share_of a b) (joined a b);
       right = last_half (share_of a b) (joined a b);
       above = record s {

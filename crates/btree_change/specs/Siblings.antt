@@ -1,9 +1,8 @@
--- Nodes that a removal holds below a node of its way: a child of it, or two neighbouring children.
+-- Nodes that a removal holds below another: a child of it, or two neighbouring children.
 use Rattle.std.specs.Prelude.{◌≡◌, ◌≢◌, ℕ, ◌+◌, ◌<◌, ◌≤◌, Bool, true, false, List, [], ◌∷◌, length}
 use Rattle.std.specs.Prelude.{IsSome, IsTrue, Some, None, nat_lt}
 use Rattle.std.specs.List.{slice_get}
 use Rattle.tree_shape.specs.Changes.{joined, pair}
-use Rattle.tree_shape.specs.Decisions.{is_entries}
 use Rattle.tree_shape.specs.NodeData.{NodeData, AreNeighbours, Body, Pairs, Entries, Link}
 use Rattle.tree_shape.specs.NodeData.{IsInFences, pairs_of}
 use Rattle.tree_shape.specs.Numbers.{is_among}
@@ -20,46 +19,38 @@ use Rattle.btree_change.specs.Releases.{Spends}
 use Rattle.node_store.specs.Locking.{FoundBusy}
 use Rattle.node_store.specs.declared.locking.Busy.{Busy}
 use Rattle.node_store.specs.declared.locking.Busy.TheVariants as busy
-use Rattle.btree_change.specs.Removing.{HoldsBesideRoot, HoldsLocks, IsBeside, IsSpare}
+use Rattle.btree_change.specs.Removing.{HoldsAlone, HoldsLock, IsSpare}
 use Rattle.btree_change.specs.Splits.{IsHeldAs}
 
--- A node is held under another, which has settled, and beside that the root; no node is out.
-pub record HoldsUnder (t : Terms) (n : ℕ) (changed root_changed : Bool) (at : Held)
-    (holdings : Holdings) : Type 0 where
+-- A node is held under another, which has settled, and nothing else; no node is out.
+pub record HoldsUnder (t : Terms) (n : ℕ) (changed : Bool) (at : Held) (holdings : Holdings)
+    : Type 0 where
   pub within : at.node < t.nodes
-  pub no_root : at.node ≢ 0
   pub no_parent : at.node ≢ n
   pub lower : Holding
   pub upper : Holding
-  pub rest : List Holding
-  pub held : holdings.held ≡ lower ∷ upper ∷ rest
+  pub held : holdings.held ≡ lower ∷ upper ∷ []
   pub here : IsHeldAs t at lower
   pub node : upper.node ≡ n
   pub spells : SpellsNode upper.words upper.settled
-  pub inner : is_entries upper.settled.body ≡ false
   pub stored : upper.stored ≡ changed
-  pub marked : IsSome upper.mark
-  pub root : IsBeside n root_changed rest
   pub out : holdings.out ≡ []
 
 -- A child is held under its parent, as the pair at the slot names it. It has the address.
 pub record HoldsChild (t : Terms) (child : Child) (pc : ℕ) (holdings : Holdings) : Type 0 where
-  pub parent_within : child.above.at.node < t.nodes
+  pub parent_within : child.above.node < t.nodes
   pub within : child.at.node < t.nodes
-  pub no_root : child.at.node ≢ 0
-  pub no_parent : child.at.node ≢ child.above.at.node
+  pub no_parent : child.at.node ≢ child.above.node
   pub lower : Holding
   pub upper : Holding
-  pub rest : List Holding
-  pub held : holdings.held ≡ lower ∷ upper ∷ rest
+  pub held : holdings.held ≡ lower ∷ upper ∷ []
   pub here : IsHeldAs t child.at lower
   pub clean : child.at.changed ≡ false
-  pub parent : IsHeldAs t child.above.at upper
-  pub root : IsBeside child.above.at.node child.above.root_changed rest
+  pub parent : IsHeldAs t child.above upper
   pub out : holdings.out ≡ []
-  pub at : slice_get (pairs_of child.above.at.content) child.slot
+  pub at : slice_get (pairs_of child.above.content) child.slot
       ≡ Some (pair child.at.node child.at.content.high)
-  pub level : child.at.content.level + 1 ≡ child.above.at.content.level
+  pub level : child.at.content.level + 1 ≡ child.above.content.level
   pub fences : IsInFences pc child.at.content
 
 -- two locks before others, the left one first or the right one
@@ -70,26 +61,24 @@ both_of false left right more = right ∷ left ∷ more
 -- Two neighbouring children are held under their parent, as the pairs at the slot and after it name
 -- them. One of the two has the address.
 pub record HoldsSiblings (t : Terms) (x : Siblings) (holdings : Holdings) : Type 0 where
-  pub parent_within : x.above.at.node < t.nodes
+  pub parent_within : x.above.node < t.nodes
   pub left_within : x.left.node < t.nodes
   pub right_within : x.right.node < t.nodes
   pub left_first : Bool
   pub low : Holding
   pub high : Holding
   pub upper : Holding
-  pub rest : List Holding
-  pub held : holdings.held ≡ both_of left_first low high (upper ∷ rest)
+  pub held : holdings.held ≡ both_of left_first low high (upper ∷ [])
   pub left : IsHeldAs t x.left low
   pub right : IsHeldAs t x.right high
-  pub parent : IsHeldAs t x.above.at upper
-  pub root : IsBeside x.above.at.node x.above.root_changed rest
+  pub parent : IsHeldAs t x.above upper
   pub out : holdings.out ≡ []
-  pub at : slice_get (pairs_of x.above.at.content) x.slot
+  pub at : slice_get (pairs_of x.above.content) x.slot
       ≡ Some (pair x.left.node x.left.content.high)
-  pub next : slice_get (pairs_of x.above.at.content) (x.slot + 1)
+  pub next : slice_get (pairs_of x.above.content) (x.slot + 1)
       ≡ Some (pair x.right.node x.right.content.high)
   pub neighbours : AreNeighbours x.left.content x.right.content
-  pub level : x.left.content.level + 1 ≡ x.above.at.content.level
+  pub level : x.left.content.level + 1 ≡ x.above.content.level
 
 -- an address lies between the ends of both
 abbrev pub IsInEither : ℕ → Siblings → Type 0
@@ -109,17 +98,17 @@ is_small_body (Link next) = false
 
 -- Two children were joined, or given even shares: one of them is held under its parent, and both
 -- have settled.
-pub record MendsSiblings (t : Terms) (x : Siblings) (way : Held) (k k' : CallerData) : Type 0 where
-  pub holds : HoldsUnder t x.above.at.node true x.above.root_changed way k'.log.holdings
-  pub level : way.content.level + 1 ≡ x.above.at.content.level
-  pub spare : IsSpare way.node way.content
+pub record MendsSiblings (t : Terms) (x : Siblings) (at : Held) (k k' : CallerData) : Type 0 where
+  pub holds : HoldsUnder t x.above.node true at k'.log.holdings
+  pub level : at.content.level + 1 ≡ x.above.content.level
+  pub spare : IsSpare at.node at.content
   pub spends : Spends 1 k k'
 
 -- The root took the place of its only two children, which aren't held any more.
-pub record SinksRoot (t : Terms) (x : Siblings) (way : Held) (k k' : CallerData) : Type 0 where
-  pub node : way.node ≡ 0
-  pub holds : HoldsBesideRoot t way.node way.content way.changed false k'.log.holdings
-  pub level : way.content.level + 1 ≡ x.above.at.content.level
+pub record SinksRoot (t : Terms) (x : Siblings) (at : Held) (k k' : CallerData) : Type 0 where
+  pub node : at.node ≡ 0
+  pub holds : HoldsAlone t at k'.log.holdings
+  pub level : at.content.level + 1 ≡ x.above.content.level
   pub spends : Spends 2 k k'
 
 -- Two children were written as one, and the right one is out; it is still held.
@@ -128,8 +117,7 @@ pub record HoldsGone (t : Terms) (x : Siblings) (holdings : Holdings) : Type 0 w
   pub low : Holding
   pub high : Holding
   pub upper : Holding
-  pub rest : List Holding
-  pub held : holdings.held ≡ both_of left_first low high (upper ∷ rest)
+  pub held : holdings.held ≡ both_of left_first low high (upper ∷ [])
   pub out : holdings.out ≡ x.right.node ∷ []
   pub left : low.node ≡ x.left.node
   pub content : low.settled ≡ joined x.left.content x.right.content
@@ -138,14 +126,10 @@ pub record HoldsGone (t : Terms) (x : Siblings) (holdings : Holdings) : Type 0 w
   pub marked : IsSome low.mark
   pub right : high.node ≡ x.right.node
   pub gone : high.mark ≡ None
-  pub parent : upper.node ≡ x.above.at.node
+  pub parent : upper.node ≡ x.above.node
   pub parent_spells : SpellsNode upper.words upper.settled
-  pub parent_inner : is_entries upper.settled.body ≡ false
   pub parent_stored : upper.stored ≡ true
-  pub parent_marked : IsSome upper.mark
-  pub root : IsBeside x.above.at.node x.above.root_changed rest
-  pub no_root : (x.left.node ≢ 0) × (x.right.node ≢ 0)
-  pub no_parent : (x.left.node ≢ x.above.at.node) × (x.right.node ≢ x.above.at.node)
+  pub no_parent : (x.left.node ≢ x.above.node) × (x.right.node ≢ x.above.node)
   pub different : x.left.node ≢ x.right.node
   pub spare : IsSpare x.left.node (joined x.left.content x.right.content)
 
@@ -153,7 +137,7 @@ pub record HoldsGone (t : Terms) (x : Siblings) (holdings : Holdings) : Type 0 w
 abbrev pub sunk_root : Siblings → NodeData
 sunk_root x =
     let both = joined x.left.content x.right.content in
-    record both { low = x.above.at.content.low; high = x.above.at.content.high }
+    record both { low = x.above.content.low; high = x.above.content.high }
 
 -- The root was written as its only two children, and both are out; they are still held.
 pub record HoldsSunk (x : Siblings) (holdings : Holdings) : Type 0 where
@@ -193,13 +177,12 @@ pub record KeepsOut (n : ℕ) (why : Busy) (k k' : CallerData) : Type 0 where
   pub held : k'.log.holdings.held ≡ without_lock n k.log.holdings.held
   pub out : k'.log.holdings.out ≡ k.log.holdings.out
 
--- A node that left the tree was lost. The way above is held still, changed; the two children are
--- not.
-pub record LeavesWay (x : Siblings) (why : Busy) (k k' : CallerData) : Type 0 where
+-- A node that left the tree was lost. The parent is held still, changed; the two children are not.
+pub record LeavesParent (x : Siblings) (why : Busy) (k k' : CallerData) : Type 0 where
   pub lost : why ≡ busy.Lost
   pub cause : FoundBusy why k k'
   pub spends : Spends 2 k k'
-  pub way : HoldsLocks x.above.at.node true x.above.root_changed k'.log.holdings
+  pub above : HoldsLock x.above.node true k'.log.holdings
   pub out : length k'.log.holdings.out ≤ 2
 
 -- A node was given back, and all else that is held is as it was.

@@ -24,7 +24,6 @@ mod split;
 mod stand;
 mod taking;
 mod walk;
-mod way;
 
 pub use insertion::{insert, insert_by, try_insert};
 pub use removal::{remove, remove_by, try_remove};

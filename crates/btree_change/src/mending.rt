@@ -9,9 +9,10 @@ ghost use Rattle.tree_shape.specs.NodeData.{IsInFences, Pairs, pairs_of};
 ghost use Rattle.tree_shape.specs.Numbers.{is_among};
 ghost use Rattle.word_rule.specs.CallerData.{surplus};
 ghost use Rattle.word_rule.specs.Held.{held_of};
+ghost use Rattle.node_store.specs.Holding.{SpellsHeld};
 ghost use Rattle.btree_change.specs.Paths.{StepsOnNodes};
 ghost use Rattle.btree_change.specs.Siblings.{ReturnsNode, HoldsGone, HoldsSiblings, IsInEither};
-ghost use Rattle.btree_change.specs.Siblings.{KeepsOut, LeavesWay};
+ghost use Rattle.btree_change.specs.Siblings.{KeepsOut, LeavesParent};
 ghost use Rattle.btree_change.specs.Shares.{IsChosen, shares_for};
 ghost use Rattle.btree_change.specs.Siblings.{HoldsSunk, sunk_root};
 ghost use Rattle.btree_change.specs.Siblings.{IsGoneOrSettled, MendsSiblings, SinksRoot};
@@ -19,12 +20,23 @@ ghost use Rattle.btree_change.specs.Siblings.{is_small_body};
 
 use crate::descent::{Held, let_go_of};
 use crate::sibling::Siblings;
-use crate::way::content_of;
-use node_store::{Busy, Locking, Outline, give_free, outline_of, write_held};
+use node_store::{Busy, Locking, Outline, give_free, outline_of, read_held, write_held};
 use tree_shape::{Node, drop_pair, even_pair, join_pair, laws, set_separator, sink_root};
 use word_rule::exchange::exchange_decided;
 use word_rule::places::{FREE, KIND, LEVEL, LINK};
 use word_rule::{Caller, LockId, Words};
+
+/// What a held node holds.
+fn content_of(words: &Words, me: &mut Caller, at: &Held) -> Node
+    requires table { me.old.table ≡ words.now.table }
+    requires inside { at.now.node < words.now.terms.nodes }
+    requires spells { SpellsHeld at.now.node at.now.content me.old.log }
+    ensures content { result ≡ at.now.content }
+    ensures steps { StepsOnNodes me.old me.new }
+    ensures holdings { me.new.log.holdings ≡ me.old.log.holdings }
+{
+    read_held(words, me, at.node)
+}
 
 /// Gives back a node that is out, where all else that is held has settled.
 fn give_back<L: Locking>(locking: &L, words: &Words, me: &mut Caller, node: u32) -> Result<(), Busy>
@@ -48,10 +60,10 @@ fn join_into_left(words: &Words, me: &mut Caller, x: &Siblings, content: &Node, 
     requires terms { me.old.log.terms ≡ words.now.terms }
     requires held { HoldsSiblings words.now.terms x.now me.old.log.holdings }
     requires fit { Fit x.now.left.content x.now.right.content }
-    requires spare { fewest_pairs x.now.above.at.node < length (pairs_of x.now.above.at.content) }
+    requires spare { fewest_pairs x.now.above.node < length (pairs_of x.now.above.content) }
     requires content { content.now ≡ joined x.now.left.content x.now.right.content }
-    requires above { above.now ≡ record x.now.above.at.content {
-      body = Pairs (at_slot swallow_next x.now.slot (pairs_of x.now.above.at.content));
+    requires above { above.now ≡ record x.now.above.content {
+      body = Pairs (at_slot swallow_next x.now.slot (pairs_of x.now.above.content));
     } }
     ensures gone { HoldsGone words.now.terms x.now me.new.log.holdings }
     ensures same { StepsOnNodes me.old me.new }
@@ -63,7 +75,7 @@ fn join_into_left(words: &Words, me: &mut Caller, x: &Siblings, content: &Node, 
     // By this load it is known of which tree the nodes are.
     words.load_node(me, x.right.node, LEVEL);
     write_held(words, me, x.left.node, content);
-    write_held(words, me, x.above.at.node, above);
+    write_held(words, me, x.above.node, above);
     // A base above 2^32 in the place of the link would spell no node.
     words.store_node(me, x.right.node, LINK, 0);
     words.store_node(me, x.right.node, KIND, FREE);
@@ -81,18 +93,18 @@ pub(crate) fn join<L: Locking>(
     requires terms { me.old.log.terms ≡ words.now.terms }
     requires held { HoldsSiblings words.now.terms x.now me.old.log.holdings }
     requires fit { Fit x.now.left.content x.now.right.content }
-    requires spare { fewest_pairs x.now.above.at.node < length (pairs_of x.now.above.at.content) }
+    requires spare { fewest_pairs x.now.above.node < length (pairs_of x.now.above.content) }
     requires surplus { 1 < surplus me.old }
     ensures mends { IfOk result
         (λ at. MendsSiblings words.now.terms x.now at me.old me.new
         × (at.content ≡ joined x.now.left.content x.now.right.content)) }
-    ensures lost { IfErr result (λ e. LeavesWay x.now e me.old me.new × (L.gives_up ≡ true)) }
+    ensures lost { IfErr result (λ e. LeavesParent x.now e me.old me.new × (L.gives_up ≡ true)) }
 {
     // By this load it is known that they are three nodes.
     words.load_node(me, x.right.node, LEVEL);
     let left = content_of(words, me, &x.left);
     let right = content_of(words, me, &x.right);
-    let parent = content_of(words, me, &x.above.at);
+    let parent = content_of(words, me, &x.above);
     let both = join_pair(&left, &right);
     let above = drop_pair(&parent, x.slot);
     join_into_left(words, me, x, &both, &above);
@@ -131,7 +143,7 @@ fn shares_of(words: &Words, me: &mut Caller, x: &Siblings) -> Shares
     words.load_node(me, x.right.node, LEVEL);
     let first = content_of(words, me, &x.left);
     let last = content_of(words, me, &x.right);
-    let parent = content_of(words, me, &x.above.at);
+    let parent = content_of(words, me, &x.above);
     let (left, right) = even_pair(&first, &last);
     let above = set_separator(&parent, x.slot, left.high);
     Shares { left, right, above }
@@ -188,10 +200,10 @@ pub(crate) fn share<L: Locking>(
     exchange_decided();
     let shares = shares_of(words, me, x);
     // By this load it is known of which tree the nodes are.
-    words.load_node(me, x.above.at.node, LEVEL);
+    words.load_node(me, x.above.node, LEVEL);
     write_held(words, me, x.left.node, &shares.left);
     write_held(words, me, x.right.node, &shares.right);
-    write_held(words, me, x.above.at.node, &shares.above);
+    write_held(words, me, x.above.node, &shares.above);
     let chosen = choose(x, &shares, pc);
     locking.let_go(words, me, LockId::Node { node: chosen.other });
     let node = chosen.node;
@@ -216,8 +228,8 @@ fn sink_into_root(words: &Words, me: &mut Caller, x: &Siblings, content: &Node)
     requires table { me.old.table ≡ words.now.table }
     requires terms { me.old.log.terms ≡ words.now.terms }
     requires held { HoldsSiblings words.now.terms x.now me.old.log.holdings }
-    requires root { x.now.above.at.node ≡ 0 }
-    requires two { length (pairs_of x.now.above.at.content) ≡ 2 }
+    requires root { x.now.above.node ≡ 0 }
+    requires two { length (pairs_of x.now.above.content) ≡ 2 }
     requires fit { Fit x.now.left.content x.now.right.content }
     requires content { content.now ≡ sunk_root x.now }
     ensures gone { HoldsSunk x.now me.new.log.holdings }
@@ -230,7 +242,7 @@ fn sink_into_root(words: &Words, me: &mut Caller, x: &Siblings, content: &Node)
     // By these loads it is known of which tree the nodes are.
     words.load_node(me, x.left.node, LEVEL);
     words.load_node(me, x.right.node, LEVEL);
-    write_held(words, me, x.above.at.node, content);
+    write_held(words, me, x.above.node, content);
     // The right one must differ too, so as to leave with the left one.
     words.store_node(me, x.right.node, LEVEL, next_level(&x.right.content));
     words.store_node(me, x.left.node, LINK, 0);
@@ -248,19 +260,19 @@ pub(crate) fn sink<L: Locking>(
     requires table { me.old.table ≡ words.now.table }
     requires terms { me.old.log.terms ≡ words.now.terms }
     requires held { HoldsSiblings words.now.terms x.now me.old.log.holdings }
-    requires root { x.now.above.at.node ≡ 0 }
-    requires two { length (pairs_of x.now.above.at.content) ≡ 2 }
+    requires root { x.now.above.node ≡ 0 }
+    requires two { length (pairs_of x.now.above.content) ≡ 2 }
     requires fit { Fit x.now.left.content x.now.right.content }
     requires surplus { 1 < surplus me.old }
     ensures sinks { IfOk result (λ at. SinksRoot words.now.terms x.now at me.old me.new
         × (at.content ≡ sunk_root x.now)) }
-    ensures lost { IfErr result (λ e. LeavesWay x.now e me.old me.new × (L.gives_up ≡ true)) }
+    ensures lost { IfErr result (λ e. LeavesParent x.now e me.old me.new × (L.gives_up ≡ true)) }
 {
     // By this load it is known that they are three nodes.
     words.load_node(me, x.right.node, LEVEL);
     let left = content_of(words, me, &x.left);
     let right = content_of(words, me, &x.right);
-    let root = content_of(words, me, &x.above.at);
+    let root = content_of(words, me, &x.above);
     let sunk = sink_root(&root, &left, &right);
     sink_into_root(words, me, x, &sunk);
     if let Err(busy) = give_back(locking, words, me, x.left.node) {

@@ -1,5 +1,5 @@
 //! The removal of the member that begins at an address.
-ghost use Rattle.std.specs.Prelude.{◌≡◌, ◌≤◌, ◌<◌, ◌-◌, ◌^◌, ◌+◌, ◌||◌, ◌≢◌, ℕ, true, false};
+ghost use Rattle.std.specs.Prelude.{◌≡◌, ◌≤◌, ◌<◌, ◌+◌, ◌||◌, ◌≢◌, true, false};
 ghost use Rattle.std.specs.Prelude.{IsTrue, IfOk, IfErr, length};
 ghost use Rattle.tree_shape.specs.Changes.{Fit, Overfill};
 ghost use Rattle.tree_shape.specs.Lawful.{IsFilled, IsOrdered};
@@ -12,39 +12,18 @@ ghost use Rattle.word_rule.specs.Places.{CALL_CREDIT};
 ghost use Rattle.btree_change.specs.Paths.{HoldsLeftOver, HoldsNothing};
 ghost use Rattle.btree_change.specs.Releases.{Spends};
 ghost use Rattle.btree_change.specs.Removal.{AnswersRemoval, Removes, TriesRemoval};
-ghost use Rattle.btree_change.specs.Removing.{HoldsBesideRoot, IsSpare};
+ghost use Rattle.btree_change.specs.Removing.{HoldsAlone, IsSpare};
 ghost use Rattle.btree_change.specs.Updates.{GivesUp};
 
-use crate::descent::at_root;
+use crate::descent::{Held, at_root, let_go_of};
 use crate::mending::{join, share, sink};
-use crate::sibling::{Siblings, is_leaf, is_small, leave, pair_count, take_child, take_sibling};
+use crate::sibling::{Siblings, is_leaf, is_small, pair_count, take_child, take_sibling};
 use crate::taking::{not_found, take_in_leaf};
-use crate::way::{Way, let_go_of_way};
 use node_store::{Busy, Locking, Trying, Waiting, begun_in};
 use reg_model::Removed;
 use std::sync::Wait;
 use tree_shape::{ENTRIES, PAIRS};
 use word_rule::{Caller, Words};
-
-/// Takes the root, and outlines it: the way begins there.
-fn root_of_way<L: Locking>(locking: &L, words: &Words, me: &mut Caller) -> Result<Way, Busy>
-    requires table { me.old.table ≡ words.now.table }
-    requires idle { IsIdle me.old.log }
-    ensures ok { IfOk result (λ way. HoldsBesideRoot words.now.terms way.at.node way.at.content
-        way.at.changed way.root_changed me.new.log.holdings
-        × (way.at.node ≡ 0) × (way.at.content.level ≤ 12)
-        × ((pc : ℕ) → pc ≤ 2 ^ 64 - 1 → IsInFences pc way.at.content)) }
-    ensures busy { IfErr result (λ e. HoldsNothing me.new.log.holdings × (L.gives_up ≡ true)) }
-    ensures cause { IfErr result (λ e. FoundBusy e me.old me.new) }
-    ensures spends { Spends 0 me.old me.new }
-    ensures terms { me.old.log.terms ≡ words.now.terms }
-{
-    let at = at_root(locking, words, me)?;
-    Ok(Way {
-        at,
-        root_changed: false,
-    })
-}
 
 /// Whether two neighbours fit into one node.
 fn fit(x: &Siblings) -> bool
@@ -63,107 +42,99 @@ fn fit(x: &Siblings) -> bool
     }
 }
 
-/// The way with a node in which a word was stored.
-fn changed(mut way: Way) -> Way
-    ensures { result ≡ record way { at = record way.at { changed = true } } }
-{
-    way.at.changed = true;
-    way
-}
-
 /// Whether two children that fit into one leave a root that has no others.
 fn sinks(x: &Siblings) -> bool
-    requires { IsInner x.now.above.at.content }
-    ensures root { result ≡ true → x.now.above.at.node ≡ 0 }
-    ensures two { result ≡ true → length (pairs_of x.now.above.at.content) ≡ 2 }
-    ensures more { result ≡ false → x.now.above.at.node ≡ 0
-        → length (pairs_of x.now.above.at.content) ≢ 2 }
+    requires { IsInner x.now.above.content }
+    ensures root { result ≡ true → x.now.above.node ≡ 0 }
+    ensures two { result ≡ true → length (pairs_of x.now.above.content) ≡ 2 }
+    ensures more { result ≡ false → x.now.above.node ≡ 0
+        → length (pairs_of x.now.above.content) ≢ 2 }
 {
-    x.above.at.node == 0 && pair_count(&x.above.at.content) == 2
+    x.above.node == 0 && pair_count(&x.above.content) == 2
 }
 
-/// Joins two children of a node of the way, or gives them even shares, or sinks the root: the way
-/// one level further down, with one to spare in its node. Lost where a node that left the tree
-/// can't be put back.
+/// Joins two children of a held node, or gives them even shares, or sinks the root: the one that has
+/// the address, held alone, with one to spare. Lost where a node that left the tree can't be put
+/// back.
 fn mend<L: Locking>(
     locking: &L,
     words: &Words,
     me: &mut Caller,
     x: Siblings,
     pc: u64,
-) -> Result<Way, Busy>
+) -> Result<Held, Busy>
     requires table { me.old.table ≡ words.now.table }
     requires terms { me.old.log.terms ≡ words.now.terms }
     requires held { HoldsSiblings words.now.terms x me.old.log.holdings }
     requires between { IsInEither pc x }
     requires small { IsTrue (is_small_body x.left.content.body
         || is_small_body x.right.content.body) }
-    requires spare { IsSpare x.above.at.node x.above.at.content }
-    requires here { IsInFences pc x.above.at.content }
-    requires surplus { 3 < surplus me.old }
-    ensures ok { IfOk result (λ below. HoldsBesideRoot words.now.terms below.at.node
-        below.at.content below.at.changed below.root_changed me.new.log.holdings
-        × IsInFences pc below.at.content × IsSpare below.at.node below.at.content
-        × (below.at.content.level + 1 ≡ x.above.at.content.level)) }
+    requires spare { IsSpare x.above.node x.above.content }
+    requires here { IsInFences pc x.above.content }
+    requires surplus { 2 < surplus me.old }
+    ensures ok { IfOk result (λ below. HoldsAlone words.now.terms below me.new.log.holdings
+        × IsInFences pc below.content × IsSpare below.node below.content
+        × (below.content.level + 1 ≡ x.above.content.level)) }
     ensures busy { IfErr result (λ e. HoldsLeftOver e me.new.log.holdings × (L.gives_up ≡ true)) }
     ensures cause { IfErr result (λ e. FoundBusy e me.old me.new) }
     ensures spends { IfOk result (λ below. Spends 2 me.old me.new) }
-    ensures most { IfErr result (λ e. Spends 4 me.old me.new) }
+    ensures most { IfErr result (λ e. Spends 3 me.old me.new) }
 {
+    let above = x.above.node;
     if !fit(&x) {
-        let at = share(locking, words, me, &x, pc);
-        return Ok(leave(locking, words, me, changed(x.above), at));
+        let below = share(locking, words, me, &x, pc);
+        let_go_of(locking, words, me, above, true);
+        return Ok(below);
     }
     if sinks(&x) {
         return match sink(locking, words, me, &x) {
-            Ok(at) => Ok(Way {
-                at,
-                root_changed: false,
-            }),
+            Ok(root) => Ok(root),
             Err(busy) => {
-                let_go_of_way(locking, words, me, &changed(x.above));
+                let_go_of(locking, words, me, above, true);
                 Err(busy)
             }
         };
     }
     match join(locking, words, me, &x) {
-        Ok(at) => Ok(leave(locking, words, me, changed(x.above), at)),
+        Ok(below) => {
+            let_go_of(locking, words, me, above, true);
+            Ok(below)
+        }
         Err(busy) => {
-            let_go_of_way(locking, words, me, &changed(x.above));
+            let_go_of(locking, words, me, above, true);
             Err(busy)
         }
     }
 }
 
-/// From an inner node of the way down to the child for an address, which gets a pair or an entry to
-/// spare.
+/// From an inner node, held alone, down to its child for an address, which gets a pair or an entry
+/// to spare: that is held alone then.
 fn step_down<L: Locking>(
     locking: &L,
     words: &Words,
     me: &mut Caller,
-    way: Way,
+    above: Held,
     pc: u64,
-) -> Result<Way, Busy>
+) -> Result<Held, Busy>
     requires table { me.old.table ≡ words.now.table }
     requires terms { me.old.log.terms ≡ words.now.terms }
-    requires path { HoldsBesideRoot words.now.terms way.at.node way.at.content way.at.changed
-        way.root_changed me.old.log.holdings }
-    requires inner { 0 < way.at.content.level }
-    requires here { IsInFences pc way.at.content }
-    requires spare { IsSpare way.at.node way.at.content }
-    requires surplus { 3 < surplus me.old }
-    ensures ok { IfOk result (λ below. HoldsBesideRoot words.now.terms below.at.node
-        below.at.content below.at.changed below.root_changed me.new.log.holdings
-        × IsInFences pc below.at.content × IsSpare below.at.node below.at.content
-        × (below.at.content.level + 1 ≡ way.at.content.level)) }
+    requires alone { HoldsAlone words.now.terms above me.old.log.holdings }
+    requires inner { 0 < above.content.level }
+    requires here { IsInFences pc above.content }
+    requires spare { IsSpare above.node above.content }
+    requires surplus { 2 < surplus me.old }
+    ensures ok { IfOk result (λ below. HoldsAlone words.now.terms below me.new.log.holdings
+        × IsInFences pc below.content × IsSpare below.node below.content
+        × (below.content.level + 1 ≡ above.content.level)) }
     ensures busy { IfErr result (λ e. HoldsLeftOver e me.new.log.holdings × (L.gives_up ≡ true)) }
     ensures cause { IfErr result (λ e. FoundBusy e me.old me.new) }
     ensures spends { IfOk result (λ below. Spends 2 me.old me.new) }
-    ensures most { IfErr result (λ e. Spends 4 me.old me.new) }
+    ensures most { IfErr result (λ e. Spends 3 me.old me.new) }
 {
-    let child = take_child(locking, words, me, way, pc)?;
+    let child = take_child(locking, words, me, above, pc)?;
     if !is_small(&child.at.content) {
-        return Ok(leave(locking, words, me, child.above, child.at));
+        let_go_of(locking, words, me, child.above.node, child.above.changed);
+        return Ok(child.at);
     }
     match take_sibling(locking, words, me, child, pc) {
         Ok(x) => mend(locking, words, me, x, pc),
@@ -171,34 +142,33 @@ fn step_down<L: Locking>(
     }
 }
 
-/// The leaf for an address, held beside the root, with an entry to spare.
-fn leaf_on_way<L: Locking>(
+/// The leaf for an address, held alone, with an entry to spare.
+fn leaf_for<L: Locking>(
     locking: &L,
     words: &Words,
     me: &mut Caller,
     pc: u64,
-) -> Result<Way, Busy>
+) -> Result<Held, Busy>
     requires table { me.old.table ≡ words.now.table }
     requires idle { IsIdle me.old.log }
     requires surplus { CALL_CREDIT ≤ surplus me.old }
-    ensures ok { IfOk result (λ leaf. HoldsBesideRoot words.now.terms leaf.at.node
-        leaf.at.content leaf.at.changed leaf.root_changed me.new.log.holdings
-        × IsInFences pc leaf.at.content × IsSpare leaf.at.node leaf.at.content
-        × (leaf.at.content.level ≡ 0)) }
+    ensures ok { IfOk result (λ leaf. HoldsAlone words.now.terms leaf me.new.log.holdings
+        × IsInFences pc leaf.content × IsSpare leaf.node leaf.content
+        × (leaf.content.level ≡ 0)) }
     ensures busy { IfErr result (λ e. HoldsLeftOver e me.new.log.holdings × (L.gives_up ≡ true)) }
     ensures cause { IfErr result (λ e. FoundBusy e me.old me.new) }
-    ensures spends { IfOk result (λ leaf. Spends 26 me.old me.new) }
-    ensures most { IfErr result (λ e. Spends 28 me.old me.new) }
+    ensures spends { IfOk result (λ leaf. Spends 24 me.old me.new) }
+    ensures most { IfErr result (λ e. Spends 27 me.old me.new) }
     ensures terms { me.old.log.terms ≡ words.now.terms }
 {
-    let mut way = root_of_way(locking, words, me)?;
-    while way.at.content.level() > 0 {
-        way = match step_down(locking, words, me, way, pc) {
+    let mut at = at_root(locking, words, me)?;
+    while at.content.level() > 0 {
+        at = match step_down(locking, words, me, at, pc) {
             Ok(below) => below,
             Err(busy) => return Err(busy),
         };
     }
-    Ok(way)
+    Ok(at)
 }
 
 /// Removes the member that begins at a base, for an update call that was begun. NotFound where none
@@ -219,15 +189,14 @@ pub fn remove_by<L: Locking>(
     ensures busy { IfErr result (λ e. GivesUp e me.old me.new × (L.gives_up ≡ true)) }
     ensures terms { me.old.log.terms ≡ words.now.terms }
 {
-    let mut way = leaf_on_way(locking, words, me, base)?;
-    let begun = begun_in(words, me, way.at.node, &way.at.content, base);
-    if let Some(answer) = not_found(words, me, &way, begun, base) {
-        let_go_of_way(locking, words, me, &way);
+    let leaf = leaf_for(locking, words, me, base)?;
+    let begun = begun_in(words, me, leaf.node, &leaf.content, base);
+    if let Some(answer) = not_found(words, me, &leaf, begun, base) {
+        let_go_of(locking, words, me, leaf.node, leaf.changed);
         return Ok(answer);
     }
-    let (number, member) = take_in_leaf(words, me, &way, begun, base);
-    way.at.changed = true;
-    let_go_of_way(locking, words, me, &way);
+    let (number, member) = take_in_leaf(words, me, &leaf, begun, base);
+    let_go_of(locking, words, me, leaf.node, true);
     Ok(Removed::Done { number, member })
 }
 

@@ -7,12 +7,11 @@ ghost use Rattle.word_rule.specs.CallerData.{surplus};
 ghost use Rattle.node_store.specs.Locking.{FoundBusy};
 ghost use Rattle.btree_change.specs.Paths.{HoldsNothing};
 ghost use Rattle.btree_change.specs.Releases.{Spends};
-ghost use Rattle.btree_change.specs.Removing.{HoldsBesideRoot};
-ghost use Rattle.btree_change.specs.Siblings.{HoldsChild, HoldsSiblings, HoldsUnder, IsInEither};
+ghost use Rattle.btree_change.specs.Removing.{HoldsAlone};
+ghost use Rattle.btree_change.specs.Siblings.{HoldsChild, HoldsSiblings, IsInEither};
 ghost use Rattle.btree_change.specs.Siblings.{is_small_body};
 
 use crate::descent::{Held, let_go_of, take_node};
-use crate::way::{Way, let_go_of_way};
 use node_store::{Busy, Locking, Outline, outline_of, pair_of, slot_of};
 use word_rule::places::LEVEL;
 use word_rule::{Caller, LockId, Words};
@@ -25,7 +24,7 @@ const PAIRS_TO_SPARE: u64 = 7;
 /// A child that is held under its parent: that of the pair at the slot.
 #[derive(Drop)]
 pub(crate) struct Child {
-    pub(crate) above: Way,
+    pub(crate) above: Held,
     pub(crate) at: Held,
     pub(crate) slot: usize,
 }
@@ -34,7 +33,7 @@ pub(crate) struct Child {
 /// the next.
 #[derive(Drop)]
 pub(crate) struct Siblings {
-    pub(crate) above: Way,
+    pub(crate) above: Held,
     pub(crate) left: Held,
     pub(crate) right: Held,
     pub(crate) slot: usize,
@@ -68,32 +67,31 @@ pub(crate) fn pair_count(node: &Outline) -> u64
     node.count()
 }
 
-/// Locks and outlines the child for an address, under a node of the way.
+/// Locks and outlines the child for an address, under a node that is held alone.
 pub(crate) fn take_child<L: Locking>(
     locking: &L,
     words: &Words,
     me: &mut Caller,
-    above: Way,
+    above: Held,
     pc: u64,
 ) -> Result<Child, Busy>
     requires table { me.old.table ≡ words.now.table }
     requires terms { me.old.log.terms ≡ words.now.terms }
-    requires path { HoldsBesideRoot words.now.terms above.at.node above.at.content
-        above.at.changed above.root_changed me.old.log.holdings }
-    requires inner { 0 < above.at.content.level }
-    requires here { IsInFences pc above.at.content }
-    requires surplus { 1 < surplus me.old }
+    requires held { HoldsAlone words.now.terms above me.old.log.holdings }
+    requires inner { 0 < above.content.level }
+    requires here { IsInFences pc above.content }
+    requires surplus { 0 < surplus me.old }
     ensures ok { IfOk result (λ child. HoldsChild words.now.terms child pc me.new.log.holdings
         × (child.above ≡ above)) }
     ensures busy { IfErr result (λ e. HoldsNothing me.new.log.holdings × (L.gives_up ≡ true)) }
     ensures cause { IfErr result (λ e. FoundBusy e me.old me.new) }
-    ensures spends { Spends 2 me.old me.new }
+    ensures spends { Spends 1 me.old me.new }
     ensures free { IfOk result (λ child. Spends 0 me.old me.new) }
 {
-    let slot = slot_of(words, me, above.at.node, &above.at.content, pc);
-    let node = pair_of(words, me, above.at.node, &above.at.content, slot).child;
+    let slot = slot_of(words, me, above.node, &above.content, pc);
+    let node = pair_of(words, me, above.node, &above.content, slot).child;
     if let Err(busy) = take_node(locking, words, me, node) {
-        let_go_of_way(locking, words, me, &above);
+        let_go_of(locking, words, me, above.node, above.changed);
         return Err(busy);
     }
     let content = outline_of(words, me, node);
@@ -105,17 +103,17 @@ pub(crate) fn take_child<L: Locking>(
     Ok(Child { above, at, slot })
 }
 
-/// Lets go of a child, in which nothing was stored, and of the way to it.
+/// Lets go of a child, in which nothing was stored, and of its parent.
 fn let_go_of_child<L: Locking>(locking: &L, words: &Words, me: &mut Caller, child: &Child)
     requires table { me.old.table ≡ words.now.table }
     requires held { (pc : ℕ) × HoldsChild words.now.terms child.now pc me.old.log.holdings }
-    requires surplus { 1 < surplus me.old }
-    ensures spends { Spends 2 me.old me.new }
+    requires surplus { 0 < surplus me.old }
+    ensures spends { Spends 1 me.old me.new }
     ensures nothing { HoldsNothing me.new.log.holdings }
 {
     let node = child.at.node;
     locking.let_go_same(words, me, LockId::Node { node });
-    let_go_of_way(locking, words, me, &child.above);
+    let_go_of(locking, words, me, child.above.node, child.above.changed);
 }
 
 /// The place of the first of two neighbouring pairs: a pair's and the next one's, where there is a
@@ -152,27 +150,20 @@ pub(crate) fn take_sibling<L: Locking>(
     requires table { me.old.table ≡ words.now.table }
     requires terms { me.old.log.terms ≡ words.now.terms }
     requires held { HoldsChild words.now.terms child pc me.old.log.holdings }
-    requires surplus { 1 < surplus me.old }
+    requires surplus { 0 < surplus me.old }
     ensures ok { IfOk result (λ x. HoldsSiblings words.now.terms x me.new.log.holdings
         × IsInEither pc x × (x.above ≡ child.above)
         × ((x.left ≡ child.at) ⊎ (x.right ≡ child.at))) }
-    ensures next { IfOk result (λ x. child.slot + 1 < length (pairs_of child.above.at.content)
+    ensures next { IfOk result (λ x. child.slot + 1 < length (pairs_of child.above.content)
         → x.left ≡ child.at) }
     ensures busy { IfErr result (λ e. HoldsNothing me.new.log.holdings × (L.gives_up ≡ true)) }
     ensures cause { IfErr result (λ e. FoundBusy e me.old me.new) }
-    ensures spends { Spends 2 me.old me.new }
+    ensures spends { Spends 1 me.old me.new }
     ensures free { IfOk result (λ x. Spends 0 me.old me.new) }
 {
-    let first = slot_of_two(&child.above.at.content, child.slot);
+    let first = slot_of_two(&child.above.content, child.slot);
     let beside = slot_beside(first, child.slot);
-    let node = pair_of(
-        words,
-        me,
-        child.above.at.node,
-        &child.above.at.content,
-        beside,
-    )
-    .child;
+    let node = pair_of(words, me, child.above.node, &child.above.content, beside).child;
     // By this load it is known that the neighbour is no child of the child.
     words.load_node(me, child.at.node, LEVEL);
     if let Err(busy) = take_node(locking, words, me, node) {
@@ -210,31 +201,4 @@ fn siblings_of(child: Child, other: Held, first: usize) -> Siblings
             slot: first,
         }
     }
-}
-
-/// Lets go of a node above a held one, unless it is the root: the way with the lower one.
-pub(crate) fn leave<L: Locking>(
-    locking: &L,
-    words: &Words,
-    me: &mut Caller,
-    above: Way,
-    at: Held,
-) -> Way
-    requires table { me.old.table ≡ words.now.table }
-    requires inside { above.at.node < words.now.terms.nodes }
-    requires held { HoldsUnder words.now.terms above.at.node above.at.changed
-        above.root_changed at me.old.log.holdings }
-    requires surplus { 0 < surplus me.old }
-    ensures held { HoldsBesideRoot words.now.terms at.node at.content at.changed
-        result.root_changed me.new.log.holdings }
-    ensures at { result.at ≡ at }
-    ensures spends { Spends 1 me.old me.new }
-{
-    let root_changed = if above.at.node == 0 {
-        above.at.changed
-    } else {
-        let_go_of(locking, words, me, above.at.node, above.at.changed);
-        above.root_changed
-    };
-    Way { at, root_changed }
 }

@@ -1,14 +1,14 @@
 //! The removal of a member from one held leaf, which has an entry to spare.
-ghost use Rattle.std.specs.Prelude.{◌≡◌, ◌<◌, ◌≤◌, IsSome, IfNone, IfSome, is_some, length};
+ghost use Rattle.std.specs.Prelude.{◌≡◌, ◌<◌, ◌≤◌, None, IsSome, IfNone, IfSome, is_some, length};
 ghost use Rattle.reg_model.specs.State.{at_base};
 ghost use Rattle.tree_shape.specs.NodeData.{InOrder, IsInFences, IsLeaf, entries_of, place_for};
 ghost use Rattle.node_store.specs.Holding.{SpellsHeld};
 ghost use Rattle.node_store.specs.Outlines.{OnlyLoads};
 ghost use Rattle.word_rule.specs.CallerData.{due};
 ghost use Rattle.btree_change.specs.Takings.{RefusesBase, TakesMember};
-ghost use Rattle.btree_change.specs.Removing.{HoldsBesideRoot, IsSpare};
+ghost use Rattle.btree_change.specs.Removing.{HoldsAlone, IsSpare};
 
-use crate::way::Way;
+use crate::descent::Held;
 use node_store::{cut_in_place, entry_of};
 use reg_model::{Member, Removed, Update};
 use tree_shape::laws;
@@ -18,21 +18,21 @@ use word_rule::{Ask, Caller, Words};
 
 /// Whether an entry of a held leaf begins at a base. It could only be the last of those that begin
 /// at or below it.
-fn begins_at(words: &Words, me: &mut Caller, way: &Way, begun: usize, base: u64) -> bool
+fn begins_at(words: &Words, me: &mut Caller, leaf: &Held, begun: usize, base: u64) -> bool
     requires table { me.old.table ≡ words.now.table }
-    requires inside { way.now.at.node < words.now.terms.nodes }
-    requires spells { SpellsHeld way.now.at.node way.now.at.content me.old.log }
-    requires leaf { IsLeaf way.now.at.content }
-    requires ordered { InOrder way.now.at.content }
-    requires begun { begun ≡ place_for base (entries_of way.now.at.content) }
-    requires few { begun ≤ length (entries_of way.now.at.content) }
-    ensures begins { result ≡ is_some (at_base base (entries_of way.now.at.content)) }
+    requires inside { leaf.now.node < words.now.terms.nodes }
+    requires spells { SpellsHeld leaf.now.node leaf.now.content me.old.log }
+    requires leaf { IsLeaf leaf.now.content }
+    requires ordered { InOrder leaf.now.content }
+    requires begun { begun ≡ place_for base (entries_of leaf.now.content) }
+    requires few { begun ≤ length (entries_of leaf.now.content) }
+    ensures begins { result ≡ is_some (at_base base (entries_of leaf.now.content)) }
     ensures loads { OnlyLoads me.old me.new }
 {
     if begun == 0 {
         return false;
     }
-    let entry = entry_of(words, me, way.at.node, &way.at.content, begun - 1);
+    let entry = entry_of(words, me, leaf.node, &leaf.content, begun - 1);
     entry.span.first() == base
 }
 
@@ -41,23 +41,22 @@ fn begins_at(words: &Words, me: &mut Caller, way: &Way, begun: usize, base: u64)
 pub(crate) fn not_found(
     words: &Words,
     me: &mut Caller,
-    way: &Way,
+    leaf: &Held,
     begun: usize,
     base: u64,
 ) -> Option<Removed>
     requires table { me.old.table ≡ words.now.table }
-    requires path { HoldsBesideRoot words.now.terms way.now.at.node way.now.at.content
-        way.now.at.changed way.now.root_changed me.old.log.holdings }
-    requires level { way.now.at.content.level ≡ 0 }
-    requires here { IsInFences base way.now.at.content }
-    requires begun { begun ≡ place_for base (entries_of way.now.at.content) }
-    requires few { begun ≤ length (entries_of way.now.at.content) }
+    requires alone { HoldsAlone words.now.terms leaf.now me.old.log.holdings }
+    requires level { leaf.now.content.level ≡ 0 }
+    requires here { IsInFences base leaf.now.content }
+    requires begun { begun ≡ place_for base (entries_of leaf.now.content) }
+    requires few { begun ≤ length (entries_of leaf.now.content) }
     ensures none { IfSome result (λ answer. RefusesBase words.now.terms base answer
         me.old me.new) }
-    ensures found { IfNone result (IsSome (at_base base (entries_of way.now.at.content))
+    ensures found { IfNone result (IsSome (at_base base (entries_of leaf.now.content))
         × OnlyLoads me.old me.new) }
 {
-    let begins = begins_at(words, me, way, begun, base);
+    let begins = begins_at(words, me, leaf, begun, base);
     if begins {
         return None;
     }
@@ -74,31 +73,30 @@ pub(crate) fn not_found(
 pub(crate) fn take_in_leaf(
     words: &Words,
     me: &mut Caller,
-    way: &Way,
+    leaf: &Held,
     begun: usize,
     base: u64,
 ) -> (u32, Member)
     requires table { me.old.table ≡ words.now.table }
     requires terms { me.old.log.terms ≡ words.now.terms }
-    requires path { HoldsBesideRoot words.now.terms way.now.at.node way.now.at.content
-        way.now.at.changed way.now.root_changed me.old.log.holdings }
-    requires leaf { way.now.at.content.level ≡ 0 }
-    requires here { IsInFences base way.now.at.content }
-    requires spare { IsSpare way.now.at.node way.now.at.content }
-    requires held { IsSome (at_base base (entries_of way.now.at.content)) }
-    requires begun { begun ≡ place_for base (entries_of way.now.at.content) }
-    requires few { begun ≤ length (entries_of way.now.at.content) }
+    requires alone { HoldsAlone words.now.terms leaf.now me.old.log.holdings }
+    requires level { leaf.now.content.level ≡ 0 }
+    requires here { IsInFences base leaf.now.content }
+    requires spare { IsSpare leaf.now.node leaf.now.content }
+    requires held { IsSome (at_base base (entries_of leaf.now.content)) }
+    requires begun { begun ≡ place_for base (entries_of leaf.now.content) }
+    requires few { begun ≤ length (entries_of leaf.now.content) }
     requires due { 0 < due me.old }
-    ensures { TakesMember words.now.terms base way.now.at.node way.now.root_changed
-        result.0 result.1 me.old me.new }
+    requires loader { me.old.log.loader ≡ None }
+    ensures { TakesMember words.now.terms base leaf.now.node result.0 result.1 me.old me.new }
 {
     laws::take();
     laws::transfer();
     exchange_decided();
-    let node = way.at.node;
+    let node = leaf.node;
     // By this load it is known of which tree the leaf is.
     words.load_node(me, node, COUNT);
-    let member = cut_in_place(words, me, node, &way.at.content, begun - 1);
+    let member = cut_in_place(words, me, node, &leaf.content, begun - 1);
     let number = words.commit(me, Update::Deregister { base });
     (number, member)
 }

@@ -26,10 +26,10 @@ pub join_pair-both-requires : goal.join_pair-both-requires
 join_pair-both-requires g c = subst (λ (z : NodeData). Fit z c.content_of-right.result) (sym c.content_of-left.ensures.content) (subst (λ (z : NodeData). Fit c.args.x.now.left.content z) (sym c.content_of-right.ensures.content) c.requires.fit)
 
 pub drop_pair-above-requires-clause-inner : goal.drop_pair-above-requires-clause-inner
-drop_pair-above-requires-clause-inner g c = subst IsInner (sym c.content_of-parent.ensures.content) (settled_inner c.args.words.now.terms c.args.x.now.above.at.node c.args.x.now.above.at.content c.args.x.now.above.at.changed c.requires.held.upper c.requires.held.parent (let level = c.requires.held.level in omega (arith, level)))
+drop_pair-above-requires-clause-inner g c = subst IsInner (sym c.content_of-parent.ensures.content) (settled_inner c.args.words.now.terms c.args.x.now.above.node c.args.x.now.above.content c.args.x.now.above.changed c.requires.held.upper c.requires.held.parent (let level = c.requires.held.level in omega (arith, level)))
 
 pub drop_pair-above-requires-clause-next : goal.drop_pair-above-requires-clause-next
-drop_pair-above-requires-clause-next g c = subst (λ (z : NodeData). c.args.x.now.slot + 1 < length (pairs_of z)) (sym c.content_of-parent.ensures.content) (inside_of (pairs_of c.args.x.now.above.at.content) (c.args.x.now.slot + 1) (pair c.args.x.now.right.node c.args.x.now.right.content.high) c.requires.held.next)
+drop_pair-above-requires-clause-next g c = subst (λ (z : NodeData). c.args.x.now.slot + 1 < length (pairs_of z)) (sym c.content_of-parent.ensures.content) (inside_of (pairs_of c.args.x.now.above.content) (c.args.x.now.slot + 1) (pair c.args.x.now.right.node c.args.x.now.right.content.high) c.requires.held.next)
 
 pub join_into_left-requires-clause-held : goal.join_into_left-requires-clause-held
 join_into_left-requires-clause-held g c = subst (HoldsSiblings c.args.words.now.terms c.args.x.now) (sym (c.content_of-parent.ensures.holdings ∙ (c.content_of-right.ensures.holdings ∙ (c.content_of-left.ensures.holdings ∙ ap (λ (z : CallerData). z.log.holdings) c.load_node.ensures.log)))) c.requires.held

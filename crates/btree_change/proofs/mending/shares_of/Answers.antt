@@ -33,10 +33,10 @@ pub even_pair-left-requires-clause-right_ordered : goal.even_pair-left-requires-
 even_pair-left-requires-clause-right_ordered c = subst InOrder (sym c.content_of-last.ensures.content) (settled_order c.args.words.now.terms c.args.x.now.right.node c.args.x.now.right.content c.args.x.now.right.changed c.requires.held.high c.requires.held.right)
 
 pub set_separator-above-requires-clause-inner : goal.set_separator-above-requires-clause-inner
-set_separator-above-requires-clause-inner c = subst IsInner (sym c.content_of-parent.ensures.content) (settled_inner c.args.words.now.terms c.args.x.now.above.at.node c.args.x.now.above.at.content c.args.x.now.above.at.changed c.requires.held.upper c.requires.held.parent (let level = c.requires.held.level in omega (arith, level)))
+set_separator-above-requires-clause-inner c = subst IsInner (sym c.content_of-parent.ensures.content) (settled_inner c.args.words.now.terms c.args.x.now.above.node c.args.x.now.above.content c.args.x.now.above.changed c.requires.held.upper c.requires.held.parent (let level = c.requires.held.level in omega (arith, level)))
 
 pub set_separator-above-requires-clause-slot : goal.set_separator-above-requires-clause-slot
-set_separator-above-requires-clause-slot c = subst (λ (z : NodeData). c.args.x.now.slot < length (pairs_of z)) (sym c.content_of-parent.ensures.content) (inside_of (pairs_of c.args.x.now.above.at.content) c.args.x.now.slot (pair c.args.x.now.left.node c.args.x.now.left.content.high) c.requires.held.at)
+set_separator-above-requires-clause-slot c = subst (λ (z : NodeData). c.args.x.now.slot < length (pairs_of z)) (sym c.content_of-parent.ensures.content) (inside_of (pairs_of c.args.x.now.above.content) c.args.x.now.slot (pair c.args.x.now.left.node c.args.x.now.left.content.high) c.requires.held.at)
 
 pub returns-clause-shares : goal.returns-clause-shares
 returns-clause-shares c =

@@ -3,7 +3,7 @@ use Rattle.btree_change.proofs.Absences.{none_begun, one_begun}
 use Rattle.btree_change.proofs.taking.begins_at.Goals as goal
 
 pub returns-then-begun-eq0-clause-begins : goal.returns-then-begun-eq0-clause-begins
-returns-then-begun-eq0-clause-begins c = sym (none_begun c.args.base c.args.way.now.at.content c.requires.leaf c.requires.ordered (sym c.if-begun-eq0.true ∙ c.requires.begun))
+returns-then-begun-eq0-clause-begins c = sym (none_begun c.args.base c.args.leaf.now.content c.requires.leaf c.requires.ordered (sym c.if-begun-eq0.true ∙ c.requires.begun))
 
 pub entry_of-entry-requires-clause-place : goal.entry_of-entry-requires-clause-place
 entry_of-entry-requires-clause-place c =
@@ -13,4 +13,4 @@ entry_of-entry-requires-clause-place c =
 
 pub returns-clause-begins : goal.returns-clause-begins
 returns-clause-begins c =
-    ap (λ first. nat_eq first c.args.base) c.first.ensures.value ∙ one_begun c.args.base c.args.begun c.args.way.now.at.content c.entry_of-entry.result c.requires.leaf c.requires.ordered c.if-begun-eq0.false c.requires.begun c.entry_of-entry.ensures.entry
+    ap (λ first. nat_eq first c.args.base) c.first.ensures.value ∙ one_begun c.args.base c.args.begun c.args.leaf.now.content c.entry_of-entry.result c.requires.leaf c.requires.ordered c.if-begun-eq0.false c.requires.begun c.entry_of-entry.ensures.entry
