@@ -1,6 +1,6 @@
 -- Held nodes on a removal's way, by their outlines: what their locks spell, and what loads of their
 -- words leave as it was.
-use Rattle.std.proofs.Common.{◌≡◌, ◌≢◌, ℕ, [], ◌∷◌, sym, ap, ◌∙◌, subst, arith, Bool, true, false, ◌==◌, Some, eq-eqb, ne_eqb, cond}
+use Rattle.std.proofs.Common.{◌≡◌, ◌≢◌, ℕ, [], ◌∷◌, sym, ap, ◌∙◌, subst, arith, Bool, true, ◌==◌, Some, eq-eqb, ne_eqb, cond}
 use Rattle.tree_shape.specs.Decisions.{is_entries}
 use Rattle.tree_shape.specs.Lawful.{IsOrdered, IsOrderedAs}
 use Rattle.tree_shape.specs.NodeData.{NodeData, Body, Pairs, Entries, Link}

@@ -130,7 +130,7 @@ module _ (t : Terms) (x : Siblings) (k k1 : CallerData) (found : ℕ) (hs : Hold
 
     module _ (k3 : CallerData) (writes2 : StoresHeld x.above.node (record x.above.content { body = Pairs (at_slot swallow_next x.slot (pairs_of x.above.content)) }) k2 k3) (spells2 : SpellsHeld x.above.node (record x.above.content { body = Pairs (at_slot swallow_next x.slot (pairs_of x.above.content)) }) k3.log) where
       w2 : IsWrittenAs (record x.above.content { body = Pairs (at_slot swallow_next x.slot (pairs_of x.above.content)) }) hs.upper (λ z. both_of hs.left_first w1.lock hs.high (z ∷ [])) k2 k3
-      w2 = write_upper hs.left_first less n w1.lock hs.high hs.upper [] k2 k3 (λ e. omega (arith, e)) hs.parent.node (λ e. apart.left_above (sym low_node ∙ e)) (λ e. apart.right_above (sym hs.right.node ∙ e)) tt w1.held writes2 spells2
+      w2 = write_upper hs.left_first less n w1.lock hs.high hs.upper k2 k3 (λ e. omega (arith, e)) hs.parent.node (λ e. apart.left_above (sym low_node ∙ e)) (λ e. apart.right_above (sym hs.right.node ∙ e)) w1.held writes2 spells2
 
       upper_node : w2.lock.node ≡ n
       upper_node = w2.node ∙ hs.parent.node

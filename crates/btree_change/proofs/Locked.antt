@@ -160,7 +160,8 @@ child_so t above pc slot p k k1 k2 shape terms alone inner fences first at locks
     let level : holds.0.frame.level ≡ above.content.level - 1 = ap (λ (z : Frame). z.level) (sym frame) ∙ exact.1.3 in
     let taken = taken_at t p.child holds.0.frame (alone.lock ∷ []) k k1 terms alone.held alone.out named.no_root (ap (λ o. first_mark o None) (by_parent t above.node p.child above.content above.changed alone.lock holds.0 alone.here named)) locks in
     let is : taken.content ≡ shape = read_first p.child taken.content shape taken.new (alone.lock ∷ []) k1.log taken.held taken.here.node taken.here.spells spells in
-    let ends : shape.high ≡ p.separator = ap (λ (z : NodeData). z.high) (sym is) ∙ (taken.high ∙ high) in record {
+    let top : taken.content.high ≡ p.separator = taken.high ∙ high in
+    let ends : shape.high ≡ p.separator = ap (λ (z : NodeData). z.high) (sym is) ∙ top in record {
       parent_within = alone.within;
       within = named.within;
       no_parent = named.no_parent (omega (arith, level, inner));

@@ -1,6 +1,6 @@
 -- What is held once a change of two children has settled, and all but one of them was let go of or
 -- given back.
-use Rattle.std.proofs.Common.{◌≡◌, ◌≢◌, ℕ, zero, suc, ◌-◌, ◌*◌, ◌<◌, ◌≤◌, true≢false, length, List, [], ◌∷◌, sym, refl, ap, ◌∙◌, subst, arith, Bool, true, false, ◌==◌, not, IsTrue, Some, IfSome, IsSome, eq-eqb, ne_eqb, cond}
+use Rattle.std.proofs.Common.{◌≡◌, ◌≢◌, ℕ, ◌-◌, ◌*◌, ◌<◌, ◌≤◌, true≢false, length, List, [], ◌∷◌, sym, refl, ap, ◌∙◌, subst, arith, Bool, true, false, not, IsTrue, IfSome, IsSome, eq-eqb, ne_eqb, cond}
 use Rattle.std.specs.List.{AllByRecursion}
 use Rattle.tree_shape.specs.Changes.{joined}
 use Rattle.tree_shape.specs.NodeData.{NodeData}

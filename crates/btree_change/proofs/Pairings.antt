@@ -1,6 +1,6 @@
 -- Two neighbouring children that are held under their parent, in the tree of which they are, and what
 -- becomes of the three locks where all three nodes change.
-use Rattle.std.proofs.Common.{◌≡◌, ◌≢◌, ℕ, zero, suc, ◌+◌, ◌<◌, ◌≤◌, List, [], ◌∷◌, length, map, sym, refl, ap, ◌∙◌, subst, arith, Bool, true, false, ◌==◌, not, ◌&&◌, IsTrue, true≢false, Some, None, IsSome, is_some, eq-eqb, ne_eqb, cond}
+use Rattle.std.proofs.Common.{◌≡◌, ◌≢◌, ℕ, ◌+◌, ◌<◌, ◌≤◌, List, [], ◌∷◌, length, map, sym, refl, ap, ◌∙◌, subst, arith, Bool, true, false, ◌==◌, not, ◌&&◌, IsTrue, true≢false, Some, None, IsSome, is_some, eq-eqb, ne_eqb, cond}
 use Rattle.std.proofs.lemmas.Bool.{ltb-true, ltb-false}
 use Rattle.std.specs.List.{AllByRecursion, filter, slice_get}
 use Rattle.tree_shape.specs.Changes.{pair}

@@ -1,5 +1,5 @@
 -- What a removal answers, from the steps of its way.
-use Rattle.std.proofs.Common.{◌≡◌, ℕ, zero, suc, ◌+◌, ◌*◌, ◌<◌, ◌≤◌, [], ◌∷◌, length, sym, ap, ◌∙◌, subst, arith, Bool, true, false, IsNone}
+use Rattle.std.proofs.Common.{◌≡◌, ℕ, zero, suc, ◌*◌, ◌<◌, ◌≤◌, [], ◌∷◌, length, sym, ap, ◌∙◌, subst, arith, true, false, IsNone}
 use Rattle.std.proofs.lemmas.Bool.{ltb-false}
 use mathlib.Core.List.{IsPrefix}
 use Rattle.reg_model.specs.History.{state_after}
@@ -9,7 +9,7 @@ use Rattle.reg_model.specs.declared.answer.Receipt.TheVariants as receipt
 use Rattle.reg_model.specs.declared.answer.Removed.{Removed}
 use Rattle.reg_model.specs.declared.answer.Removed.TheVariants as removed
 use Rattle.reg_model.specs.declared.span.Member.{Member}
-use Rattle.tree_shape.specs.NodeData.{NodeData, Body, Pairs, Entries, Link, IsInFences}
+use Rattle.tree_shape.specs.NodeData.{NodeData, Body, Pairs, Entries, Link}
 use Rattle.word_rule.specs.CallerData.{CallerData, surplus}
 use Rattle.word_rule.specs.Callers.{start}
 use Rattle.word_rule.specs.Spelling.{SpellsNode}
@@ -28,7 +28,6 @@ use Rattle.btree_change.specs.Stands.{SpendsCall}
 use Rattle.btree_change.specs.Takings.{RefusesBase, TakesMember}
 use Rattle.btree_change.specs.Updates.{AnswersUpdate}
 use Rattle.btree_change.specs.declared.sibling.Child.{Child}
-use Rattle.btree_change.specs.declared.descent.Held.{Held}
 use Rattle.btree_change.proofs.Joining.{spare_of}
 use Rattle.btree_change.proofs.Releases.{lock_gone}
 use Rattle.btree_change.proofs.Rooted.{surplus_left}

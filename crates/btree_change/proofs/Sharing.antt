@@ -34,7 +34,7 @@ use Rattle.btree_change.proofs.Descents.{steps_of_load}
 use Rattle.btree_change.proofs.Joining.{may_store, spare_of}
 use Rattle.btree_change.proofs.Loading.{none_more}
 use Rattle.btree_change.proofs.Mended.{AreSettled, loaded_none, under_so, without_high, without_low}
-use Rattle.btree_change.proofs.Pairings.{IsNow, AreThree, at_slot_is, both_high, both_left, both_low, both_more, family, held_change, in_l, in_n, in_r, left_told, next_slot_is, not_in, parent_told, right_told, settles, three}
+use Rattle.btree_change.proofs.Pairings.{IsNow, AreThree, at_slot_is, both_high, both_left, both_low, both_more, family, held_change, in_l, in_n, in_r, left_told, next_slot_is, parent_told, right_told, settles, three}
 use Rattle.btree_change.proofs.Settling.{SettlingLaws, may_release, settled_group}
 use Rattle.btree_change.proofs.ShareEnds.{fence_moves, share_kinds, share_moves, share_sizes, share_spares}
 use Rattle.btree_change.proofs.Spending.{spends_same, steps_after}
@@ -111,7 +111,7 @@ module _ (t : Terms) (x : Siblings) (k k1 : CallerData) (found : ℕ) (hs : Hold
       module _ (k4 : CallerData) (writes3 : StoresHeld x.above.node (shares_for x).above k3 k4) (spells3 : SpellsHeld x.above.node (shares_for x).above k4.log)
           (laws : SettlingLaws) (law : ShareLaw) (small : IsTrue (is_small_body x.left.content.body || is_small_body x.right.content.body)) where
         w3 : IsWrittenAs (shares_for x).above hs.upper (λ z. both_of hs.left_first w1.lock w2.lock (z ∷ [])) k3 k4
-        w3 = write_upper hs.left_first top n w1.lock w2.lock hs.upper [] k3 k4 (λ e. omega (arith, e)) hs.parent.node (λ e. apart.left_above (sym low_node ∙ e)) (λ e. apart.right_above (sym high_node ∙ e)) tt w2.held writes3 spells3
+        w3 = write_upper hs.left_first top n w1.lock w2.lock hs.upper k3 k4 (λ e. omega (arith, e)) hs.parent.node (λ e. apart.left_above (sym low_node ∙ e)) (λ e. apart.right_above (sym high_node ∙ e)) w2.held writes3 spells3
 
         upper_node : w3.lock.node ≡ n
         upper_node = w3.node ∙ hs.parent.node

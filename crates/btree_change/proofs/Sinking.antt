@@ -1,5 +1,5 @@
 -- The root has taken the place of its only two children, which are given back.
-use Rattle.std.proofs.Common.{◌≡◌, ◌≢◌, ℕ, ◌<◌, ◌≤◌, length, true≢false, [], ◌∷◌, sym, refl, ap, ◌∙◌, subst, arith, true, IsTrue, Some, IfSome, IsSome, ne_eqb, cond}
+use Rattle.std.proofs.Common.{◌≡◌, ◌≢◌, ℕ, ◌<◌, length, true≢false, [], ◌∷◌, sym, refl, ap, ◌∙◌, subst, arith, true, IsTrue, IfSome, IsSome}
 use Rattle.std.specs.List.{AllByRecursion}
 use Rattle.tree_shape.specs.NodeData.{NodeData}
 use Rattle.tree_shape.specs.Numbers.{is_among}
@@ -18,7 +18,7 @@ use Rattle.word_rule.proofs.HeadPlays.{all_but_shorter}
 use Rattle.btree_change.specs.declared.sibling.Siblings.{Siblings}
 use Rattle.btree_change.proofs.Loading.{found_after, found_between, keeps_then}
 use Rattle.btree_change.proofs.Mended.{as_given, as_returned, loaded_none, without_low}
-use Rattle.btree_change.proofs.Pairings.{both_all, both_low, both_more}
+use Rattle.btree_change.proofs.Pairings.{both_all, both_low}
 use Rattle.btree_change.proofs.Spending.{spends_same, steps_after, surplus_steps}
 use Rattle.btree_change.proofs.HeldLists.{found_head}
 

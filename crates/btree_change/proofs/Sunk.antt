@@ -105,7 +105,7 @@ module _ (t : Terms) (x : Siblings) (k k1 k2 : CallerData) (seen seen' : ℕ) (h
 
   module _ (k3 : CallerData) (writes : StoresHeld x.above.node (sunk_root x) k2 k3) (spells : SpellsHeld x.above.node (sunk_root x) k3.log) where
     w : IsWrittenAs (sunk_root x) hs.upper (λ z. both_of hs.left_first hs.low hs.high (z ∷ [])) k2 k3
-    w = write_upper hs.left_first (sunk_root x) n hs.low hs.high hs.upper [] k2 k3 (fits_no_free x.left.content.body x.right.content.body fit) hs.parent.node (λ e. apart.left_above (sym hs.left.node ∙ e)) (λ e. apart.right_above (sym hs.right.node ∙ e)) tt held2 writes spells
+    w = write_upper hs.left_first (sunk_root x) n hs.low hs.high hs.upper k2 k3 (fits_no_free x.left.content.body x.right.content.body fit) hs.parent.node (λ e. apart.left_above (sym hs.left.node ∙ e)) (λ e. apart.right_above (sym hs.right.node ∙ e)) held2 writes spells
 
     upper_node : w.lock.node ≡ n
     upper_node = w.node ∙ hs.parent.node

@@ -1,5 +1,5 @@
 -- A member is cut out of a held leaf in its place, after loads of the leaf's words.
-use Rattle.std.proofs.Common.{◌≡◌, ℕ, zero, suc, ◌-◌, ◌<◌, ◌∙◌, Bool, List, [], ◌∷◌, get_or, sym, ap, subst, arith, ◌⊎◌, inl, Some, IsSome, IsSomeAnd, IsTrue}
+use Rattle.std.proofs.Common.{◌≡◌, ℕ, zero, suc, ◌-◌, ◌<◌, ◌∙◌, List, [], ◌∷◌, get_or, sym, ap, subst, arith, ◌⊎◌, inl, Some, IsSome, IsSomeAnd, IsTrue}
 use Rattle.std.proofs.lemmas.Option.{none-some, same_Some}
 use Rattle.std.specs.List.{slice_get}
 use Rattle.reg_model.specs.History.{without}

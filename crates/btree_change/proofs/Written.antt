@@ -37,9 +37,9 @@ pub write_high : (o : Bool) (s : NodeData) (n : ℕ) (low high : Holding) (more 
 write_high true s n low high more k k' kind is far rest held writes spells = written_as s high (λ z. both_of true low z more) (low ∷ []) more k k' (λ z. refl) (rewritten_so s n high (low ∷ []) more k k' kind is (far, tt) rest held writes spells)
 write_high false s n low high more k k' kind is far rest held writes spells = written_as s high (λ z. both_of false low z more) [] (low ∷ more) k k' (λ z. refl) (rewritten_so s n high [] (low ∷ more) k k' kind is tt (far, rest) held writes spells)
 
-pub write_upper : (o : Bool) (s : NodeData) (n : ℕ) (low high upper : Holding) (rest : List Holding) (k k' : CallerData) → kind_of_body s.body ≢ 2 → upper.node ≡ n → low.node ≢ n → high.node ≢ n → AllByRecursion (λ a. a.node ≢ n) rest → k.log.holdings.held ≡ both_of o low high (upper ∷ rest) → StoresHeld n s k k' → SpellsHeld n s k'.log → IsWrittenAs s upper (λ z. both_of o low high (z ∷ rest)) k k'
-write_upper true s n low high upper rest k k' kind is a b far held writes spells = written_as s upper (λ z. both_of true low high (z ∷ rest)) (low ∷ high ∷ []) rest k k' (λ z. refl) (rewritten_so s n upper (low ∷ high ∷ []) rest k k' kind is (a, (b, tt)) far held writes spells)
-write_upper false s n low high upper rest k k' kind is a b far held writes spells = written_as s upper (λ z. both_of false low high (z ∷ rest)) (high ∷ low ∷ []) rest k k' (λ z. refl) (rewritten_so s n upper (high ∷ low ∷ []) rest k k' kind is (b, (a, tt)) far held writes spells)
+pub write_upper : (o : Bool) (s : NodeData) (n : ℕ) (low high upper : Holding) (k k' : CallerData) → kind_of_body s.body ≢ 2 → upper.node ≡ n → low.node ≢ n → high.node ≢ n → k.log.holdings.held ≡ both_of o low high (upper ∷ []) → StoresHeld n s k k' → SpellsHeld n s k'.log → IsWrittenAs s upper (λ z. both_of o low high (z ∷ [])) k k'
+write_upper true s n low high upper k k' kind is a b held writes spells = written_as s upper (λ z. both_of true low high (z ∷ [])) (low ∷ high ∷ []) [] k k' (λ z. refl) (rewritten_so s n upper (low ∷ high ∷ []) [] k k' kind is (a, (b, tt)) tt held writes spells)
+write_upper false s n low high upper k k' kind is a b held writes spells = written_as s upper (λ z. both_of false low high (z ∷ [])) (high ∷ low ∷ []) [] k k' (λ z. refl) (rewritten_so s n upper (high ∷ low ∷ []) [] k k' kind is (b, (a, tt)) tt held writes spells)
 
 pub edit_high : (o : Bool) (n : ℕ) (f : Holding → Holding) (low high : Holding) (more : List Holding) → high.node ≡ n → low.node ≢ n → AllByRecursion (λ a. a.node ≢ n) more → edited n f (both_of o low high more) ≡ both_of o low (f high) more
 edit_high true n f low high more is far rest = edited_at n f (low ∷ []) high more is (far, tt) rest

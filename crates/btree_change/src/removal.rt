@@ -53,8 +53,8 @@ fn sinks(x: &Siblings) -> bool
     x.above.node == 0 && pair_count(&x.above.content) == 2
 }
 
-/// Joins two children of a held node, or gives them even shares, or sinks the root: the one that has
-/// the address, held alone, with one to spare. Lost where a node that left the tree can't be put
+/// Joins two children of a held node, or gives them even shares, or sinks the root: the node that
+/// has the address, held alone, with one to spare. Lost where a node that left the tree can't be put
 /// back.
 fn mend<L: Locking>(
     locking: &L,
@@ -143,12 +143,7 @@ fn step_down<L: Locking>(
 }
 
 /// The leaf for an address, held alone, with an entry to spare.
-fn leaf_for<L: Locking>(
-    locking: &L,
-    words: &Words,
-    me: &mut Caller,
-    pc: u64,
-) -> Result<Held, Busy>
+fn leaf_for<L: Locking>(locking: &L, words: &Words, me: &mut Caller, pc: u64) -> Result<Held, Busy>
     requires table { me.old.table ≡ words.now.table }
     requires idle { IsIdle me.old.log }
     requires surplus { CALL_CREDIT ≤ surplus me.old }

@@ -1,7 +1,6 @@
 use Rattle.std.proofs.Common.{sym, subst, true, IfErr}
 use Rattle.node_store.specs.Locking.{FoundBusy}
 use Rattle.tree_shape.specs.NodeData.{IsInFences}
-use Rattle.word_rule.specs.CallerData.{CallerData}
 use Rattle.btree_change.specs.Releases.{Spends}
 use Rattle.btree_change.proofs.Releases.{under_left, under_may}
 use Rattle.btree_change.proofs.RemovalAnswers.{left_cause, left_spends}
