@@ -1,5 +1,5 @@
 -- A member is taken out of a held leaf and committed.
-use Rattle.std.proofs.Common.{◌≡◌, ◌≢◌, ℕ, zero, suc, ◌+◌, ◌-◌, ◌<◌, List, [], ◌∷◌, ◌++◌, length, length-append, sym, refl, ap, ◌∙◌, subst, arith, Bool, true, not, IsTrue, Some, None, IsSome, IsSomeAnd, is_some, eq-eqb, ne_eqb, le-leb, Contains, cond}
+use Rattle.std.proofs.Common.{◌≡◌, ◌≢◌, ℕ, zero, suc, ◌+◌, ◌-◌, ◌<◌, ◌⊎◌, inl, List, [], ◌∷◌, ◌++◌, length, length-append, sym, refl, ap, ◌∙◌, subst, arith, Bool, true, not, IsTrue, Some, None, IsSome, IsSomeAnd, is_some, eq-eqb, ne_eqb, le-leb, Contains, cond}
 use Rattle.std.proofs.lemmas.Option.{none-some}
 use Rattle.std.specs.List.{AllByRecursion}
 use mathlib.Core.List.{IsPrefix}
@@ -23,7 +23,7 @@ use Rattle.word_rule.specs.Commits.{AfterCommit, MayCommit}
 use Rattle.word_rule.specs.Exchange.{is_lawful, is_leaf_at, settle}
 use Rattle.word_rule.specs.Memory.{updated}
 use Rattle.word_rule.specs.NodeTells.{KnowsTree}
-use Rattle.word_rule.specs.Steps.{after_update}
+use Rattle.word_rule.specs.Steps.{after_update, place_by}
 use Rattle.word_rule.specs.declared.log.Budget.{Budget}
 use Rattle.word_rule.specs.declared.log.Holding.{Holding}
 use Rattle.word_rule.specs.declared.log.Log.{Log}
@@ -118,10 +118,17 @@ module _ (law : TakeLaw) (laws : LeafLaws) (t : Terms) (at : Held) (base : ℕ) 
   exact_is : exact ≡ k2.log
   exact_is = (λ i. record k2.log { holdings = record { held = sym written.held i; out = sym (written.out ∙ alone.out) i } })
 
-  pub may_take : 0 < k2.log.budget.allowance → MayCommit t (update.Deregister base) k2.log
-  may_take due = record {
+  pub may_take : 0 < k2.log.budget.allowance → k2.log.loader ≡ None → MayCommit t (update.Deregister base) k2.log
+  may_take due unloaded = record {
     due = due;
     member = tt;
+    few = record {
+      leaf = written.lock;
+      held = subst (λ hs. Contains hs written.lock) (sym written.held) (0, omega arith, refl);
+      changed = ap (is_leaf_at base) written.spells ∙ in_leaf;
+      others = subst (AllByRecursion (λ (h : Holding). (h ≡ written.lock) ⊎ IsSome (place_by written.lock.node h.mark h))) (sym written.held) (inl refl, tt);
+      loader = unloaded;
+    };
     lawful = subst (λ z. IsTrue (is_lawful z (Some (update.Deregister base)))) exact_is
         (lawful_commit laws k2.log (update.Deregister base) written.lock [] now marked written.spells tt in_leaf level tree.contents tree.live after here after_here change);
   }

@@ -60,7 +60,7 @@ commit-number-requires-clause-may c =
     let written = cut_written t at k k1 found alone load base c.args.begun k2 there.1 c.cut_in_place-member.ensures.stores c.cut_in_place-member.ensures.spells in
     let steps = steps_then k k1 k2 (cut_steps t at k k1 found alone load) written.same in
     let some : 0 < due k2 = subst (λ d. 0 < d) (sym (λ i. (steps.budget i).allowance - steps.left i)) c.requires.due in
-    may_take c.take.ensures.change (record { decided = c.exchange_decided.ensures; transfer = c.transfer.ensures.lawful; tests = c.transfer.ensures.tests }) t at base c.cut_in_place-member.result k k1 k2 now_alone tree leaf c.requires.level c.requires.here c.requires.spare (taken_there base c.args.begun at.content c.cut_in_place-member.result leaf order c.requires.held c.requires.begun c.cut_in_place-member.ensures.entry) written (omega (arith, some))
+    may_take c.take.ensures.change (record { decided = c.exchange_decided.ensures; transfer = c.transfer.ensures.lawful; tests = c.transfer.ensures.tests }) t at base c.cut_in_place-member.result k k1 k2 now_alone tree leaf c.requires.level c.requires.here c.requires.spare (taken_there base c.args.begun at.content c.cut_in_place-member.result leaf order c.requires.held c.requires.begun c.cut_in_place-member.ensures.entry) written (omega (arith, some)) (steps.loader ∙ c.requires.loader)
 
 pub returns : goal.returns
 returns c =
