@@ -77,7 +77,7 @@ pub(crate) fn take_child<L: Locking>(
 ) -> Result<Child, Busy>
     requires table { me.old.table ≡ words.now.table }
     requires terms { me.old.log.terms ≡ words.now.terms }
-    requires held { HoldsAlone words.now.terms above me.old.log.holdings }
+    requires alone { HoldsAlone words.now.terms above me.old.log.holdings }
     requires inner { 0 < above.content.level }
     requires here { IsInFences pc above.content }
     requires surplus { 0 < surplus me.old }

@@ -13,13 +13,13 @@ use Rattle.btree_change.proofs.sibling.take_child.Goals as goal
 use Rattle.btree_change.proofs.Lowering.{settled_order}
 
 pub slot_of-slot-requires-clause-spells : goal.slot_of-slot-requires-clause-spells
-slot_of-slot-requires-clause-spells g c = alone_spells c.args.words.now.terms c.args.above c.args.me.now.log c.requires.held
+slot_of-slot-requires-clause-spells g c = alone_spells c.args.words.now.terms c.args.above c.args.me.now.log c.requires.alone
 
 pub slot_of-slot-requires-clause-ordered : goal.slot_of-slot-requires-clause-ordered
-slot_of-slot-requires-clause-ordered g c = settled_order c.args.words.now.terms c.args.above.node c.args.above.content c.args.above.changed c.requires.held.lock c.requires.held.here
+slot_of-slot-requires-clause-ordered g c = settled_order c.args.words.now.terms c.args.above.node c.args.above.content c.args.above.changed c.requires.alone.lock c.requires.alone.here
 
 pub pair_of-node-requires-clause-spells : goal.pair_of-node-requires-clause-spells
-pair_of-node-requires-clause-spells g c = spells_later c.args.above.node c.args.above.content c.args.me.now.log c.slot_of-slot.new.me.log c.slot_of-slot.ensures.holdings (alone_spells c.args.words.now.terms c.args.above c.args.me.now.log c.requires.held)
+pair_of-node-requires-clause-spells g c = spells_later c.args.above.node c.args.above.content c.args.me.now.log c.slot_of-slot.new.me.log c.slot_of-slot.ensures.holdings (alone_spells c.args.words.now.terms c.args.above c.args.me.now.log c.requires.alone)
 
 pub let_go_of-requires-clause-surplus : goal.let_go_of-requires-clause-surplus
 let_go_of-requires-clause-surplus g c = subst (λ d. 0 < d) (sym ((busy_kept (lock.Node c.pair_of-node.result.child) c.pair_of-node.new.me c.take_node.new.me c.in-Err.ensures.busy.1).1 ∙ (ap surplus c.pair_of-node.ensures.loads.1 ∙ ap surplus c.slot_of-slot.ensures.loads.1))) c.requires.surplus
@@ -29,7 +29,7 @@ outline_of-content-requires-clause-held g c = may_read_taken c.args.words.now.te
 
 pub returns-clause-ok : goal.returns-clause-ok
 returns-clause-ok g c =
-    let alone = subst (HoldsAlone c.args.words.now.terms c.args.above) (sym (c.pair_of-node.ensures.holdings ∙ c.slot_of-slot.ensures.holdings)) c.requires.held in
+    let alone = subst (HoldsAlone c.args.words.now.terms c.args.above) (sym (c.pair_of-node.ensures.holdings ∙ c.slot_of-slot.ensures.holdings)) c.requires.alone in
     let terms = ap (λ (z : CallerData). z.log.terms) c.pair_of-node.ensures.loads.1 ∙ (ap (λ (z : CallerData). z.log.terms) c.slot_of-slot.ensures.loads.1 ∙ c.requires.terms) in
     (child_so c.args.words.now.terms c.args.above c.args.pc c.slot_of-slot.result c.pair_of-node.result c.pair_of-node.new.me c.take_node.new.me c.outline_of-content.new.me c.outline_of-content.result terms alone c.requires.inner c.requires.here c.slot_of-slot.ensures.first c.pair_of-node.ensures.pair c.in_default.ensures.ok c.outline_of-content.ensures.spells c.outline_of-content.ensures.holdings, refl)
 
@@ -57,18 +57,18 @@ returns-in-Err-clause-spends g c =
     steps_after 0 1 1 k k3 c.let_go_of.new.me (omega arith) (spends_same k k3 before) c.let_go_of.ensures.steps
 
 pub take_node-requires-clause-inside : goal.take_node-requires-clause-inside
-take_node-requires-clause-inside g c = child_within c.args.words.now.terms c.args.above c.args.me.now.log.holdings c.slot_of-slot.result c.pair_of-node.result c.requires.held c.pair_of-node.ensures.pair
+take_node-requires-clause-inside g c = child_within c.args.words.now.terms c.args.above c.args.me.now.log.holdings c.slot_of-slot.result c.pair_of-node.result c.requires.alone c.pair_of-node.ensures.pair
 
 pub let_go_of-requires-clause-may : goal.let_go_of-requires-clause-may
 let_go_of-requires-clause-may g c =
     let k3 = c.take_node.new.me in
     let same = (busy_kept (lock.Node c.pair_of-node.result.child) c.pair_of-node.new.me k3 c.in-Err.ensures.busy.1).0 ∙ (c.pair_of-node.ensures.holdings ∙ c.slot_of-slot.ensures.holdings) in
-    lock_may c.args.above.node c.args.above.changed k3.log.holdings (subst (HoldsLock c.args.above.node c.args.above.changed) (sym same) (alone_lock c.args.words.now.terms c.args.above c.args.me.now.log.holdings c.requires.held))
+    lock_may c.args.above.node c.args.above.changed k3.log.holdings (subst (HoldsLock c.args.above.node c.args.above.changed) (sym same) (alone_lock c.args.words.now.terms c.args.above c.args.me.now.log.holdings c.requires.alone))
 
 pub returns-in-Err-clause-busy : goal.returns-in-Err-clause-busy
 returns-in-Err-clause-busy g c =
     let k3 = c.take_node.new.me in
     let same = (busy_kept (lock.Node c.pair_of-node.result.child) c.pair_of-node.new.me k3 c.in-Err.ensures.busy.1).0 ∙ (c.pair_of-node.ensures.holdings ∙ c.slot_of-slot.ensures.holdings) in
-    let alone = subst (HoldsAlone c.args.words.now.terms c.args.above) (sym same) c.requires.held in
+    let alone = subst (HoldsAlone c.args.words.now.terms c.args.above) (sym same) c.requires.alone in
     let goes = c.let_go_of.ensures in
     ((lock_gone c.args.above.node c.args.above.changed k3 c.let_go_of.new.me (alone_lock c.args.words.now.terms c.args.above k3.log.holdings alone) goes, goes.out ∙ alone.out), c.in-Err.ensures.busy.2)
