@@ -25,7 +25,7 @@ use Rattle.word_rule.specs.declared.log.LoaderHolding.{LoaderHolding}
 use Rattle.word_rule.specs.declared.log.Log.{Log}
 use Rattle.word_rule.specs.Places.{lower, spare, upper}
 use Rattle.word_rule.specs.Memory.{Memory}
-use Rattle.word_rule.specs.Logs.{is_spent, weight, turns, own_list}
+use Rattle.word_rule.specs.Logs.{is_gone, is_nameless, weight, turns, own_list}
 use Rattle.word_rule.specs.Steps.{IsDone, after_update}
 use Rattle.word_rule.specs.Callers.{total, CallersHold, LogHolds, ReceiptsHold, AtLoader, LoaderLock, NoneStored, IsOfTerms, dones_in, number_of, publications, start}
 use Rattle.word_rule.specs.Nodes.{Shadow}
@@ -103,8 +103,8 @@ prefix_all a b c p = (p.0 ++ c, sym (append_assoc a p.0 c) ∙ ap (λ z. z ++ c)
 
 module _ (t : Terms) (m : Memory) (views : List Log) (history : List Update) (c : CallersHold t m views history) (id : ℕ) (v : Log) (caller : v.role ≡ role.Caller) (at : get_elem? views id ≡ some v)
     (u : Update) (due : 0 < v.budget.allowance) (member : IsOfTerms t u) (fit : Fits u (state_after (start t) history)) (answer : Receipt) (told : Accepts u (state_after (start t) history) (length history) answer) where
-  stands : is_spent v.role ≡ false
-  stands = ap is_spent caller
+  stands : is_nameless v.role ≡ false
+  stands = ap is_nameless caller
 
   len : length (history ++ u ∷ []) ≡ length history + 1
   len = length-append history (u ∷ [])
@@ -149,7 +149,7 @@ module _ (t : Terms) (m : Memory) (views : List Log) (history : List Update) (c 
     each : (callers : ℕ) → callers ≡ total (λ z. z.made) views + 1 → (j : ℕ) (z : Log) → get_elem? (set views id w) j ≡ some z → LogHolds t (history ++ u ∷ []) callers z
     each callers is_c = after_step (λ _ z. LogHolds t (history ++ u ∷ []) callers z) views id w
         (let log = c.each id v at in record {
-          terms = λ _. log.terms stands;
+          terms = λ _. log.terms (ap is_gone caller);
           begins = ([], append-nil (history ++ u ∷ []));
           receipts = receipts callers;
           lineage = log.lineage;

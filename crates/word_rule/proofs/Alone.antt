@@ -18,13 +18,13 @@ use Rattle.word_rule.specs.declared.log.ReceiptList.{ReceiptList}
 use Rattle.word_rule.specs.declared.log.Log.{Log}
 use Rattle.word_rule.specs.declared.log.Terms.{Terms}
 use Rattle.tree_shape.specs.Numbers.{once}
-use Rattle.word_rule.specs.Logs.{is_spent}
-use Rattle.word_rule.specs.Callers.{total, CallersHold, LogHolds, IsRecord, ReceiptsHold, IsAlone, IsWhole, dones, dones_of_all, dones_in, number_of, start}
+use Rattle.word_rule.specs.Logs.{is_nameless}
+use Rattle.word_rule.specs.Callers.{total, CallersHold, LogHolds, IsRecord, ReceiptsHold, IsAlone, IsWhole, dones_of_all, dones_in, number_of, start}
 use Rattle.word_rule.specs.TableInvariant.{TableInvariant}
 use Rattle.word_rule.specs.Plays.{confirms}
 use Rattle.word_rule.proofs.Facts.{part_of_total, all_of_total}
 use Rattle.word_rule.specs.Memory.{Memory, memory_of}
-use Rattle.word_rule.proofs.Lineages.{others_spent}
+use Rattle.word_rule.proofs.Lineages.{others_nameless, not_gone}
 use Rattle.word_rule.proofs.Memories.{set_same}
 
 -- numbers are not above what was seen
@@ -52,14 +52,14 @@ last_number : (n : ℕ) → 0 < n → number_of n n ≡ 1
 last_number n h = rw (le-leb 1 n h, le-leb n n (omega arith)) refl
 
 module _ (t : Terms) (m : Memory) (views : List Log) (history : List Update) (r : CallersHold t m views history) (id : ℕ) (v : Log) (at : get_elem? views id ≡ some v) (alone : IsAlone v.lineage) where
-  spent_others : (j : ℕ) (u : Log) → j ≢ id → get_elem? views j ≡ some u → is_spent u.role ≡ true
-  spent_others = others_spent views (λ j u e. (r.each j u e).lineage) r.lineages id v at alone
+  nameless_others : (j : ℕ) (u : Log) → j ≢ id → get_elem? views j ≡ some u → is_nameless u.role ≡ true
+  nameless_others = others_nameless views (λ j u e. (r.each j u e).lineage) r.lineages id v at alone
 
   dones_all : (n : ℕ) → total (dones_in n) views ≡ dones_in n v
-  dones_all n = all_of_total (dones_in n) views id v at (λ j u far there. let s = r.lineages.spent j u there (spent_others j u far there) in (λ i. dones n record { since = u.receipts.since; own = s.0 i; joined = s.1 i; heard = u.receipts.heard }))
+  dones_all n = all_of_total (dones_in n) views id v at (λ j u far there. (r.lineages.nameless j u there (nameless_others j u far there)).0 n)
 
   made_all : total (λ u. u.made) views ≡ v.made
-  made_all = all_of_total (λ u. u.made) views id v at (λ j u far there. (r.lineages.spent j u there (spent_others j u far there)).2)
+  made_all = all_of_total (λ u. u.made) views id v at (λ j u far there. (r.lineages.nameless j u there (nameless_others j u far there)).1)
 
   own_log : LogHolds t history (v.made + 1) v
   own_log = subst (λ m. LogHolds t history (m + 1) v) made_all (r.each id v at)
@@ -80,11 +80,11 @@ module _ (t : Terms) (m : Memory) (views : List Log) (history : List Update) (r 
           let b = dones_all_within t v.past (v.made + 1) n v.receipts.joined above own_log.receipts.joined in
           let c = dones_all n in let d = r.numbers n in let e = last_number n (omega (arith, above)) in absurd (omega (arith, a, b, c, d, e))
 
-  pub whole : is_spent v.role ≡ false → IsWhole v
+  pub whole : is_nameless v.role ≡ false → IsWhole v
   whole stands = record {
-    lawful = subst (λ s. IsHistory (start s) v.past) (sym (own_log.terms stands)) (history_front (start t) v.past own_log.begins.0 (subst (IsHistory (start t)) (sym own_log.begins.1) r.lawful));
+    lawful = subst (λ s. IsHistory (start s) v.past) (sym (own_log.terms (not_gone v.role stands))) (history_front (start t) v.past own_log.begins.0 (subst (IsHistory (start t)) (sym own_log.begins.1) r.lawful));
     numbers = λ n. sym (dones_all n) ∙ (r.numbers n ∙ ap (λ k. number_of k n) (sym seen_all));
-    receipts = subst (λ s. ReceiptsHold s v.past (v.made + 1) v.receipts) (sym (own_log.terms stands)) own_log.receipts;
+    receipts = subst (λ s. ReceiptsHold s v.past (v.made + 1) v.receipts) (sym (own_log.terms (not_gone v.role stands))) own_log.receipts;
   }
 
 pub settles_loads : (t : Terms) (slots id : ℕ) (me : Me (Unit {0}) Log) → Allows (λ (s : TableState (Unit {0}) Log). TableInvariant t s.words s.views) slots id me 0 (λ n. n) (confirms (step slots 0 0 0 none) me)
@@ -103,7 +103,7 @@ first_word [] n e = absurd (some-ne-none n (sym e))
 first_word (x ∷ words) n e = some-injective x n e
 
 -- what is found where one that is alone takes the words apart
-pub closes : (t : Terms) (words : List ℕ) (slots : List (Unit {0})) (id : ℕ) (v : Log) (n : ℕ) → is_spent v.role ≡ false → IsAlone v.lineage → Final (Seen (λ (s : TableState (Unit {0}) Log). TableInvariant t s.words s.views) id v) words slots → get_elem? words 0 ≡ some n
+pub closes : (t : Terms) (words : List ℕ) (slots : List (Unit {0})) (id : ℕ) (v : Log) (n : ℕ) → is_nameless v.role ≡ false → IsAlone v.lineage → Final (Seen (λ (s : TableState (Unit {0}) Log). TableInvariant t s.words s.views) id v) words slots → get_elem? words 0 ≡ some n
     → (n % 4294967296 ≡ length v.past) × IsWhole v
 closes t words slots id v n stands alone final found =
     let s = final.0 in let r = final.1.0.memory.callers in let history = final.1.0.memory.history in

@@ -1,5 +1,5 @@
 -- Receipts that answer what was asked, and hold now: they go on a log's own, and end what its loads told of fullness.
-use Rattle.std.proofs.Common.{◌≡◌, ℕ, ◌+◌, ◌≤◌, ◌⊎◌, ⊎_elim, List, [], ◌∷◌, ◌++◌, length, length-append, set, sym, refl, ap, ◌∙◌, subst, arith, ◌==◌, ◌&&◌, false, true≢false, is_some, append-nil}
+use Rattle.std.proofs.Common.{◌≡◌, ℕ, ◌+◌, ◌≤◌, ◌⊎◌, ⊎_elim, List, [], ◌∷◌, ◌++◌, length, length-append, set, sym, refl, ap, ◌∙◌, subst, arith, ◌==◌, ◌&&◌, false, is_some, append-nil}
 use Rattle.std.specs.List.{AllByRecursion, count_by}
 use Rattle.std.proofs.lemmas.List.Sums.{sum_by_push}
 use mathlib.Core.Option.{some}
@@ -11,12 +11,11 @@ use Rattle.reg_model.specs.declared.answer.Update.{Update}
 use Rattle.reg_model.specs.declared.answer.Receipt.{Receipt}
 use Rattle.tree_shape.specs.Numbers.{once}
 use Rattle.word_rule.specs.declared.log.ReceiptList.{ReceiptList}
-use Rattle.word_rule.specs.declared.log.Role.TheVariants as role
 use Rattle.word_rule.specs.declared.log.LoadEvent.{LoadEvent}
 use Rattle.word_rule.specs.declared.log.Terms.{Terms}
 use Rattle.word_rule.specs.declared.log.Log.{Log}
 use Rattle.word_rule.specs.Memory.{Memory, memory_of}
-use Rattle.word_rule.specs.Logs.{is_spent, weight, turns, own_list}
+use Rattle.word_rule.specs.Logs.{weight, turns, own_list}
 use Rattle.word_rule.specs.Sights.{with_receipts}
 use Rattle.word_rule.specs.Callers.{total, CallersHold, LogHolds, IsRecord, AtLoader, LoaderLock, dones_in}
 use Rattle.word_rule.specs.Observations.{WasFull, ObservationsHold, last_moment}
@@ -24,9 +23,9 @@ use Rattle.word_rule.specs.TableInvariant.{TableInvariant}
 use Rattle.word_rule.proofs.Refusals.{HoldsNow, answer_record}
 use Rattle.word_rule.proofs.Facts.{total_same, after_step}
 use Rattle.word_rule.proofs.Each.{all_map}
-use Rattle.word_rule.proofs.CallersFrame.{lineages_over, lock_stays, none_before, busy}
+use Rattle.word_rule.proofs.CallersFrame.{lineages_over, lock_stays, none_before, idle_stays}
 use Rattle.word_rule.proofs.NodesFrame.{nodes_same}
-use Rattle.word_rule.proofs.Frames.{table_step}
+use Rattle.word_rule.proofs.Frames.{no_word_step}
 use Rattle.word_rule.proofs.Joins.{record_later}
 
 -- what is asked is answered by one such receipt, which comes after a log's own, or by none
@@ -61,15 +60,12 @@ all_ended t history callers most own rs [] e h = tt
 all_ended t history callers most own rs (l ∷ ls) e h = (ended t history callers own rs l e.0.1 h.0, all_ended t history callers most own rs ls e.1 h.1)
 
 -- A log that gets such receipts, and does nothing else.
-module _ (t : Terms) (words : List ℕ) (views : List Log) (r : TableInvariant t words views) (id : ℕ) (v : Log) (at : get_elem? views id ≡ some v) (caller : v.role ≡ role.Caller) (rs : List Receipt) (told : Told t v.past (own_list v.receipts) rs) where
+module _ (t : Terms) (words : List ℕ) (views : List Log) (r : TableInvariant t words views) (id : ℕ) (v : Log) (at : get_elem? views id ≡ some v) (rs : List Receipt) (told : Told t v.past (own_list v.receipts) rs) where
   abbrev m : Memory
   m = memory_of t words
 
   abbrev w : Log
   w = with_receipts rs v
-
-  stands : is_spent v.role ≡ false
-  stands = ap is_spent caller
 
   own_past : IsPrefix v.past v.past
   own_past = ([], append-nil v.past)
@@ -84,7 +80,7 @@ module _ (t : Terms) (words : List ℕ) (views : List Log) (r : TableInvariant t
         begins = mine.begins;
         receipts = record { since = mine.receipts.since; own = told_record t v.past v.past c (own_list v.receipts) rs own_past mine.receipts.since told mine.receipts.own; joined = mine.receipts.joined; heard = mine.receipts.heard };
         lineage = mine.lineage;
-        idle = busy v w caller;
+        idle = idle_stays v w refl refl mine.idle;
       })
       (λ j u _ there. subst (λ k. LogHolds t r.memory.history k u) (sym is_c) (r.memory.callers.each j u there))
 
@@ -105,7 +101,7 @@ module _ (t : Terms) (words : List ℕ) (views : List Log) (r : TableInvariant t
         at_loader = after_step (λ j u. AtLoader (memory_of t words) r.memory.callers.holder j u.loader) views id w (c.at_loader id v at) (λ j u _ there. c.at_loader j u there);
         spare_copy = λ clean. c.spare_copy (none_before views id v w at (λ h. h) clean);
         counted = (let e = total_same (λ u. u.budget.credit) views id v w at refl in let o = c.counted in omega (arith, e, o));
-        lineages = lineages_over views c.lineages id v w at refl refl (λ gone. absurd (true≢false (sym gone ∙ stands)));
+        lineages = lineages_over views c.lineages id v w at refl refl (λ gone. let h = c.lineages.nameless id v at gone in ((λ n. (let e = told_numbers t v.past (own_list v.receipts) rs n told in let o = h.0 n in omega (arith, e, o))), h.1));
       }
 
   mine : ObservationsHold t m r.memory.history (total (λ u. u.made) views + 1) r.memory.shadow w
@@ -119,7 +115,7 @@ module _ (t : Terms) (words : List ℕ) (views : List Log) (r : TableInvariant t
       }
 
   pub answered : TableInvariant t words (set views id w)
-  answered = table_step t words views r id v w at stands words m refl refl (record {
+  answered = no_word_step t words views r id w (record {
     history = r.memory.history;
     callers = callers;
     shadow = r.memory.shadow;

@@ -12,13 +12,17 @@ use Rattle.word_rule.specs.Memory.{Memory, counters}
 use Rattle.word_rule.specs.Places.{spare, upper}
 use Rattle.word_rule.specs.Copies.{IsBehind}
 use Rattle.word_rule.specs.Names.{name_count}
-use Rattle.word_rule.specs.Logs.{is_spent, weight}
+use Rattle.word_rule.specs.Logs.{is_gone, is_nameless, weight}
 use Rattle.word_rule.specs.Callers.{total, CallersHold, LogHolds, LineagesHold, IsIdle, AtLoader, LoaderLock, NoneStored, dones, dones_in}
 use Rattle.word_rule.proofs.Facts.{total_set, total_same, after_step, within, decided}
 
 -- a caller's log has weight 1, so what is asked of others isn't asked of it
 pub busy : (v w : Log) → v.role ≡ role.Caller → weight v.role ≡ 0 → IsIdle w
 busy v w caller zero_weight = absurd (let one : weight v.role ≡ 1 = ap weight caller in omega (arith, zero_weight, one))
+
+-- one that keeps its locks and what it has out stays idle
+pub idle_stays : (v w : Log) → w.holdings ≡ v.holdings → w.loader ≡ v.loader → (weight v.role ≡ 0 → IsIdle v) → weight v.role ≡ 0 → IsIdle w
+idle_stays v w holdings loader idle zero_weight = let i = idle zero_weight in record { held = ap (λ h. h.held) holdings ∙ i.held; out = ap (λ h. h.out) holdings ∙ i.out; loader = loader ∙ i.loader }
 
 -- What such a step leaves as it is in its log.
 pub record IsLike (v w : Log) : Type 0 where
@@ -53,29 +57,32 @@ none_before views id v w at mine clean j u there = ⊎_elim
     (λ (is : j ≢ id). clean j u (set_else views id j w is ∙ there)) (decided j id)
 
 -- how logs were forked stays where one keeps its role, its names and its count of callers
-module _ (views : List Log) (lineages : LineagesHold views) (id : ℕ) (v w : Log) (at : get_elem? views id ≡ some v) (role : w.role ≡ v.role) (lineage : w.lineage ≡ v.lineage) (gone : is_spent w.role ≡ true → (w.receipts.own ≡ []) × (w.receipts.joined ≡ []) × (w.made ≡ 0)) where
-  had_role : {b : Bool} → is_spent w.role ≡ b → is_spent v.role ≡ b
-  had_role s = sym (ap is_spent role) ∙ s
+module _ (views : List Log) (lineages : LineagesHold views) (id : ℕ) (v w : Log) (at : get_elem? views id ≡ some v) (role : w.role ≡ v.role) (lineage : w.lineage ≡ v.lineage) (gone : is_nameless w.role ≡ true → ((n : ℕ) → dones_in n w ≡ 0) × (w.made ≡ 0)) where
+  had_role : {b : Bool} → is_nameless w.role ≡ b → is_nameless v.role ≡ b
+  had_role s = sym (ap is_nameless role) ∙ s
 
   pub lineages_over : LineagesHold (set views id w)
   lineages_over = record {
     gathered = λ x. rw (total_same (λ u. name_count x u.lineage.gathered) views id v w at (ap (λ k. name_count x k.gathered) lineage), total_same (λ u. name_count x u.lineage.given) views id v w at (ap (λ k. name_count x k.given) lineage)) (lineages.gathered x);
     given = λ x. rw (total_same (λ u. name_count x u.lineage.given) views id v w at (ap (λ k. name_count x k.given) lineage)) (lineages.given x);
-    named = after_step (λ _ u. is_spent u.role ≡ false → 0 < name_count u.lineage.name u.lineage.gathered) views id w (λ s. rw lineage (lineages.named id v at (had_role s))) (λ j u _ e. lineages.named j u e);
-    unused = after_step (λ _ u. is_spent u.role ≡ false → (n : ℕ) → u.lineage.forks ≤ n → total (λ z. name_count (u.lineage.name ++ n ∷ []) z.lineage.given) (set views id w) ≡ 0) views id w
+    named = after_step (λ _ u. is_nameless u.role ≡ false → 0 < name_count u.lineage.name u.lineage.gathered) views id w (λ s. rw lineage (lineages.named id v at (had_role s))) (λ j u _ e. lineages.named j u e);
+    unused = after_step (λ _ u. is_nameless u.role ≡ false → (n : ℕ) → u.lineage.forks ≤ n → total (λ z. name_count (u.lineage.name ++ n ∷ []) z.lineage.given) (set views id w) ≡ 0) views id w
         (λ s n b. subst (λ k. total (λ z. name_count (k.name ++ n ∷ []) z.lineage.given) (set views id w) ≡ 0) (sym lineage)
         (total_same (λ z. name_count (v.lineage.name ++ n ∷ []) z.lineage.given) views id v w at (ap (λ k. name_count (v.lineage.name ++ n ∷ []) k.given) lineage) ∙ lineages.unused id v at (had_role s) n (subst (λ k. k.forks ≤ n) lineage b)))
         (λ j u _ e s n b. rw (total_same (λ z. name_count (u.lineage.name ++ n ∷ []) z.lineage.given) views id v w at (ap (λ k. name_count (u.lineage.name ++ n ∷ []) k.given) lineage)) (lineages.unused j u e s n b));
-    spent = after_step (λ _ u. is_spent u.role ≡ true → (u.receipts.own ≡ []) × (u.receipts.joined ≡ []) × (u.made ≡ 0)) views id w gone (λ j u _ e. lineages.spent j u e);
+    nameless = after_step (λ _ u. is_nameless u.role ≡ true → ((n : ℕ) → dones_in n u ≡ 0) × (u.made ≡ 0)) views id w gone (λ j u _ e. lineages.nameless j u e);
   }
 
 module _ (t : Terms) (m : Memory) (views : List Log) (history : List Update) (r : CallersHold t m views history) (id : ℕ) (v w : Log) (at : get_elem? views id ≡ some v) (like : IsLike v w) where
-  was_spent : {b : Bool} → is_spent w.role ≡ b → is_spent v.role ≡ b
-  was_spent s = sym (ap is_spent like.role) ∙ s
+  was_nameless : {b : Bool} → is_nameless w.role ≡ b → is_nameless v.role ≡ b
+  was_nameless s = sym (ap is_nameless like.role) ∙ s
+
+  was_gone : {b : Bool} → is_gone w.role ≡ b → is_gone v.role ≡ b
+  was_gone s = sym (ap is_gone like.role) ∙ s
 
   like_log : (c : ℕ) → (weight w.role ≡ 0 → IsIdle w) → LogHolds t history c v → LogHolds t history c w
   like_log c idle h = record {
-    terms = λ s. like.terms ∙ h.terms (was_spent s);
+    terms = λ s. like.terms ∙ h.terms (was_gone s);
     begins = rw like.past h.begins;
     receipts = rw (like.past, like.receipts) h.receipts;
     lineage = rw like.lineage h.lineage;
@@ -84,7 +91,7 @@ module _ (t : Terms) (m : Memory) (views : List Log) (history : List Update) (r 
 
   lineages_stay : LineagesHold (set views id w)
   lineages_stay = lineages_over views r.lineages id v w at like.role like.lineage
-      (λ s. let h = r.lineages.spent id v at (was_spent s) in (ap (λ k. k.own) like.receipts ∙ h.0, ap (λ k. k.joined) like.receipts ∙ h.1, like.made ∙ h.2))
+      (λ s. let h = r.lineages.nameless id v at (was_nameless s) in ((λ n. ap (dones n) like.receipts ∙ h.0 n), like.made ∙ h.1))
 
   -- no counter rises by more than the credit falls
   pub callers_step : (m' : Memory) (holder : Option ℕ) → m'.clock ≡ m.clock → counters t m' + w.budget.credit ≤ counters t m + v.budget.credit → LoaderLock m'.loader (set views id w) holder

@@ -17,7 +17,6 @@ use Rattle.tree_shape.specs.NodeData.{IsLeaf, IsInFences, LiesInFences, entries_
 use Rattle.tree_shape.specs.Trees.{Contents, HasEntry}
 use Rattle.tree_shape.specs.Lawful.{IsTree}
 use Rattle.word_rule.specs.declared.log.ReceiptList.{ReceiptList}
-use Rattle.word_rule.specs.declared.log.Role.TheVariants as role
 use Rattle.word_rule.specs.declared.log.Ask.{Ask}
 use Rattle.word_rule.specs.declared.log.Ask.TheVariants as ask
 use Rattle.word_rule.specs.declared.log.CopySight.{CopySight}
@@ -27,12 +26,12 @@ use Rattle.word_rule.specs.declared.log.Terms.{Terms}
 use Rattle.word_rule.specs.declared.log.Log.{Log}
 use Rattle.word_rule.specs.Places.{lower, upper}
 use Rattle.word_rule.specs.Memory.{Memory, memory_of}
-use Rattle.word_rule.specs.Logs.{is_spent, weight, turns, load_of, own_list}
+use Rattle.word_rule.specs.Logs.{is_gone, weight, turns, load_of, own_list}
 use Rattle.word_rule.specs.Sights.{after_clock, copies_after_clock, query_receipt, walk_receipts, with_clock}
 use Rattle.word_rule.specs.Callers.{total, CallersHold, LogHolds, IsMemberOf, AtLoader, LoaderLock, dones_in, start}
 use Rattle.word_rule.specs.Copies.{ListsAll, ListsMembers, CopySightHolds, IsBehind}
 use Rattle.word_rule.specs.Observations.{AreInside, SightHolds, WasFull, ObservationsHold, HadMembers, IsFullCount, last_moment}
-use Rattle.word_rule.specs.TableInvariant.{TableInvariant, IsStill}
+use Rattle.word_rule.specs.TableInvariant.{TableInvariant}
 use Rattle.word_rule.specs.Clock.{IsSeen, ClockTells, MayAsk, AreAsked}
 use Rattle.word_rule.specs.TreeRefusals.{Appends, AppendsRefusal}
 use Rattle.reg_model.specs.declared.answer.Update.TheVariants as update
@@ -46,10 +45,9 @@ use Rattle.word_rule.proofs.Refusals.{HoldsNow, query_at, query_answers, refusal
 use Rattle.word_rule.specs.Plays.{Seated, loads_clock}
 use Rattle.word_rule.proofs.Facts.{total_same, after_step, decided}
 use Rattle.word_rule.proofs.Each.{all_map, all_append, all_of, some_with}
-use Rattle.word_rule.proofs.Memories.{set_same}
-use Rattle.word_rule.proofs.CallersFrame.{lineages_over, lock_stays, none_before, none_elsewhere, busy}
+use Rattle.word_rule.proofs.CallersFrame.{lineages_over, lock_stays, none_before, none_elsewhere, idle_stays}
 use Rattle.word_rule.proofs.NodesFrame.{nodes_same}
-use Rattle.word_rule.proofs.Frames.{Sit, table_step, still_after_load}
+use Rattle.word_rule.proofs.Frames.{Sit, load_step, still_after_load}
 use Rattle.word_rule.proofs.Listings.{contains_find, lists_same, loaded_members, none_registered, registered_members, start_lawful, state_fixed, listed_few}
 use Rattle.word_rule.proofs.Joins.{prefix_both, records_later}
 use Rattle.word_rule.proofs.ObservationsFrame.{longer_length}
@@ -76,12 +74,9 @@ searched pc entries members exact = go (member_at pc entries) refl (member_at pc
 pub may_ask : (a b : Ask) (t u : Terms) (v : Log) → a ≡ b → t ≡ u → MayAsk t a v → MayAsk u b v
 may_ask a b t u v same terms h = subst (λ z. MayAsk z b v) terms (subst (λ z. MayAsk t z v) same h)
 
-module _ (law : LeafLaw) (t : Terms) (slots id : ℕ) (me : Seated) (caller : me.0.role ≡ role.Caller) (a : Ask) (may : MayAsk t a me.0) where
+module _ (law : LeafLaw) (t : Terms) (slots id : ℕ) (me : Seated) (live : is_gone me.0.role ≡ false) (a : Ask) (may : MayAsk t a me.0) where
   abbrev Rule : Sit → Type 0
   Rule s = TableInvariant t s.words s.views
-
-  stands : is_spent me.0.role ≡ false
-  stands = ap is_spent caller
 
   module _ (s : Sit) (r : Rule s) (at : get_elem? s.views id ≡ some me.0) where
     abbrev m : Memory
@@ -100,7 +95,7 @@ module _ (law : LeafLaw) (t : Terms) (slots id : ℕ) (me : Seated) (caller : me
     log = r.memory.callers.each id me.0 at
 
     terms : me.0.terms ≡ t
-    terms = (r.memory.callers.each id me.0 at).terms stands
+    terms = (r.memory.callers.each id me.0 at).terms live
 
     low : get_or s.words 0 0 % 4294967296 ≡ length r.memory.history
     low = r.memory.callers.updates
@@ -198,7 +193,7 @@ module _ (law : LeafLaw) (t : Terms) (slots id : ℕ) (me : Seated) (caller : me
           begins = ([], append-nil r.memory.history);
           receipts = record { since = since; own = told_record t me.0.past r.memory.history c (own_list me.0.receipts) receipts log.begins since told mine.receipts.own; joined = records_later t me.0.past r.memory.history c c mine.begins me.0.receipts.joined mine.receipts.joined; heard = prefix_both me.0.receipts.heard me.0.past r.memory.history mine.receipts.heard mine.begins };
           lineage = mine.lineage;
-          idle = busy me.0 w caller;
+          idle = idle_stays me.0 w refl refl mine.idle;
         })
         (λ j v _ there. subst (λ k. LogHolds t r.memory.history k v) (sym is_c) (r.memory.callers.each j v there))
 
@@ -219,7 +214,7 @@ module _ (law : LeafLaw) (t : Terms) (slots id : ℕ) (me : Seated) (caller : me
           at_loader = after_step (λ j v. AtLoader (memory_of t s.words) r.memory.callers.holder j v.loader) s.views id w (c.at_loader id me.0 at) (λ j v _ there. c.at_loader j v there);
           spare_copy = λ clean. c.spare_copy (none_before s.views id me.0 w at (λ h. h) clean);
           counted = (let e = total_same (λ v. v.budget.credit) s.views id me.0 w at refl in let o = c.counted in omega (arith, e, o));
-          lineages = lineages_over s.views c.lineages id me.0 w at refl refl (λ gone. absurd (true≢false (sym gone ∙ stands)));
+          lineages = lineages_over s.views c.lineages id me.0 w at refl refl (λ gone. let h = c.lineages.nameless id me.0 at gone in ((λ n. (let e = told_numbers t r.memory.history (own_list me.0.receipts) receipts n told in let o = h.0 n in omega (arith, e, o))), h.1));
         }
 
     -- where the clock is loaded, a sight that stands knows the members of then
@@ -273,7 +268,7 @@ module _ (law : LeafLaw) (t : Terms) (slots id : ℕ) (me : Seated) (caller : me
         }
 
     pub kept_table : TableInvariant t (set s.words 0 (get_or s.words 0 0)) (set s.views id w)
-    kept_table = table_step t s.words s.views r id me.0 w at stands (set s.words 0 (get_or s.words 0 0)) m (ap length (set_same s.words 0)) (ap (memory_of t) (set_same s.words 0)) (record {
+    kept_table = load_step t s.words s.views r id w 0 (record {
       history = r.memory.history;
       callers = callers;
       shadow = r.memory.shadow;
@@ -281,7 +276,7 @@ module _ (law : LeafLaw) (t : Terms) (slots id : ℕ) (me : Seated) (caller : me
       active = r.memory.active;
       observations = subst (λ c. (j : ℕ) (v : Log) → get_elem? (set s.views id w) j ≡ some v → ObservationsHold t m r.memory.history (c + 1) r.memory.shadow v) (sym made_same)
           (after_step (λ _ v. ObservationsHold t m r.memory.history (total (λ z. z.made) s.views + 1) r.memory.shadow v) s.views id w mine (λ j v _ there. r.memory.observations j v there));
-    }) (λ alone. subst (λ ws. IsStill ws w) (sym (set_same s.words 0)) (still_after_load s.words me.0 w event refl refl refl (r.alone id me.0 at alone)))
+    }) (λ alone. still_after_load s.words me.0 w event refl refl refl (r.alone id me.0 at alone))
 
     seen_copy : (o : Option CopySight) → IfSome o (CopySightHolds t (get_or s.words 0 0) m.copies) → IfSome o (λ g. g.guard ≡ upper (get_or s.words 0 0) → IsSeen t (state_after (start t) r.memory.history).loaded g)
     seen_copy None h = tt

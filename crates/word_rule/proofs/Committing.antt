@@ -26,7 +26,7 @@ use Rattle.word_rule.specs.declared.log.LoaderHolding.{LoaderHolding}
 use Rattle.word_rule.specs.declared.log.Log.{Log}
 use Rattle.word_rule.specs.Places.{upper}
 use Rattle.word_rule.specs.Memory.{Memory, memory_of}
-use Rattle.word_rule.specs.Logs.{is_spent}
+use Rattle.word_rule.specs.Logs.{is_gone, is_nameless}
 use Rattle.word_rule.specs.Exchange.{IsLawfulExchange, after_exchange, group_of, settle_free, top_of}
 use Rattle.word_rule.specs.Steps.{IsDone, after_update}
 use Rattle.word_rule.specs.Commits.{AfterCommit, MayCommit, after_commit}
@@ -58,8 +58,8 @@ module _ (t : Terms) (slots id : ℕ) (me : Seated) (caller : me.0.role ≡ role
   abbrev Rule : Sit → Type 0
   Rule s = TableInvariant t s.words s.views
 
-  stands : is_spent me.0.role ≡ false
-  stands = ap is_spent caller
+  stands : is_nameless me.0.role ≡ false
+  stands = ap is_nameless caller
 
   module _ (u : Update) (may : MayCommit t u me.0) (s : Sit) (r : Rule s) (at : get_elem? s.views id ≡ some me.0) where
     abbrev m : Memory
@@ -211,7 +211,7 @@ module _ (t : Terms) (slots id : ℕ) (me : Seated) (caller : me.0.role ≡ role
     settled_so = ap (λ b. after_update u r.memory.history answer_of.0 (if b then after_exchange me.0 top group else settle_free me.0)) (sym may.lawful)
 
     pub after_it : AfterCommit u (get_or s.words 0 0) me.0 w
-    after_it = let terms : me.0.terms ≡ t = (r.memory.callers.each id me.0 at).terms stands in (
+    after_it = let terms : me.0.terms ≡ t = (r.memory.callers.each id me.0 at).terms (ap is_gone caller) in (
       r.memory.history,
       answer_of.0,
       (

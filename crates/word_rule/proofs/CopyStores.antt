@@ -13,7 +13,7 @@ use Rattle.word_rule.specs.declared.log.CopySight.{CopySight}
 use Rattle.word_rule.specs.declared.log.Log.{Log}
 use Rattle.word_rule.specs.Places.{copy_place, copy_words, upper, spare, word_count}
 use Rattle.word_rule.specs.Memory.{Memory, memory_of, updated}
-use Rattle.word_rule.specs.Logs.{is_spent, after_write}
+use Rattle.word_rule.specs.Logs.{is_gone, is_nameless, after_write}
 use Rattle.word_rule.specs.Steps.{MayStoreCopy, store_in_copy, after_copy_store, spare_place}
 use Rattle.reg_model.specs.History.{state_after}
 use Rattle.word_rule.specs.Callers.{HoldsLoader, AtLoader, LoaderLock, start}
@@ -59,8 +59,8 @@ module _ (t : Terms) (slots id : ℕ) (me : Seated) (caller : me.0.role ≡ role
   abbrev Holds : Sit → Type 0
   Holds s = TableInvariant t s.words s.views
 
-  stands : is_spent me.0.role ≡ false
-  stands = ap is_spent caller
+  stands : is_nameless me.0.role ≡ false
+  stands = ap is_nameless caller
 
   module _ (h : LoaderHolding) (is : me.0.loader ≡ Some h) (k x : ℕ) (inside : k < copy_words t) (s : Sit) (r : Holds s) (at : get_elem? s.views id ≡ some me.0) where
     abbrev m : Memory
@@ -130,7 +130,7 @@ module _ (t : Terms) (slots id : ℕ) (me : Seated) (caller : me.0.role ≡ role
       let k : ℕ = at - spare_place t h in
       let low = may.0 in let high = may.1 in
       let place : copy_place t (spare (get_or s.words 0 0)) + k ≡ at = omega (arith, same, low) in
-      let terms : me.0.terms ≡ t = (r.memory.callers.each id me.0 here).terms stands in
+      let terms : me.0.terms ≡ t = (r.memory.callers.each id me.0 here).terms (ap is_gone caller) in
       let held : option_map (put_in_copy k x) me.0.loader ≡ option_map (store_in_copy me.0.terms at x) me.0.loader = ap (option_map (put_in_copy k x)) is ∙ (ap (λ u. Some (store_in_copy u at x h)) (sym terms) ∙ sym (ap (option_map (store_in_copy me.0.terms at x)) is)) in
       let w : Log = after_copy_store at x me.0 in
       let log : after_put k x me.0 ≡ w = (λ i. record (after_write me.0) { loader = held i }) in

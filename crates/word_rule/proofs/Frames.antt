@@ -8,12 +8,13 @@ use Rattle.word_rule.specs.declared.log.Terms.{Terms}
 use Rattle.word_rule.specs.declared.log.LoadEvent.{LoadEvent}
 use Rattle.word_rule.specs.declared.log.Log.{Log}
 use Rattle.word_rule.specs.Memory.{Memory, memory_of}
-use Rattle.word_rule.specs.Logs.{is_spent, turns}
+use Rattle.word_rule.specs.Logs.{is_nameless, turns}
 use Rattle.word_rule.specs.Callers.{total, CallersHold, IsAlone}
 use Rattle.word_rule.specs.Observations.{ObservationsHold}
 use Rattle.word_rule.specs.TableInvariant.{MemoryHolds, TableInvariant, IsStill}
 use Rattle.word_rule.proofs.Facts.{total_same, after_step}
 use Rattle.word_rule.proofs.Each.{all_map, all_append}
+use Rattle.word_rule.proofs.Memories.{set_same}
 use Rattle.word_rule.proofs.Lineages.{none_alone}
 use Rattle.word_rule.proofs.NodesFrame.{nodes_same}
 
@@ -32,7 +33,20 @@ still_after_load words v w l same loads found still = subst (AllByRecursion (λ 
     (all_append (λ k. k.turns ≡ turns w.trace → get_or words k.word 0 ≡ k.found) v.trace.loads (l ∷ [])
     (all_map (λ k. k.turns ≡ turns v.trace → get_or words k.word 0 ≡ k.found) (λ k. k.turns ≡ turns w.trace → get_or words k.word 0 ≡ k.found) (λ k e is. e (is ∙ same)) v.trace.loads still) ((λ _. found), tt))
 
-module _ (t : Terms) (words : List ℕ) (views : List Log) (r : TableInvariant t words views) (id : ℕ) (v w : Log) (at : get_elem? views id ≡ some v) (stands : is_spent v.role ≡ false) where
+module _ (t : Terms) (words : List ℕ) (views : List Log) (r : TableInvariant t words views) (id : ℕ) (w : Log) where
+  -- a step that changes no word leaves the words that others found as they are
+  pub no_word_step : MemoryHolds t (memory_of t words) (set views id w) → (IsAlone w.lineage → IsStill words w) → TableInvariant t words (set views id w)
+  no_word_step holds still = record {
+    wide = r.wide;
+    memory = holds;
+    alone = after_step (λ _ u. IsAlone u.lineage → IsStill words u) views id w still (λ j u _ there. r.alone j u there);
+  }
+
+  -- as does a load
+  pub load_step : (k : ℕ) → MemoryHolds t (memory_of t words) (set views id w) → (IsAlone w.lineage → IsStill words w) → TableInvariant t (set words k (get_or words k 0)) (set views id w)
+  load_step k holds still = subst (λ ws. TableInvariant t ws (set views id w)) (sym (set_same words k)) (no_word_step holds still)
+
+module _ (t : Terms) (words : List ℕ) (views : List Log) (r : TableInvariant t words views) (id : ℕ) (v w : Log) (at : get_elem? views id ≡ some v) (stands : is_nameless v.role ≡ false) where
   abbrev m : Memory
   m = memory_of t words
 

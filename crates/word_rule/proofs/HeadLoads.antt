@@ -11,7 +11,7 @@ use Rattle.word_rule.specs.declared.log.Role.TheVariants as role
 use Rattle.word_rule.specs.declared.log.Terms.{Terms}
 use Rattle.word_rule.specs.declared.log.Log.{Log}
 use Rattle.word_rule.specs.Memory.{Memory, memory_of}
-use Rattle.word_rule.specs.Logs.{is_spent, load_of, weight, own_list}
+use Rattle.word_rule.specs.Logs.{is_gone, is_nameless, load_of, weight, own_list}
 use Rattle.word_rule.specs.Steps.{after_head_load}
 use Rattle.word_rule.specs.Callers.{total, IsIdle}
 use Rattle.word_rule.specs.Nodes.{IsChain}
@@ -78,8 +78,8 @@ module _ (t : Terms) (slots id : ℕ) (me : Seated) (caller : me.0.role ≡ role
   abbrev Holds : Sit → Type 0
   Holds s = TableInvariant t s.words s.views
 
-  stands : is_spent me.0.role ≡ false
-  stands = ap is_spent caller
+  stands : is_nameless me.0.role ≡ false
+  stands = ap is_nameless caller
 
   module _ (entries_law : EntriesLaw) (order : OrderLaw) (s : Sit) (r : Holds s) (here : get_elem? s.views id ≡ some me.0) where
     -- where no node is free, the tree has all but those that are out
@@ -109,7 +109,7 @@ module _ (t : Terms) (slots id : ℕ) (me : Seated) (caller : me.0.role ≡ role
       head = λ _ _ empty two.
           let g = grown empty in
           let twice = entries_law r.memory.shadow.settled r.memory.shadow.live r.memory.nodes.lawful (omega (arith, g, two)) in
-          had_members t slots id me caller order s r here (2 * (t.nodes - 4 * (total (λ u. u.made) s.views + 1))) (omega (arith, g, twice));
+          had_members t slots id me (ap is_gone caller) order s r here (2 * (t.nodes - 4 * (total (λ u. u.made) s.views + 1))) (omega (arith, g, twice));
     }
 
     -- the head is a node
@@ -135,7 +135,7 @@ module _ (t : Terms) (slots id : ℕ) (me : Seated) (caller : me.0.role ≡ role
       let w : Log = after_head_load found me.0 in
       let m : Memory = memory_of t s.words in
       let callers : ℕ = total (λ u. u.made) s.views + 1 in
-      quiet t s.words s.views r id me.0 w here stands 1 (record { terms = refl; role = refl; past = refl; receipts = refl; allowance = refl; made = refl; lineage = refl }) refl refl (busy me.0 w caller)
+      quiet t s.words s.views r id me.0 w here 1 (record { terms = refl; role = refl; past = refl; receipts = refl; allowance = refl; made = refl; lineage = refl }) refl refl (busy me.0 w caller)
       (r.memory.nodes.holdings id me.0 here) (λ _ k. k) (λ _. refl)
       (observations_same t m r.memory.history callers r.memory.shadow me.0 w (load_of me.0 1 found ∷ []) (record { own = refl; turns = omega arith; loads = refl }) refl (head_full entries_law order s r here, tt) ((omega arith, omega arith), tt) (r.memory.observations id me.0 here))
       (λ alone. still_after_load s.words me.0 w (load_of me.0 1 found) refl refl refl (r.alone id me.0 here alone))
@@ -146,7 +146,7 @@ module _ (t : Terms) (slots id : ℕ) (me : Seated) (caller : me.0.role ≡ role
     keeps,
     tt,
     looked entries_law order s r here,
-    (refl, (r.memory.callers.each id me.0 here).terms stands, head_within entries_law order s r here, r.memory.callers.terms.nodes.1),
+    (refl, (r.memory.callers.each id me.0 here).terms (ap is_gone caller), head_within entries_law order s r here, r.memory.callers.terms.nodes.1),
   )
 
   -- the same, told of terms that are known to be these

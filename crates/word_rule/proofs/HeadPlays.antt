@@ -15,7 +15,7 @@ use Rattle.word_rule.specs.declared.log.Log.{Log}
 use Rattle.word_rule.specs.Memory.{NodeWords, Memory, memory_of}
 use Rattle.word_rule.specs.Spelling.{node_word, spelled}
 use Rattle.word_rule.specs.Held.{held_of, all_but}
-use Rattle.word_rule.specs.Logs.{is_spent, after_write}
+use Rattle.word_rule.specs.Logs.{is_gone, is_nameless, after_write}
 use Rattle.word_rule.specs.Steps.{after_head_load, after_pop, after_push, IsFreeTo, MayPop, MayPush}
 use Rattle.word_rule.specs.Callers.{total}
 use Rattle.word_rule.specs.Nodes.{Shadow, HoldsNode, HoldingsHold, IsChain}
@@ -79,8 +79,8 @@ module _ (t : Terms) (slots id : ℕ) (me : Seated) (caller : me.0.role ≡ role
   abbrev Holds : Sit → Type 0
   Holds s = TableInvariant t s.words s.views
 
-  stands : is_spent me.0.role ≡ false
-  stands = ap is_spent caller
+  stands : is_nameless me.0.role ≡ false
+  stands = ap is_nameless caller
 
   -- Another head, another free list, and other nodes out.
   module _ (x : ℕ) (free : List ℕ) (out : List ℕ) (s : Sit) (r : Holds s) (at : get_elem? s.views id ≡ some me.0) where
@@ -196,7 +196,7 @@ module _ (t : Terms) (slots id : ℕ) (me : Seated) (caller : me.0.role ≡ role
   -- what a refused exchange finds
   found : EntriesLaw → OrderLaw → (s : Sit) (r : Holds s) → get_elem? s.views id ≡ some me.0 → FindsHead me (get_or s.words 1 0) (after_head_load (get_or s.words 1 0) me.0, me.1)
   found entries order s r at =
-      let terms : me.0.terms ≡ t = (r.memory.callers.each id me.0 at).terms stands in
+      let terms : me.0.terms ≡ t = (r.memory.callers.each id me.0 at).terms (ap is_gone caller) in
       let few = r.memory.callers.terms.nodes.1 in
       (refl, subst (λ (k : Terms). get_or s.words 1 0 < k.nodes) (sym terms) (head_within t slots id me caller entries order s r at), subst (λ (k : Terms). k.nodes ≤ 16384) (sym terms) few)
 

@@ -9,8 +9,8 @@ use Rattle.word_rule.specs.Names.{name_count}
 use Rattle.word_rule.specs.Places.{word_count, copy_words, initial_node, initial_nodes, initial_words}
 use Rattle.word_rule.specs.Memory.{memory_of, node_counters, copy_of}
 use Rattle.word_rule.proofs.Memories.{load_version_at}
-use Rattle.word_rule.specs.Logs.{first_log, is_spent}
-use Rattle.word_rule.specs.Callers.{total, CallersHold, LogHolds, AreTerms, AtLoader, number_of}
+use Rattle.word_rule.specs.Logs.{first_log, is_nameless}
+use Rattle.word_rule.specs.Callers.{dones_in, total, CallersHold, LogHolds, AreTerms, AtLoader, number_of}
 use Rattle.word_rule.proofs.Names.{new_lineage_holds}
 use Rattle.word_rule.specs.Copies.{IsBehind}
 
@@ -76,8 +76,8 @@ callers_begin t terms copies = record {
   lineages = record {
     gathered = λ x. omega arith;
     given = λ x. omega arith;
-    named = only (λ _ v. is_spent v.role ≡ false → 0 < name_count v.lineage.name v.lineage.gathered) (first_log t) (λ _. omega arith);
-    unused = only (λ _ v. is_spent v.role ≡ false → (n : ℕ) → v.lineage.forks ≤ n → total (λ w. name_count (v.lineage.name ++ n ∷ []) w.lineage.given) (first_log t ∷ []) ≡ 0) (first_log t) (λ _ n _. refl);
-    spent = only (λ _ v. is_spent v.role ≡ true → (v.receipts.own ≡ []) × (v.receipts.joined ≡ []) × (v.made ≡ 0)) (first_log t) (λ s. absurd (true≢false (sym s)));
+    named = only (λ _ v. is_nameless v.role ≡ false → 0 < name_count v.lineage.name v.lineage.gathered) (first_log t) (λ _. omega arith);
+    unused = only (λ _ v. is_nameless v.role ≡ false → (n : ℕ) → v.lineage.forks ≤ n → total (λ w. name_count (v.lineage.name ++ n ∷ []) w.lineage.given) (first_log t ∷ []) ≡ 0) (first_log t) (λ _ n _. refl);
+    nameless = only (λ _ v. is_nameless v.role ≡ true → ((n : ℕ) → dones_in n v ≡ 0) × (v.made ≡ 0)) (first_log t) (λ s. absurd (true≢false (sym s)));
   };
 }

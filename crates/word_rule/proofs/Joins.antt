@@ -24,7 +24,7 @@ use Rattle.word_rule.specs.declared.log.Log.{Log}
 use Rattle.word_rule.specs.declared.log.Terms.{Terms}
 use Rattle.tree_shape.specs.Numbers.{once}
 use Rattle.word_rule.specs.Names.{name_count, is_same, child_name, after_fork, joined_lineage}
-use Rattle.word_rule.specs.Logs.{is_spent, weight, turns, child_log, after_split, split_off, after_note, note_of, after_join, after_learn, spent_log, longer, shorter, budget_given, own_list}
+use Rattle.word_rule.specs.Logs.{is_nameless, weight, turns, child_log, after_split, split_off, after_note, note_of, after_join, after_learn, spent_log, longer, shorter, budget_given, own_list}
 use Rattle.word_rule.specs.Callers.{total, CallersHold, IsIdle, IsAlone, LogHolds, LineageHolds, LineagesHold, AtLoader, LoaderLock, IsRecord, ReceiptsHold, dones, dones_of_all, dones_in, start}
 use Rattle.reg_model.specs.Numbers.{has_number}
 use Rattle.word_rule.specs.CallerInvariant.{IsNote}
@@ -36,7 +36,7 @@ use Rattle.word_rule.specs.Nodes.{Shadow}
 use Rattle.word_rule.specs.Copies.{CopySightHolds}
 use Rattle.word_rule.specs.Observations.{SightHolds, WasFull, ObservationsHold}
 use Rattle.word_rule.specs.TableInvariant.{TableInvariant, IsStill}
-use Rattle.word_rule.proofs.Lineages.{snoc_parts, one_place, unused_childless, none_alone}
+use Rattle.word_rule.proofs.Lineages.{snoc_parts, one_place, unused_childless, none_alone, not_gone}
 use Rattle.word_rule.proofs.SeatNodes.{nodes_fork, nodes_join}
 use Rattle.word_rule.proofs.ObservationsFrame.{no_more, longer_length, observations_over, observations_same}
 use Rattle.word_rule.proofs.Frames.{still_after_turn}
@@ -87,7 +87,7 @@ pub record Forks (v w : Log) : Type 0 where
   pub loader : w.loader ≡ v.loader
   pub lineage : w.lineage ≡ after_fork v.lineage
 
-module _ (t : Terms) (m : Memory) (views : List Log) (history : List Update) (r : CallersHold t m views history) (id : ℕ) (v w : Log) (role : Role) (budget : Budget) (at : get_elem? views id ≡ some v) (stands : is_spent v.role ≡ false) (lives : is_spent role ≡ false) (forks : Forks v w) (idle : weight w.role ≡ 0 → IsIdle w) where
+module _ (t : Terms) (m : Memory) (views : List Log) (history : List Update) (r : CallersHold t m views history) (id : ℕ) (v w : Log) (role : Role) (budget : Budget) (at : get_elem? views id ≡ some v) (stands : is_nameless v.role ≡ false) (lives : is_nameless role ≡ false) (forks : Forks v w) (idle : weight w.role ≡ 0 → IsIdle w) where
   abbrev child : Log
   child = child_log role budget v
 
@@ -124,19 +124,19 @@ module _ (t : Terms) (m : Memory) (views : List Log) (history : List Update) (r 
     given = λ x. ⊎_elim
         (λ (e : child_name v.lineage ≡ x). let g = given_sum x in let n = subst (λ y. total (λ u. name_count y u.lineage.given) views ≡ 0) e (r.lineages.unused id v at stands v.lineage.forks (omega arith)) in let o = once_small (is_same (child_name v.lineage) x) in omega (arith, g, n, o))
         (λ (e : is_same (child_name v.lineage) x ≡ false). let g = given_sum x in let z : once (is_same (child_name v.lineage) x) ≡ 0 = rw e refl in let o = r.lineages.given x in omega (arith, g, z, o)) (same_or (child_name v.lineage) x);
-    named = behind (λ _ u. is_spent u.role ≡ false → 0 < name_count u.lineage.name u.lineage.gathered) (set views id w) child
-        (after_step (λ _ u. is_spent u.role ≡ false → 0 < name_count u.lineage.name u.lineage.gathered) views id w (λ s. subst (λ k. 0 < name_count k.name k.gathered) (sym forks.lineage) own_name) (λ j u _ e. r.lineages.named j u e))
+    named = behind (λ _ u. is_nameless u.role ≡ false → 0 < name_count u.lineage.name u.lineage.gathered) (set views id w) child
+        (after_step (λ _ u. is_nameless u.role ≡ false → 0 < name_count u.lineage.name u.lineage.gathered) views id w (λ s. subst (λ k. 0 < name_count k.name k.gathered) (sym forks.lineage) own_name) (λ j u _ e. r.lineages.named j u e))
         (λ _ s. let o = once_same (child_name v.lineage) in omega (arith, o));
-    unused = behind (λ _ u. is_spent u.role ≡ false → (n : ℕ) → u.lineage.forks ≤ n → total (λ z. name_count (u.lineage.name ++ n ∷ []) z.lineage.given) both ≡ 0) (set views id w) child
-        (after_step (λ _ u. is_spent u.role ≡ false → (n : ℕ) → u.lineage.forks ≤ n → total (λ z. name_count (u.lineage.name ++ n ∷ []) z.lineage.given) both ≡ 0) views id w
+    unused = behind (λ _ u. is_nameless u.role ≡ false → (n : ℕ) → u.lineage.forks ≤ n → total (λ z. name_count (u.lineage.name ++ n ∷ []) z.lineage.given) both ≡ 0) (set views id w) child
+        (after_step (λ _ u. is_nameless u.role ≡ false → (n : ℕ) → u.lineage.forks ≤ n → total (λ z. name_count (u.lineage.name ++ n ∷ []) z.lineage.given) both ≡ 0) views id w
         (λ s. subst (λ k. (n : ℕ) → k.forks ≤ n → total (λ z. name_count (k.name ++ n ∷ []) z.lineage.given) both ≡ 0) (sym forks.lineage)
         (λ n late. other_name v.lineage.name n (λ e. let p = snoc_parts v.lineage.name v.lineage.name n v.lineage.forks e in let q = p.1 in omega (arith, q, late)) (r.lineages.unused id v at stands n (omega (arith, late)))))
         (λ j u ne e s n late. other_name u.lineage.name n
         (λ h. let p = snoc_parts u.lineage.name v.lineage.name n v.lineage.forks h in ne (one_place views kin_each r.lineages v.lineage.name id j v u at e own_name (subst (λ y. 0 < name_count y u.lineage.gathered) p.0 (r.lineages.named j u e s))))
         (r.lineages.unused j u e s n late)))
         (λ _ s n late. other_name (child_name v.lineage) n (λ e. let l = length-append (child_name v.lineage) (n ∷ []) in let z : length (child_name v.lineage ++ n ∷ []) ≡ length (child_name v.lineage) = ap length e in omega (arith, l, z)) (unused_childless views kin_each r.lineages id v at stands n));
-    spent = behind (λ _ u. is_spent u.role ≡ true → (u.receipts.own ≡ []) × (u.receipts.joined ≡ []) × (u.made ≡ 0)) (set views id w) child
-        (after_step (λ _ u. is_spent u.role ≡ true → (u.receipts.own ≡ []) × (u.receipts.joined ≡ []) × (u.made ≡ 0)) views id w (λ s. absurd (true≢false (sym s ∙ (ap is_spent forks.role ∙ stands)))) (λ j u _ e. r.lineages.spent j u e)) (λ _ s. absurd (true≢false (sym s ∙ lives)));
+    nameless = behind (λ _ u. is_nameless u.role ≡ true → ((n : ℕ) → dones_in n u ≡ 0) × (u.made ≡ 0)) (set views id w) child
+        (after_step (λ _ u. is_nameless u.role ≡ true → ((n : ℕ) → dones_in n u ≡ 0) × (u.made ≡ 0)) views id w (λ s. absurd (true≢false (sym s ∙ (ap is_nameless forks.role ∙ stands)))) (λ j u _ e. r.lineages.nameless j u e)) (λ _ s. absurd (true≢false (sym s ∙ lives)));
   }
 
   loader_fork : (holder : Option ℕ) → LoaderLock m.loader views holder → LoaderLock m.loader both holder
@@ -157,13 +157,13 @@ module _ (t : Terms) (m : Memory) (views : List Log) (history : List Update) (r 
     numbers = λ n. sums (dones_in n) (let e : dones_in n w ≡ dones_in n v = ap (dones n) forks.receipts in omega (arith, e)) ∙ r.numbers n;
     each = behind (λ _ u. LogHolds t history (total (λ y. y.made) both + 1) u) (set views id w) child
         (after_step (λ _ u. LogHolds t history (total (λ y. y.made) both + 1) u) views id w ((let h = log_later t history _ (total (λ y. y.made) both + 1) v (r.each id v at) in record {
-          terms = λ s. forks.terms ∙ h.terms stands;
+          terms = λ s. forks.terms ∙ h.terms (not_gone v.role stands);
           begins = subst (λ p. IsPrefix p history) (sym forks.past) h.begins;
           receipts = subst (λ p. ReceiptsHold t p (total (λ y. y.made) both + 1) w.receipts) (sym forks.past) (subst (ReceiptsHold t v.past (total (λ y. y.made) both + 1)) (sym forks.receipts) h.receipts);
           lineage = subst LineageHolds (sym forks.lineage) (fork_holds v.lineage own_name h.lineage);
           idle = idle;
         })) (λ j u _ e. log_later t history _ (total (λ y. y.made) both + 1) u (r.each j u e)))
-        (λ _. record { terms = λ _. (r.each id v at).terms stands; begins = (r.each id v at).begins; receipts = record { since = omega arith; own = (tt, tt); joined = tt; heard = (v.past, refl) }; lineage = new_lineage_holds (child_name v.lineage); idle = λ _. record { held = refl; out = refl; loader = refl } });
+        (λ _. record { terms = λ _. (r.each id v at).terms (not_gone v.role stands); begins = (r.each id v at).begins; receipts = record { since = omega arith; own = (tt, tt); joined = tt; heard = (v.past, refl) }; lineage = new_lineage_holds (child_name v.lineage); idle = λ _. record { held = refl; out = refl; loader = refl } });
     loader = loader_fork r.holder r.loader;
     at_loader = behind (λ j u. AtLoader m r.holder j u.loader) (set views id w) child
         (after_step (λ j u. AtLoader m r.holder j u.loader) views id w (subst (AtLoader m r.holder id) (sym forks.loader) (r.at_loader id v at)) (λ j u _ e. r.at_loader j u e)) (λ _. tt);
@@ -229,7 +229,7 @@ pub record Gains (v u b : Log) (lists : List ReceiptList) : Type 0 where
   pub counts : (n : ℕ) → dones_of_all n lists ≡ dones_in n u
 
 module _ (t : Terms) (m : Memory) (views : List Log) (history : List Update) (r : CallersHold t m views history) (id other : ℕ) (v u b : Log) (lists : List ReceiptList) (at : get_elem? views id ≡ some v) (ne : other ≢ id)
-    (there : get_elem? (set views id b) other ≡ some u) (stands : is_spent v.role ≡ false) (stood : is_spent u.role ≡ false) (free : u.loader ≡ None) (gains : Gains v u b lists) (idle : weight b.role ≡ 0 → IsIdle b) where
+    (there : get_elem? (set views id b) other ≡ some u) (stands : is_nameless v.role ≡ false) (stood : is_nameless u.role ≡ false) (free : u.loader ≡ None) (gains : Gains v u b lists) (idle : weight b.role ≡ 0 → IsIdle b) where
   abbrev one : List Log
   one = set views id b
 
@@ -260,13 +260,13 @@ module _ (t : Terms) (m : Memory) (views : List Log) (history : List Update) (r 
   lineages_join = record {
     gathered = λ x. let m = gathered_is x in let g = given_is x in let o = r.lineages.gathered x in omega (arith, m, g, o);
     given = λ x. let g = given_is x in let o = r.lineages.given x in omega (arith, g, o);
-    named = everywhere (λ _ x. is_spent x.role ≡ false → 0 < name_count x.lineage.name x.lineage.gathered) (λ s. absurd (true≢false s))
+    named = everywhere (λ _ x. is_nameless x.role ≡ false → 0 < name_count x.lineage.name x.lineage.gathered) (λ s. absurd (true≢false s))
         (λ _. let h = r.lineages.named id v at stands in let m = count_append v.lineage.name v.lineage.gathered u.lineage.gathered in subst (λ k. 0 < name_count k.name k.gathered) (sym gains.lineage) (omega (arith, h, m)))
         (λ j x _ _ e. r.lineages.named j x e);
-    unused = everywhere (λ _ x. is_spent x.role ≡ false → (n : ℕ) → x.lineage.forks ≤ n → total (λ z. name_count (x.lineage.name ++ n ∷ []) z.lineage.given) after ≡ 0) (λ s. absurd (true≢false s))
+    unused = everywhere (λ _ x. is_nameless x.role ≡ false → (n : ℕ) → x.lineage.forks ≤ n → total (λ z. name_count (x.lineage.name ++ n ∷ []) z.lineage.given) after ≡ 0) (λ s. absurd (true≢false s))
         (λ _. subst (λ k. (n : ℕ) → k.forks ≤ n → total (λ z. name_count (k.name ++ n ∷ []) z.lineage.given) after ≡ 0) (sym gains.lineage) (λ n late. given_is (v.lineage.name ++ n ∷ []) ∙ r.lineages.unused id v at stands n late))
         (λ j x _ _ e s n late. given_is (x.lineage.name ++ n ∷ []) ∙ r.lineages.unused j x e s n late);
-    spent = everywhere (λ _ x. is_spent x.role ≡ true → (x.receipts.own ≡ []) × (x.receipts.joined ≡ []) × (x.made ≡ 0)) (λ _. (refl, refl, refl)) (λ s. absurd (true≢false (sym s ∙ (ap is_spent gains.role ∙ stands)))) (λ j x _ _ e. r.lineages.spent j x e);
+    nameless = everywhere (λ _ x. is_nameless x.role ≡ true → ((n : ℕ) → dones_in n x ≡ 0) × (x.made ≡ 0)) (λ _. ((λ n. refl), refl)) (λ s. absurd (true≢false (sym s ∙ (ap is_nameless gains.role ∙ stands)))) (λ j x _ _ e. r.lineages.nameless j x e);
   }
 
   loader_join : (holder : Option ℕ) → LoaderLock m.loader views holder → LoaderLock m.loader after holder
@@ -301,7 +301,7 @@ module _ (t : Terms) (m : Memory) (views : List Log) (history : List Update) (r 
     each = everywhere (λ _ x. LogHolds t history count x)
         (record { terms = λ s. absurd (true≢false s); begins = (history, refl); receipts = record { since = omega arith; own = (tt, tt); joined = tt; heard = ([], refl) }; lineage = record { balanced = λ x. refl; given_by = λ x h. absurd (omega arith) }; idle = λ _. record { held = refl; out = refl; loader = refl } })
         (let h = r.each id v at in let i = r.each other u was_there in record {
-          terms = λ s. gains.terms ∙ h.terms stands;
+          terms = λ s. gains.terms ∙ h.terms (not_gone v.role stands);
           begins = subst (λ p. IsPrefix p history) (sym gains.past) lengthened.2;
           receipts = subst (λ p. ReceiptsHold t p count b.receipts) (sym gains.past) record {
             since = (let same = ap (λ (c : ReceiptList). c.since) gains.own in let low = h.receipts.since in let len = longer_length v.past (longer v.past u.past) lengthened.0 in omega (arith, same, low, len));
@@ -333,8 +333,8 @@ pub record Meets (v w : Log) : Type 0 where
 
 -- the rest of the invariant, where one comes or goes
 module _ (t : Terms) (id : ℕ) (v : Log) (caller : v.role ≡ role.Caller) where
-  stands : is_spent v.role ≡ false
-  stands = ap is_spent caller
+  stands : is_nameless v.role ≡ false
+  stands = ap is_nameless caller
 
   busy : (w : Log) → w.role ≡ v.role → weight w.role ≡ 0 → IsIdle w
   busy w same zero_weight = absurd (let one : weight w.role ≡ 1 = ap weight (same ∙ caller) in omega (arith, zero_weight, one))
@@ -362,7 +362,7 @@ module _ (t : Terms) (id : ℕ) (v : Log) (caller : v.role ≡ role.Caller) wher
     earlier = subst (AllByRecursion (λ l. (l.turns ≤ turns u.trace) × (l.receipts ≤ length u.receipts.own))) (sym loads) tt;
   }
 
-  forked_table : (s : State (Unit {0}) Log) (r : TableInvariant t s.words s.views) (w : Log) (role : Role) (budget : Budget) → is_spent role ≡ false → get_elem? s.views id ≡ some v → Forks v w → Meets v w → w.made ≡ weight role + v.made
+  forked_table : (s : State (Unit {0}) Log) (r : TableInvariant t s.words s.views) (w : Log) (role : Role) (budget : Budget) → is_nameless role ≡ false → get_elem? s.views id ≡ some v → Forks v w → Meets v w → w.made ≡ weight role + v.made
       → w.budget.allowance + budget.allowance ≡ v.budget.allowance → w.budget.credit + budget.credit ≡ v.budget.credit → TableInvariant t s.words (set s.views id w ++ child_log role budget v ∷ [])
   forked_table s r w role budget lives at forks meets made allowed credited =
       let callers : ℕ = total (λ u. u.made) (set s.views id w ++ child_log role budget v ∷ []) + 1 in
@@ -394,7 +394,7 @@ module _ (t : Terms) (id : ℕ) (v : Log) (caller : v.role ≡ role.Caller) wher
       (omega arith) (omega arith) (omega arith)
 
   joined_table : (s : State (Unit {0}) Log) (r : TableInvariant t s.words s.views) (other : ℕ) (u b : Log) (lists : List ReceiptList) → get_elem? s.views id ≡ some v → (ne : other ≢ id) → get_elem? (set s.views id b) other ≡ some u
-      → is_spent u.role ≡ false → u.loader ≡ None → u.holdings.held ≡ [] → u.holdings.out ≡ [] → (gains : Gains v u b lists) → Meets v b
+      → is_nameless u.role ≡ false → u.loader ≡ None → u.holdings.held ≡ [] → u.holdings.out ≡ [] → (gains : Gains v u b lists) → Meets v b
       → ((callers : ℕ) → AllByRecursion (IsRecord t (longer v.past u.past) callers) (own_list u.receipts ∷ u.receipts.joined) → AllByRecursion (IsRecord t (longer v.past u.past) callers) lists)
       → TableInvariant t s.words (set (set s.views id b) other spent_log)
   joined_table s r other u b lists at ne there stood free held out gains meets gained =
@@ -415,7 +415,7 @@ module _ (t : Terms) (id : ℕ) (v : Log) (caller : v.role ≡ role.Caller) wher
       }
 
   -- a caller that holds no lock and has no node out is joined into another
-  pub joins : (other : ℕ) (u : Log) → is_spent u.role ≡ false → u.loader ≡ None → u.holdings.held ≡ [] → u.holdings.out ≡ []
+  pub joins : (other : ℕ) (u : Log) → is_nameless u.role ≡ false → u.loader ≡ None → u.holdings.held ≡ [] → u.holdings.out ≡ []
       → Joins (λ (s : State (Unit {0}) Log). TableInvariant t s.words s.views) id v other u (after_join v u) spent_log
   joins other u stood free held out s r at ne there = joined_table s r other u (after_join v u) (own_list u.receipts ∷ u.receipts.joined) at ne there stood free held out
       (record {
@@ -434,7 +434,7 @@ module _ (t : Terms) (id : ℕ) (v : Log) (caller : v.role ≡ role.Caller) wher
       }) (record { holdings = refl; sights = refl; own = refl; loads = refl; turn = omega arith }) (λ c h. h)
 
   pub learns : (other : ℕ) (u : Log) → IsNote u → Joins (λ (s : State (Unit {0}) Log). TableInvariant t s.words s.views) id v other u (after_learn v u) spent_log
-  learns other u note s r at ne there = joined_table s r other u (after_learn v u) [] at ne there (ap is_spent note.role) note.loader note.held note.out
+  learns other u note s r at ne there = joined_table s r other u (after_learn v u) [] at ne there (ap is_nameless note.role) note.loader note.held note.out
       (record {
         terms = refl;
         role = refl;

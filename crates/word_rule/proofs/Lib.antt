@@ -47,4 +47,5 @@ pub mod NodeTries
 pub mod NodeStores
 pub mod KeptVersions
 pub mod Peeking
+pub mod Entering
 pub mod Exchanges

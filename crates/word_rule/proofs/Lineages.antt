@@ -5,7 +5,9 @@ use lib.ListN.{get_elem?}
 use Rattle.tree_shape.specs.Numbers.{once}
 use Rattle.word_rule.specs.declared.log.Log.{Log}
 use Rattle.word_rule.specs.Names.{name_count, is_same, child_name}
-use Rattle.word_rule.specs.Logs.{is_spent}
+use Rattle.word_rule.specs.declared.log.Role.{Role}
+use Rattle.word_rule.specs.declared.log.Role.TheVariants as role
+use Rattle.word_rule.specs.Logs.{is_gone, is_nameless}
 use Rattle.word_rule.specs.Callers.{total, LineageHolds, LineagesHold, IsAlone}
 use Rattle.word_rule.proofs.Facts.{part_of_total, two_of_total, some_of_total, decided}
 use Rattle.word_rule.proofs.Names.{same_or, once_other, once_small}
@@ -52,7 +54,7 @@ module _ (views : List Log) (each : (id : ℕ) (v : Log) → get_elem? views id 
   given_by_one x h = let s = some_of_total (λ v. name_count x v.lineage.given) views h in let g = (each s.0 s.1 s.2.0).given_by x s.2.1 in (g.0, g.1, s.0, s.1, (s.2.0, g.2.0, g.2.1, s.2.1))
 
   -- a name with a number that its log is yet to give has no children
-  pub unused_childless : (id : ℕ) (v : Log) → get_elem? views id ≡ some v → is_spent v.role ≡ false → (n : ℕ) → total (λ w. name_count (child_name v.lineage ++ n ∷ []) w.lineage.given) views ≡ 0
+  pub unused_childless : (id : ℕ) (v : Log) → get_elem? views id ≡ some v → is_nameless v.role ≡ false → (n : ℕ) → total (λ w. name_count (child_name v.lineage ++ n ∷ []) w.lineage.given) views ≡ 0
   unused_childless id v at stands n = go (total (λ w. name_count (child_name v.lineage ++ n ∷ []) w.lineage.given) views) refl
     where
       go : (m : ℕ) → total (λ w. name_count (child_name v.lineage ++ n ∷ []) w.lineage.given) views ≡ m → total (λ w. name_count (child_name v.lineage ++ n ∷ []) w.lineage.given) views ≡ 0
@@ -90,10 +92,10 @@ module _ (views : List Log) (lineage_each : (id : ℕ) (v : Log) → get_elem? v
   has_all (suc size) x small more = has_next x (λ p less. has_all size p (omega (arith, small, less))) more
 
   -- every other log was joined away
-  pub others_spent : (j : ℕ) (u : Log) → j ≢ id → get_elem? views j ≡ some u → is_spent u.role ≡ true
-  others_spent j u far there = go (is_spent u.role) refl
+  pub others_nameless : (j : ℕ) (u : Log) → j ≢ id → get_elem? views j ≡ some u → is_nameless u.role ≡ true
+  others_nameless j u far there = go (is_nameless u.role) refl
     where
-      go : (b : Bool) → is_spent u.role ≡ b → is_spent u.role ≡ true
+      go : (b : Bool) → is_nameless u.role ≡ b → is_nameless u.role ≡ true
       go true e = e
       go false e =
           let own = k.named j u there e in
@@ -102,6 +104,13 @@ module _ (views : List Log) (lineage_each : (id : ℕ) (v : Log) → get_elem? v
           absurd (far (one_place views lineage_each k u.lineage.name id j v u at there mine own))
 
 -- so where one steps, no other is alone
-pub none_alone : (views : List Log) (each : (id : ℕ) (v : Log) → get_elem? views id ≡ some v → LineageHolds v.lineage) (k : LineagesHold views) (id j : ℕ) (v u : Log) → get_elem? views id ≡ some v → is_spent v.role ≡ false
+pub none_alone : (views : List Log) (each : (id : ℕ) (v : Log) → get_elem? views id ≡ some v → LineageHolds v.lineage) (k : LineagesHold views) (id j : ℕ) (v u : Log) → get_elem? views id ≡ some v → is_nameless v.role ≡ false
     → get_elem? views j ≡ some u → j ≢ id → IsAlone u.lineage → ⊥
-none_alone views each k id j v u at stands there far alone = true≢false (sym (others_spent views each k j u there alone id v (λ e. far (sym e)) at) ∙ stands)
+none_alone views each k id j v u at stands there far alone = true≢false (sym (others_nameless views each k j u there alone id v (λ e. far (sym e)) at) ∙ stands)
+
+-- one that has a name was not joined away
+pub not_gone : (a : Role) → is_nameless a ≡ false → is_gone a ≡ false
+not_gone role.Caller h = refl
+not_gone role.Note h = refl
+not_gone role.Reader h = absurd (true≢false h)
+not_gone role.Spent h = absurd (true≢false h)

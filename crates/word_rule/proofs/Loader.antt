@@ -17,7 +17,7 @@ use Rattle.word_rule.specs.declared.log.LoadEvent.{LoadEvent}
 use Rattle.word_rule.specs.declared.log.LoaderHolding.{LoaderHolding}
 use Rattle.word_rule.specs.Places.{spare, upper}
 use Rattle.word_rule.specs.Memory.{Memory, memory_of, copy_of}
-use Rattle.word_rule.specs.Logs.{is_spent, weight, turns, load_of, IsTaken, after_load, after_loader_lock, after_write, after_loader_release, after_loader_release_same, own_list}
+use Rattle.word_rule.specs.Logs.{is_gone, is_nameless, weight, turns, load_of, IsTaken, after_load, after_loader_lock, after_write, after_loader_release, after_loader_release_same, own_list}
 use Rattle.word_rule.specs.Callers.{total, AtLoader, LoaderLock, IsLockedAt}
 use Rattle.word_rule.specs.Observations.{ObservationsHold, WasFull}
 use Rattle.word_rule.specs.TableInvariant.{TableInvariant, IsStill}
@@ -41,8 +41,8 @@ module _ (t : Terms) (slots id : ℕ) (me : Seated) (caller : me.0.role ≡ role
   abbrev mine_at : Sit → Type 0
   mine_at s = get_elem? s.views id ≡ some me.0
 
-  stands : is_spent me.0.role ≡ false
-  stands = ap is_spent caller
+  stands : is_nameless me.0.role ≡ false
+  stands = ap is_nameless caller
 
   -- what the log has observed stays where a step on the lock's word changes it
   observed : (s : Sit) (r : Holds s) (w : Log) (more : List LoadEvent) → mine_at s → w.sights ≡ me.0.sights → Loads me.0 w more
@@ -125,7 +125,7 @@ module _ (t : Terms) (slots id : ℕ) (me : Seated) (caller : me.0.role ≡ role
       let u : ℕ = upper (get_or s.words 0 0) in
       let h : LoaderHolding = record { version = seen; published = u; active = copy_of t s.words (u % 2); spare = copy_of t s.words (spare (get_or s.words 0 0)); stored = false } in
       let w : Log = after_loader_lock h me.0 in
-      let terms : me.0.terms ≡ t = (r.memory.callers.each id me.0 at).terms stands in (
+      let terms : me.0.terms ≡ t = (r.memory.callers.each id me.0 at).terms (ap is_gone caller) in (
         w,
         keeps,
         tt,

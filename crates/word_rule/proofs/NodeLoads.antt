@@ -14,7 +14,6 @@ use Rattle.reg_model.specs.declared.span.Member.{Member}
 use Rattle.tree_shape.specs.NodeData.{EntriesWithin, pairs_of, entries_of}
 use Rattle.tree_shape.specs.Trees.{Contents, entries, HasEntry}
 use Rattle.tree_shape.specs.Lawful.{IsTree, IsLawfulTree}
-use Rattle.word_rule.specs.declared.log.Role.TheVariants as role
 use Rattle.word_rule.specs.declared.log.Terms.{Terms}
 use Rattle.word_rule.specs.declared.log.Holding.{Holding}
 use Rattle.word_rule.specs.declared.log.CopySight.{CopySight}
@@ -22,7 +21,7 @@ use Rattle.word_rule.specs.declared.log.Log.{Log}
 use Rattle.word_rule.specs.Places.{is_of_copy, copy_place, copy_words}
 use Rattle.word_rule.specs.Memory.{Memory, memory_of, copy_of}
 use Rattle.word_rule.specs.Spelling.{node_word}
-use Rattle.word_rule.specs.Logs.{is_spent, load_of, own_list}
+use Rattle.word_rule.specs.Logs.{is_gone, load_of, own_list}
 use Rattle.word_rule.specs.Sights.{with_copy_word, after_copy_load}
 use Rattle.word_rule.specs.Callers.{total, start, AtLoader}
 use Rattle.word_rule.specs.Steps.{IsHeldWord}
@@ -36,7 +35,7 @@ use Rattle.word_rule.proofs.Each.{all_map}
 use Rattle.word_rule.proofs.Members.{ascending_fit}
 use Rattle.word_rule.proofs.Memories.{load_content_at, load_copy_at}
 use Rattle.word_rule.proofs.Spells.{reads_full}
-use Rattle.word_rule.proofs.CallersFrame.{busy}
+use Rattle.word_rule.proofs.CallersFrame.{idle_stays}
 use Rattle.word_rule.proofs.ObservationsFrame.{observations_own, longer_length}
 use Rattle.word_rule.proofs.Frames.{Sit, still_after_load}
 use Rattle.word_rule.proofs.Quiet.{quiet}
@@ -69,12 +68,9 @@ pub record OrderLaw : Type 0 where
   pub members : (f : Contents) (live : ℕ → Bool) (m : Member) → IsTree f live → Contains (entries f) m ↔ HasEntry f live m
   pub ascending : (f : Contents) (live : ℕ → Bool) → IsTree f live → EntriesWithin 0 (2 ^ 64 - 1) (entries f)
 
-module _ (t : Terms) (slots id : ℕ) (me : Seated) (caller : me.0.role ≡ role.Caller) where
+module _ (t : Terms) (slots id : ℕ) (me : Seated) (live : is_gone me.0.role ≡ false) where
   abbrev Holds : Sit → Type 0
   Holds s = TableInvariant t s.words s.views
-
-  stands : is_spent me.0.role ≡ false
-  stands = ap is_spent caller
 
   -- a word that joins a sight of its own copy
   joins_copy : (s : Sit) (r : Holds s) (at : ℕ) (o : Option CopySight) → IfSome o (CopySightHolds t (get_or s.words 0 0) (copy_of t s.words)) → IfSome (option_map (with_copy_word t at (get_or s.words at 0)) o) (CopySightHolds t (get_or s.words 0 0) (copy_of t s.words))
@@ -118,13 +114,13 @@ module _ (t : Terms) (slots id : ℕ) (me : Seated) (caller : me.0.role ≡ role
       let w : Log = after_copy_load at found me.0 in
       let m : Memory = memory_of t s.words in
       let callers : ℕ = total (λ u. u.made) s.views + 1 in
-      let terms : me.0.terms ≡ t = (r.memory.callers.each id me.0 here).terms stands in
+      let terms : me.0.terms ≡ t = (r.memory.callers.each id me.0 here).terms live in
       let o = r.memory.observations id me.0 here in
       let copies = subst (λ k. IfSome (option_map (with_copy_word k at found) me.0.sights.copies) (CopySightHolds t m.clock m.copies)) (sym terms) (joins_copy s r at me.0.sights.copies o.copies) in (
         w,
         keeps,
         tt,
-        quiet t s.words s.views r id me.0 w here stands at (record { terms = refl; role = refl; past = refl; receipts = refl; allowance = refl; made = refl; lineage = refl }) refl refl (busy me.0 w caller)
+        quiet t s.words s.views r id me.0 w here at (record { terms = refl; role = refl; past = refl; receipts = refl; allowance = refl; made = refl; lineage = refl }) refl refl (idle_stays me.0 w refl refl (r.memory.callers.each id me.0 here).idle)
             (r.memory.nodes.holdings id me.0 here) (λ _ h. h) (λ _. refl)
             (observations_own t m r.memory.history callers r.memory.shadow me.0 w (load_of me.0 at found ∷ []) (record { own = refl; turns = omega arith; loads = refl }) o.sights copies (past_nodes s r at here far, tt) ((omega arith, omega arith), tt) o)
             (λ alone. still_after_load s.words me.0 w (load_of me.0 at found) refl refl refl (r.alone id me.0 here alone)),

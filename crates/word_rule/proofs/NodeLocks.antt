@@ -16,7 +16,7 @@ use Rattle.word_rule.specs.declared.log.Log.{Log}
 use Rattle.word_rule.specs.Memory.{NodeWords, Memory, memory_of, updated, node_counters}
 use Rattle.word_rule.specs.Spelling.{SpellsNode}
 use Rattle.word_rule.specs.Held.{held_of}
-use Rattle.word_rule.specs.Logs.{is_spent, load_of, after_load, own_list}
+use Rattle.word_rule.specs.Logs.{is_nameless, load_of, after_load, own_list}
 use Rattle.word_rule.specs.Steps.{mark_at_lock, after_node_lock}
 use Rattle.word_rule.specs.Callers.{total, IsLockedAt}
 use Rattle.word_rule.specs.Nodes.{Shadow, NodesHold, HoldsNode, HoldingsHold, HeldBy, IsOpen, IsPlaced}
@@ -54,27 +54,27 @@ one_counter versions n (suc k) h = go (ℕ_discrete n k) (one_counter versions n
     go (yes e) rest = let same : versions n ≡ versions k = ap versions e in omega (arith, same)
     go (no ne) rest = let l = rest (omega (arith, h, ne)) in omega (arith, l)
 
+-- a load of a node's version word tells nothing of fullness
+pub of_version : (t : Terms) (id : ℕ) (me : Seated) (s : Sit) (r : TableInvariant t s.words s.views) (n : ℕ) → WasFull t r.memory.history (total (λ u. u.made) s.views + 1) (own_list me.0.receipts) (load_of me.0 (4 + 36 * n) (get_or s.words (4 + 36 * n) 0))
+of_version t id me s r n = record {
+  count = λ _. all_of (λ h. IsFullCount (load_of me.0 (4 + 36 * n) (get_or s.words (4 + 36 * n) 0)) h → HadMembers t r.memory.history (own_list me.0.receipts) 10) (λ h full. absurd (let e = full.0 in omega (arith, e))) me.0.holdings.held;
+  head = λ _ is _ _. absurd (omega (arith, is));
+}
+
 module _ (t : Terms) (slots id : ℕ) (me : Seated) (caller : me.0.role ≡ role.Caller) where
   abbrev Holds : Sit → Type 0
   Holds s = TableInvariant t s.words s.views
 
-  stands : is_spent me.0.role ≡ false
-  stands = ap is_spent caller
-
-  -- a load of a node's version word tells nothing of fullness
-  pub of_version : (s : Sit) (r : Holds s) (n : ℕ) → WasFull t r.memory.history (total (λ u. u.made) s.views + 1) (own_list me.0.receipts) (load_of me.0 (4 + 36 * n) (get_or s.words (4 + 36 * n) 0))
-  of_version s r n = record {
-    count = λ _. all_of (λ h. IsFullCount (load_of me.0 (4 + 36 * n) (get_or s.words (4 + 36 * n) 0)) h → HadMembers t r.memory.history (own_list me.0.receipts) 10) (λ h full. absurd (let e = full.0 in omega (arith, e))) me.0.holdings.held;
-    head = λ _ is _ _. absurd (omega (arith, is));
-  }
+  stands : is_nameless me.0.role ≡ false
+  stands = ap is_nameless caller
 
   pub refused : (s : Sit) (r : Holds s) (n : ℕ) → get_elem? s.views id ≡ some me.0 → TableInvariant t (set s.words (4 + 36 * n) (get_or s.words (4 + 36 * n) 0)) (set s.views id (after_load (4 + 36 * n) (get_or s.words (4 + 36 * n) 0) me.0))
   refused s r n here =
       let found : ℕ = get_or s.words (4 + 36 * n) 0 in
       let w : Log = after_load (4 + 36 * n) found me.0 in
-      quiet t s.words s.views r id me.0 w here stands (4 + 36 * n) (record { terms = refl; role = refl; past = refl; receipts = refl; allowance = refl; made = refl; lineage = refl }) refl refl (busy me.0 w caller)
+      quiet t s.words s.views r id me.0 w here (4 + 36 * n) (record { terms = refl; role = refl; past = refl; receipts = refl; allowance = refl; made = refl; lineage = refl }) refl refl (busy me.0 w caller)
       (r.memory.nodes.holdings id me.0 here) (λ _ h. h) (λ _. refl)
-      (observations_same t (memory_of t s.words) r.memory.history (total (λ u. u.made) s.views + 1) r.memory.shadow me.0 w (load_of me.0 (4 + 36 * n) found ∷ []) (record { own = refl; turns = omega arith; loads = refl }) refl (of_version s r n, tt) ((omega arith, omega arith), tt) (r.memory.observations id me.0 here))
+      (observations_same t (memory_of t s.words) r.memory.history (total (λ u. u.made) s.views + 1) r.memory.shadow me.0 w (load_of me.0 (4 + 36 * n) found ∷ []) (record { own = refl; turns = omega arith; loads = refl }) refl (of_version t id me s r n, tt) ((omega arith, omega arith), tt) (r.memory.observations id me.0 here))
       (λ alone. still_after_load s.words me.0 w (load_of me.0 (4 + 36 * n) found) refl refl refl (r.alone id me.0 here alone))
 
   module _ (n seen : ℕ) (inside : n < t.nodes) (s : Sit) (r : Holds s) (at : get_elem? s.views id ≡ some me.0) (hit : (memory_of t s.words).nodes.versions n ≡ seen) (even : seen % 2 ≡ 0)

@@ -16,7 +16,7 @@ use Rattle.word_rule.specs.declared.log.Log.{Log}
 use Rattle.word_rule.specs.Memory.{NodeWords, Memory, memory_of, updated}
 use Rattle.word_rule.specs.Spelling.{node_word}
 use Rattle.word_rule.specs.Held.{held_of}
-use Rattle.word_rule.specs.Logs.{is_spent}
+use Rattle.word_rule.specs.Logs.{is_nameless}
 use Rattle.word_rule.specs.Exchange.{settle}
 use Rattle.word_rule.specs.Steps.{MayStore, after_node_store, frees, store_in, stored_log}
 use Rattle.word_rule.specs.Callers.{IsLockedAt}
@@ -219,8 +219,8 @@ module _ (t : Terms) (id : ℕ) (v : Log) (caller : v.role ≡ role.Caller) (n a
   pub stored_table : TableInvariant t (set s.words (4 + 36 * n + at) value) (set s.views id (stored_log n at value v))
   stored_table =
       let m : Memory = memory_of t s.words in
-      written t s.words s.views r id v w here (ap is_spent caller) (set s.words (4 + 36 * n + at) value) (record m { nodes = words' }) r.memory.history shadow' (length-set s.words (4 + 36 * n + at) value) (set_content t s.words r.wide value n at inside low high) ([], append-nil r.memory.history)
-      (callers_over_nodes t s.words s.views r id v w here (ap is_spent caller) words' (record { terms = refl; role = refl; past = refl; receipts = refl; allowance = refl; made = refl; lineage = refl }) refl (omega arith) (busy v w caller)) nodes r.memory.active refl sights (λ k p. p)
+      written t s.words s.views r id v w here (ap is_nameless caller) (set s.words (4 + 36 * n + at) value) (record m { nodes = words' }) r.memory.history shadow' (length-set s.words (4 + 36 * n + at) value) (set_content t s.words r.wide value n at inside low high) ([], append-nil r.memory.history)
+      (callers_over_nodes t s.words s.views r id v w here (ap is_nameless caller) words' (record { terms = refl; role = refl; past = refl; receipts = refl; allowance = refl; made = refl; lineage = refl }) refl (omega arith) (busy v w caller)) nodes r.memory.active refl sights (λ k p. p)
       (record { own = refl; sights = refl; loads = refl; turn = omega arith })
 
 module _ (t : Terms) (slots id : ℕ) (me : Seated) (caller : me.0.role ≡ role.Caller) (laws : ChangeLaws) (agreement : AgreementLaw) (decided : DecidedLaw) (root : RootLaw) where

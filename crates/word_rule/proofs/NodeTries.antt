@@ -26,7 +26,7 @@ use Rattle.word_rule.proofs.Loader.{marks_by_bits}
 use Rattle.word_rule.specs.Memory.{NodeWords, memory_of, updated}
 use Rattle.word_rule.specs.Spelling.{SpellsNode}
 use Rattle.word_rule.specs.Held.{held_of}
-use Rattle.word_rule.specs.Logs.{is_spent, after_load, after_write}
+use Rattle.word_rule.specs.Logs.{is_gone, is_nameless, after_load, after_write}
 use Rattle.word_rule.specs.Steps.{place_in, place_by, first_mark, place_by_held, mark_at_lock, after_node_lock}
 use Rattle.word_rule.specs.Callers.{IsLockedAt}
 use Rattle.word_rule.specs.Nodes.{HoldsNode, HoldingsHold, IsOpen, IsPlaced}
@@ -56,8 +56,8 @@ module _ (t : Terms) (slots id : ℕ) (me : Seated) (caller : me.0.role ≡ role
   abbrev Holds : Sit → Type 0
   Holds s = TableInvariant t s.words s.views
 
-  stands : is_spent me.0.role ≡ false
-  stands = ap is_spent caller
+  stands : is_nameless me.0.role ≡ false
+  stands = ap is_nameless caller
 
   -- what a lock marks is live
   module _ (children : ChildrenLaw) (root : RootLaw) (s : Sit) (r : Holds s) (at : get_elem? s.views id ≡ some me.0) where
@@ -92,7 +92,7 @@ module _ (t : Terms) (slots id : ℕ) (me : Seated) (caller : me.0.role ≡ role
 
     taken : (n seen : ℕ) → n < t.nodes → (memory_of t s.words).nodes.versions n ≡ seen → seen % 2 ≡ 0 → IsTakenNode n me.0 ((memory_of t s.words).nodes.contents n) (r.memory.shadow.settled n)
     taken n seen inside hit even =
-        let terms : me.0.terms ≡ t = (r.memory.callers.each id me.0 at).terms stands in
+        let terms : me.0.terms ≡ t = (r.memory.callers.each id me.0 at).terms (ap is_gone caller) in
         let free : r.memory.shadow.holder n ≡ None = even_is_open t (memory_of t s.words).nodes s.views r.memory.history r.memory.shadow r.memory.nodes n (ap (λ k. k % 2) hit ∙ even) in
         let spells : SpellsNode ((memory_of t s.words).nodes.contents n) (r.memory.shadow.settled n) = (subst (IsOpen ((memory_of t s.words).nodes.versions n) ((memory_of t s.words).nodes.contents n) (r.memory.shadow.settled n)) free (r.memory.nodes.unlocked n inside)).1 in record {
           within = subst (λ k. n < k.nodes) (sym terms) inside;

@@ -25,7 +25,7 @@ use Rattle.word_rule.specs.declared.log.NodeSight.{NodeSight}
 use Rattle.word_rule.specs.declared.log.Log.{Log}
 use Rattle.word_rule.specs.Memory.{NodeWords, Memory, memory_of}
 use Rattle.word_rule.specs.Spelling.{node_word, is_short, pair_at, pairs_at, SpellsNode}
-use Rattle.word_rule.specs.Logs.{is_spent, weight, turns, load_of, after_load, own_list}
+use Rattle.word_rule.specs.Logs.{is_gone, is_nameless, weight, turns, load_of, after_load, own_list}
 use Rattle.word_rule.specs.NodeTells.{AloneTells, IsLiveNode, IsOfNode}
 use Rattle.word_rule.specs.declared.log.Ask.{Ask}
 use Rattle.reg_model.specs.declared.answer.Half.TheVariants as half
@@ -46,8 +46,8 @@ use Rattle.word_rule.specs.Plays.{Seated, begins_sight, loads_version}
 use Rattle.word_rule.proofs.Memories.{load_version_at, content_length}
 use Rattle.word_rule.proofs.Spells.{reads_pairs, eqb_true}
 use Rattle.word_rule.proofs.Standing.{even_is_open, stands_spells, version_locked}
-use Rattle.word_rule.proofs.CallersFrame.{busy}
-use Rattle.word_rule.proofs.Lineages.{others_spent}
+use Rattle.word_rule.proofs.CallersFrame.{idle_stays}
+use Rattle.word_rule.proofs.Lineages.{others_nameless}
 use Rattle.word_rule.proofs.ObservationsFrame.{observations_own, same_moment}
 use Rattle.word_rule.proofs.Frames.{Sit, still_after_load}
 use Rattle.word_rule.proofs.Quiet.{quiet}
@@ -362,16 +362,17 @@ module _ (t : Terms) (words : List ℕ) (views : List Log) (r : TableInvariant t
       absurd (⊎_elim
       (λ (is : j ≡ id). nothing b.0 (ap (λ (u : Log). u.holdings.held) (some-injective b.0 v (sym b.1.0 ∙ (ap (get_elem? views) is ∙ here))) ∙ none_held) b.1.1)
       (λ (far : j ≢ id).
-      let gone = others_spent views (λ k z q. (r.memory.callers.each k z q).lineage) r.memory.callers.lineages id v here alone j b.0 far b.1.0 in
+      let gone = others_nameless views (λ k z q. (r.memory.callers.each k z q).lineage) r.memory.callers.lineages id v here alone j b.0 far b.1.0 in
       nothing b.0 ((r.memory.callers.each j b.0 b.1.0).idle (weightless b.0.role gone)).held b.1.1)
       (decided j id))
     where
       nothing : (u : Log) → u.holdings.held ≡ [] → IsSome (held_of n u.holdings.held) → ⊥
       nothing u empty there = true≢false (sym there ∙ ap (λ hs. is_some (held_of n hs)) empty)
 
-      weightless : (a : Role) → is_spent a ≡ true → weight a ≡ 0
+      weightless : (a : Role) → is_nameless a ≡ true → weight a ≡ 0
       weightless role.Caller gone = absurd (true≢false (sym gone))
       weightless role.Note gone = refl
+      weightless role.Reader gone = refl
       weightless role.Spent gone = refl
 
   pub told_alone : AloneTells n found v
@@ -381,7 +382,7 @@ module _ (t : Terms) (words : List ℕ) (views : List Log) (r : TableInvariant t
         (λ l as_found word turn. sym (as_found turn) ∙ ap (λ k. get_or words k 0) word) v.trace.loads (r.alone id v here alone),
   )
 
-module _ (t : Terms) (slots id : ℕ) (me : Seated) (caller : me.0.role ≡ role.Caller) where
+module _ (t : Terms) (slots id : ℕ) (me : Seated) (live : is_gone me.0.role ≡ false) where
   abbrev Holds : Sit → Type 0
   Holds s = TableInvariant t s.words s.views
 
@@ -392,13 +393,13 @@ module _ (t : Terms) (slots id : ℕ) (me : Seated) (caller : me.0.role ≡ role
       let m : Memory = memory_of t s.words in
       let callers : ℕ = total (λ u. u.made) s.views + 1 in
       let o = r.memory.observations id me.0 here in
-      let terms : me.0.terms ≡ t = (r.memory.callers.each id me.0 here).terms (ap is_spent caller) in
+      let terms : me.0.terms ≡ t = (r.memory.callers.each id me.0 here).terms live in
       let at = load_version_at t s.words n inside in
       let sights = after_version t m.nodes s.views r.memory.history r.memory.shadow r.memory.nodes law n found inside at me.0.sights.nodes (sight_of n me.0.sights.nodes) refl o.sights in
       let looked : TableInvariant t (set s.words (4 + 36 * n) found) (set s.views id w) =
-      quiet t s.words s.views r id me.0 w here (ap is_spent caller) (4 + 36 * n) (record { terms = refl; role = refl; past = refl; receipts = refl; allowance = refl; made = refl; lineage = refl }) refl refl
-      (busy me.0 w caller) (r.memory.nodes.holdings id me.0 here) (λ _ h. h) (λ _. refl)
-      (observations_own t m r.memory.history callers r.memory.shadow me.0 w (load_of me.0 (4 + 36 * n) found ∷ []) (record { own = refl; turns = omega arith; loads = refl }) sights o.copies (of_version t slots id me caller s r n, tt) ((omega arith, omega arith), tt) o)
+      quiet t s.words s.views r id me.0 w here (4 + 36 * n) (record { terms = refl; role = refl; past = refl; receipts = refl; allowance = refl; made = refl; lineage = refl }) refl refl
+      (idle_stays me.0 w refl refl (r.memory.callers.each id me.0 here).idle) (r.memory.nodes.holdings id me.0 here) (λ _ h. h) (λ _. refl)
+      (observations_own t m r.memory.history callers r.memory.shadow me.0 w (load_of me.0 (4 + 36 * n) found ∷ []) (record { own = refl; turns = omega arith; loads = refl }) sights o.copies (of_version t id me s r n, tt) ((omega arith, omega arith), tt) o)
       (λ alone. still_after_load s.words me.0 w (load_of me.0 (4 + 36 * n) found) refl refl refl (r.alone id me.0 here alone)) in
       let rs : List Receipt = receipts_after_version me.0 a found (sight_of n me.0.sights.nodes) in
       let both : set (set s.views id w) id (with_receipts rs w) ≡ set s.views id (with_receipts rs w) = set_twice s.views id w (with_receipts rs w) in (
@@ -406,7 +407,7 @@ module _ (t : Terms) (slots id : ℕ) (me : Seated) (caller : me.0.role ≡ role
         keeps,
         tt,
         subst (λ vs. TableInvariant t (set s.words (4 + 36 * n) found) vs) both
-            (answered t (set s.words (4 + 36 * n) found) (set s.views id w) looked id w (set_here s.views id w (within s.views id me.0 here)) caller rs (told_version t me.0 a found (sight_of n me.0.sights.nodes) terms)),
+            (answered t (set s.words (4 + 36 * n) found) (set s.views id w) looked id w (set_here s.views id w (within s.views id me.0 here)) rs (told_version t me.0 a found (sight_of n me.0.sights.nodes) terms)),
         (
           refl,
           terms,
@@ -437,9 +438,9 @@ module _ (t : Terms) (slots id : ℕ) (me : Seated) (caller : me.0.role ≡ role
         w,
         keeps,
         tt,
-        quiet t s.words s.views r id me.0 w here (ap is_spent caller) (4 + 36 * n) (record { terms = refl; role = refl; past = refl; receipts = refl; allowance = refl; made = refl; lineage = refl }) refl refl
-            (busy me.0 w caller) (r.memory.nodes.holdings id me.0 here) (λ _ h. h) (λ _. refl)
-            (observations_own t m r.memory.history callers r.memory.shadow me.0 w (load_of me.0 (4 + 36 * n) found ∷ []) (record { own = refl; turns = omega arith; loads = refl }) sights o.copies (of_version t slots id me caller s r n, tt) ((omega arith, omega arith), tt) o)
+        quiet t s.words s.views r id me.0 w here (4 + 36 * n) (record { terms = refl; role = refl; past = refl; receipts = refl; allowance = refl; made = refl; lineage = refl }) refl refl
+            (idle_stays me.0 w refl refl (r.memory.callers.each id me.0 here).idle) (r.memory.nodes.holdings id me.0 here) (λ _ h. h) (λ _. refl)
+            (observations_own t m r.memory.history callers r.memory.shadow me.0 w (load_of me.0 (4 + 36 * n) found ∷ []) (record { own = refl; turns = omega arith; loads = refl }) sights o.copies (of_version t id me s r n, tt) ((omega arith, omega arith), tt) o)
             (λ alone. still_after_load s.words me.0 w (load_of me.0 (4 + 36 * n) found) refl refl refl (r.alone id me.0 here alone)),
         (
           refl,

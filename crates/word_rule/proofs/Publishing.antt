@@ -23,7 +23,7 @@ use Rattle.word_rule.specs.declared.log.LoaderHolding.{LoaderHolding}
 use Rattle.word_rule.specs.declared.log.Log.{Log}
 use Rattle.word_rule.specs.Places.{upper}
 use Rattle.word_rule.specs.Memory.{Memory, memory_of}
-use Rattle.word_rule.specs.Logs.{is_spent}
+use Rattle.word_rule.specs.Logs.{is_gone, is_nameless}
 use Rattle.word_rule.specs.Steps.{IsDone, exchange_copies, after_publish, AfterPublish, MayPublish}
 use Rattle.word_rule.specs.Callers.{total, CallersHold, HoldsLoader, AtLoader, LoaderLock, is_of_loader, start}
 use Rattle.word_rule.specs.Nodes.{NodesHold}
@@ -73,8 +73,8 @@ module _ (t : Terms) (slots id : ℕ) (me : Seated) (caller : me.0.role ≡ role
   abbrev Rule : Sit → Type 0
   Rule s = TableInvariant t s.words s.views
 
-  stands : is_spent me.0.role ≡ false
-  stands = ap is_spent caller
+  stands : is_nameless me.0.role ≡ false
+  stands = ap is_nameless caller
 
   module _ (u : Update) (h : LoaderHolding) (is : me.0.loader ≡ Some h) (may : MayPublish t me.0.budget.allowance u h) (s : Sit) (r : Rule s) (at : get_elem? s.views id ≡ some me.0) where
     abbrev m : Memory
@@ -219,7 +219,7 @@ module _ (t : Terms) (slots id : ℕ) (me : Seated) (caller : me.0.role ≡ role
     }) (λ _. still_after_turn (set s.words 0 (get_or s.words 0 0 + 4294967297)) me.0 w (omega arith) refl (r.memory.observations id me.0 at).earlier)
 
     pub after_it : AfterPublish u (get_or s.words 0 0) me.0 w
-    after_it = let terms : me.0.terms ≡ t = (r.memory.callers.each id me.0 at).terms stands in (
+    after_it = let terms : me.0.terms ≡ t = (r.memory.callers.each id me.0 at).terms (ap is_gone caller) in (
       r.memory.history,
       answer_of.0,
       (

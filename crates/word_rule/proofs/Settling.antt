@@ -24,7 +24,7 @@ use Rattle.word_rule.specs.declared.log.Log.{Log}
 use Rattle.word_rule.specs.Memory.{Memory, memory_of}
 use Rattle.word_rule.specs.Spelling.{SpellsNode}
 use Rattle.word_rule.specs.Held.{held_of}
-use Rattle.word_rule.specs.Logs.{is_spent}
+use Rattle.word_rule.specs.Logs.{is_nameless}
 use Rattle.word_rule.specs.Callers.{start, total, IsLockedAt}
 use Rattle.word_rule.specs.Nodes.{Shadow, NodesHold, HoldsNode, HoldingsHold, IsOpen, IsPlaced}
 use Rattle.word_rule.specs.Observations.{Stands, SightHolds, ObservationsHold}
@@ -70,8 +70,8 @@ module _ (f : Holding → Holding) (same_node : (h : Holding) → (f h).node ≡
       go (Some h) e = refl
 
 module _ (t : Terms) (id : ℕ) (v : Log) (caller : v.role ≡ role.Caller) (words : List ℕ) (views : List Log) (r : TableInvariant t words views) (at : get_elem? views id ≡ some v) where
-  stands : is_spent v.role ≡ false
-  stands = ap is_spent caller
+  stands : is_nameless v.role ≡ false
+  stands = ap is_nameless caller
 
   mine_of : (k : ℕ) (h : Holding) → held_of k v.holdings.held ≡ Some h → HoldsNode t (memory_of t words).nodes r.memory.shadow id h × (h.node ≡ k)
   mine_of k h f = held_by t (memory_of t words).nodes views r.memory.history r.memory.shadow r.memory.nodes id v k h at f

@@ -10,7 +10,7 @@ use Rattle.word_rule.specs.declared.log.NodeSight.{NodeSight}
 use Rattle.word_rule.specs.declared.log.Log.{Log}
 use Rattle.word_rule.specs.Memory.{NodeWords, Memory, memory_of, updated}
 use Rattle.word_rule.specs.Held.{held_of}
-use Rattle.word_rule.specs.Logs.{is_spent, weight}
+use Rattle.word_rule.specs.Logs.{is_nameless, weight}
 use Rattle.word_rule.specs.Callers.{IsLockedAt}
 use Rattle.word_rule.specs.Nodes.{Shadow, NodesHold, HoldingsHold, HeldBy, IsOpen}
 use Rattle.word_rule.specs.Observations.{SightHolds}
@@ -99,5 +99,5 @@ module _ (t : Terms) (id : ℕ) (v w : Log) (caller : v.role ≡ role.Caller) (n
     stepped_version like loader fewer wrote =
         let m : Memory = memory_of t s.words in
         let sum = node_counters_at m.nodes.versions n x t.nodes inside in
-        written t s.words s.views r id v w at (ap is_spent caller) (set s.words (4 + 36 * n) x) (record m { nodes = words' }) r.memory.history shadow' (length-set s.words (4 + 36 * n) x) (set_version t s.words r.wide x n inside) ([], append-nil r.memory.history)
-        (callers_over_nodes t s.words s.views r id v w at (ap is_spent caller) words' like loader (omega (arith, sum, fewer)) (λ zero_weight. busy v w caller (ap weight (sym like.role) ∙ zero_weight))) nodes r.memory.active like.made sights (λ k h. h) wrote
+        written t s.words s.views r id v w at (ap is_nameless caller) (set s.words (4 + 36 * n) x) (record m { nodes = words' }) r.memory.history shadow' (length-set s.words (4 + 36 * n) x) (set_version t s.words r.wide x n inside) ([], append-nil r.memory.history)
+        (callers_over_nodes t s.words s.views r id v w at (ap is_nameless caller) words' like loader (omega (arith, sum, fewer)) (λ zero_weight. busy v w caller (ap weight (sym like.role) ∙ zero_weight))) nodes r.memory.active like.made sights (λ k h. h) wrote

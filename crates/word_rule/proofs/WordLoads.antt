@@ -5,7 +5,6 @@ use mathlib.Core.Option.{none, some}
 use native.Mathlib.Decide.{ℕ_discrete}
 use lib.ListN.{get_elem?}
 use Rattle.atomic_table.specs.Table.{step, keeps, Allows}
-use Rattle.word_rule.specs.declared.log.Role.TheVariants as role
 use Rattle.word_rule.specs.declared.log.Holding.{Holding}
 use Rattle.word_rule.specs.declared.log.NodeSight.{NodeSight}
 use Rattle.word_rule.specs.declared.log.Terms.{Terms}
@@ -14,7 +13,7 @@ use Rattle.word_rule.specs.declared.log.Log.{Log}
 use Rattle.word_rule.specs.Memory.{Memory, memory_of}
 use Rattle.word_rule.specs.Spelling.{node_word, SpellsNode}
 use Rattle.word_rule.specs.Held.{held_of}
-use Rattle.word_rule.specs.Logs.{is_spent, load_of}
+use Rattle.word_rule.specs.Logs.{is_gone, load_of}
 use Rattle.word_rule.specs.Sights.{with_word, place_of, after_node_load}
 use Rattle.word_rule.specs.Callers.{total}
 use Rattle.word_rule.specs.Nodes.{IsPlaced}
@@ -26,7 +25,7 @@ use Rattle.word_rule.specs.Plays.{Seated, loads_node}
 use Rattle.word_rule.proofs.Memories.{load_content_at, content_length}
 use Rattle.word_rule.proofs.Spells.{reads}
 use Rattle.word_rule.proofs.Standing.{stands_spells, held_by}
-use Rattle.word_rule.proofs.CallersFrame.{busy}
+use Rattle.word_rule.proofs.CallersFrame.{idle_stays}
 use Rattle.word_rule.proofs.ObservationsFrame.{observations_own}
 use Rattle.word_rule.proofs.Frames.{Sit, still_after_load}
 use Rattle.word_rule.proofs.Quiet.{quiet}
@@ -35,12 +34,9 @@ use Rattle.word_rule.proofs.NodeVersions.{ChildrenLaw}
 use Rattle.word_rule.proofs.Holders.{out_tells, holder_tells, knows_tree}
 use Rattle.word_rule.proofs.NodeLoads.{FullLaw, OrderLaw, full_count}
 
-module _ (t : Terms) (slots id : ℕ) (me : Seated) (caller : me.0.role ≡ role.Caller) (law : FullLaw) (order : OrderLaw) (root : RootLaw) (children : ChildrenLaw) (n at : ℕ) (inside : n < t.nodes) (low : 1 ≤ at) (high : at ≤ 35) where
+module _ (t : Terms) (slots id : ℕ) (me : Seated) (live : is_gone me.0.role ≡ false) (law : FullLaw) (order : OrderLaw) (root : RootLaw) (children : ChildrenLaw) (n at : ℕ) (inside : n < t.nodes) (low : 1 ≤ at) (high : at ≤ 35) where
   abbrev Holds : Sit → Type 0
   Holds s = TableInvariant t s.words s.views
-
-  stands : is_spent me.0.role ≡ false
-  stands = ap is_spent caller
 
   module _ (s : Sit) (r : Holds s) (here : get_elem? s.views id ≡ some me.0) where
     abbrev m : Memory
@@ -126,14 +122,14 @@ module _ (t : Terms) (slots id : ℕ) (me : Seated) (caller : me.0.role ≡ role
         w,
         keeps,
         tt,
-        quiet t s.words s.views r id me.0 w here stands (4 + 36 * n + at) (record { terms = refl; role = refl; past = refl; receipts = refl; allowance = refl; made = refl; lineage = refl }) refl refl (busy me.0 w caller)
+        quiet t s.words s.views r id me.0 w here (4 + 36 * n + at) (record { terms = refl; role = refl; past = refl; receipts = refl; allowance = refl; made = refl; lineage = refl }) refl refl (idle_stays me.0 w refl refl (r.memory.callers.each id me.0 here).idle)
             (r.memory.nodes.holdings id me.0 here) (λ _ k. k) (λ _. refl)
-            (observations_own t m r.memory.history callers r.memory.shadow me.0 w (load_of me.0 (4 + 36 * n + at) found ∷ []) (record { own = refl; turns = omega arith; loads = refl }) (sights s r here b) (copies s r here b) (full_count t slots id me caller law order s r n at here low high, tt) ((omega arith, omega arith), tt) o)
+            (observations_own t m r.memory.history callers r.memory.shadow me.0 w (load_of me.0 (4 + 36 * n + at) found ∷ []) (record { own = refl; turns = omega arith; loads = refl }) (sights s r here b) (copies s r here b) (full_count t slots id me live law order s r n at here low high, tt) ((omega arith, omega arith), tt) o)
             (λ alone. still_after_load s.words me.0 w (load_of me.0 (4 + 36 * n + at) found) refl refl refl (r.alone id me.0 here alone)),
         (
           refl,
           tells s r here,
-          holder_tells t m.nodes s.views r.memory.history r.memory.shadow r.memory.nodes id me.0 here children (content_length t s.words r.wide) ((r.memory.callers.each id me.0 here).terms stands) n,
+          holder_tells t m.nodes s.views r.memory.history r.memory.shadow r.memory.nodes id me.0 here children (content_length t s.words r.wide) ((r.memory.callers.each id me.0 here).terms live) n,
           out_tells t m.nodes s.views r.memory.history r.memory.shadow r.memory.nodes id me.0 here root n,
           knows_tree t m.nodes s.views r.memory.history r.memory.shadow r.memory.nodes id me.0 here,
         ),

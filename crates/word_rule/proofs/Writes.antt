@@ -10,7 +10,7 @@ use Rattle.word_rule.specs.declared.log.NodeSight.{NodeSight}
 use Rattle.word_rule.specs.declared.log.CopySight.{CopySight}
 use Rattle.word_rule.specs.declared.log.Log.{Log}
 use Rattle.word_rule.specs.Memory.{NodeWords, Memory, memory_of, counters}
-use Rattle.word_rule.specs.Logs.{is_spent, weight, turns, own_list}
+use Rattle.word_rule.specs.Logs.{is_nameless, weight, turns, own_list}
 use Rattle.word_rule.specs.Callers.{total, CallersHold, IsIdle, AtLoader, LoaderLock}
 use Rattle.word_rule.specs.Nodes.{Shadow, NodesHold}
 use Rattle.word_rule.specs.Copies.{ActiveCopy, CopySightHolds}
@@ -33,7 +33,7 @@ pub nodes_at_loader : (m : Memory) (nodes : NodeWords) (holder : Option ℕ) (j 
 nodes_at_loader m nodes holder j None h = tt
 nodes_at_loader m nodes holder j (Some g) h = (h.0, record { locked = h.1.locked; published = h.1.published; active = h.1.active; spare = h.1.spare })
 
-module _ (t : Terms) (words : List ℕ) (views : List Log) (r : TableInvariant t words views) (id : ℕ) (v w : Log) (at : get_elem? views id ≡ some v) (stands : is_spent v.role ≡ false) where
+module _ (t : Terms) (words : List ℕ) (views : List Log) (r : TableInvariant t words views) (id : ℕ) (v w : Log) (at : get_elem? views id ≡ some v) (stands : is_nameless v.role ≡ false) where
   abbrev m : Memory
   m = memory_of t words
 

@@ -42,3 +42,9 @@ pub record KeepsNote (seen : ℕ) (names : Names) (me : Seated) : Type 0 where
   pub seen_all : seen ≡ length me.0.past
   pub names_are : AreNamesOf names me.0.lineage
   pub note : IsNote me.0
+
+-- what a reader keeps plainly: how much it has seen
+pub record KeepsReader (seen : ℕ) (me : Seated) : Type 0 where
+  pub bare : me.1 ≡ []
+  pub role : me.0.role ≡ role.Reader
+  pub seen_all : seen ≡ length me.0.past

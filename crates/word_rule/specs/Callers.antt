@@ -24,7 +24,7 @@ use Rattle.word_rule.specs.declared.log.LoaderHolding.{LoaderHolding}
 use Rattle.word_rule.specs.declared.log.Log.{Log}
 use Rattle.word_rule.specs.Copies.{IsBehind}
 use Rattle.word_rule.specs.Names.{name_count, is_same}
-use Rattle.word_rule.specs.Logs.{is_spent, own_list, weight}
+use Rattle.word_rule.specs.Logs.{is_gone, is_nameless, own_list, weight}
 use Rattle.word_rule.specs.Memory.{Memory, counters}
 use Rattle.word_rule.specs.Places.{ALLOWANCE, CREDIT, lower, upper, spare}
 
@@ -120,7 +120,7 @@ pub record IsIdle (v : Log) : Type 0 where
 -- What is said of one log alone, where there is this history and so many callers were ever made.
 pub record LogHolds (t : Terms) (history : List Update) (callers : ℕ) (v : Log) : Type 0 where
   -- it has the terms of its words, unless it was joined away
-  pub terms : is_spent v.role ≡ false → v.terms ≡ t
+  pub terms : is_gone v.role ≡ false → v.terms ≡ t
   -- the history begins with what was seen
   pub begins : IsPrefix v.past history
   -- each of its receipts holds in what it has seen
@@ -172,16 +172,16 @@ pub record LineagesHold (views : List Log) : Type 0 where
       → total (λ v. name_count x v.lineage.gathered) views ≡ total
       (λ v. name_count x v.lineage.given) views + once (is_same [] x)
   pub given : (x : List ℕ) → total (λ v. name_count x v.lineage.given) views ≤ 1
-  -- a log that stands has its own name
-  pub named : (id : ℕ) (v : Log) → get_elem? views id ≡ some v → is_spent v.role ≡ false
+  -- a log that has a name gathered it
+  pub named : (id : ℕ) (v : Log) → get_elem? views id ≡ some v → is_nameless v.role ≡ false
       → 0 < name_count v.lineage.name v.lineage.gathered
   -- and has not given the names that it is yet to give; nor has another
-  pub unused : (id : ℕ) (v : Log) → get_elem? views id ≡ some v → is_spent v.role ≡ false → (n : ℕ)
-      → v.lineage.forks ≤ n
+  pub unused : (id : ℕ) (v : Log) → get_elem? views id ≡ some v → is_nameless v.role ≡ false
+      → (n : ℕ) → v.lineage.forks ≤ n
       → total (λ w. name_count (v.lineage.name ++ n ∷ []) w.lineage.given) views ≡ 0
-  -- what was joined away keeps nothing
-  pub spent : (id : ℕ) (v : Log) → get_elem? views id ≡ some v → is_spent v.role ≡ true
-      → (v.receipts.own ≡ []) × (v.receipts.joined ≡ []) × (v.made ≡ 0)
+  -- one without a name has accepted no update and made no caller
+  pub nameless : (id : ℕ) (v : Log) → get_elem? views id ≡ some v → is_nameless v.role ≡ true
+      → ((n : ℕ) → dones_in n v ≡ 0) × (v.made ≡ 0)
 
 -- What holds of the callers and of the loader's lock, where this is the history.
 pub record CallersHold (t : Terms) (m : Memory) (views : List Log)

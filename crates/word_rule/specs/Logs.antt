@@ -17,16 +17,26 @@ use Rattle.word_rule.specs.declared.log.Log.{Log}
 use Rattle.word_rule.specs.Names.{new_lineage, child_name, after_fork, joined_lineage}
 use Rattle.word_rule.specs.Places.{ALLOWANCE, CREDIT, CALL_CREDIT, copy_words}
 
--- whether a log was joined or learnt into another
-abbrev pub is_spent : Role → Bool
-is_spent role.Caller = false
-is_spent role.Note = false
-is_spent role.Spent = true
+-- whether a log has no name of its own: a reader has none, nor has what was joined or learnt into
+-- another
+abbrev pub is_nameless : Role → Bool
+is_nameless role.Caller = false
+is_nameless role.Note = false
+is_nameless role.Reader = true
+is_nameless role.Spent = true
 
--- 1 for a caller, and 0 for a note and for what was joined away
+-- whether a log was joined or learnt into another
+abbrev pub is_gone : Role → Bool
+is_gone role.Caller = false
+is_gone role.Note = false
+is_gone role.Reader = false
+is_gone role.Spent = true
+
+-- 1 for a caller, and 0 for a note, a reader and what was joined away
 abbrev pub weight : Role → ℕ
 weight role.Caller = 1
 weight role.Note = 0
+weight role.Reader = 0
 weight role.Spent = 0
 
 -- how often the caller changed anything itself
@@ -117,20 +127,28 @@ first_log t = new_log t role.Caller [] record {
 abbrev pub child_log : Role → Budget → Log → Log
 child_log role budget v = new_log v.terms role v.past budget (new_lineage (child_name v.lineage))
 
+-- what one that makes no update may do
+abbrev pub no_budget : Budget
+no_budget = record { allowance = 0; credit = 0 }
+
+-- the names of one that has none
+abbrev pub no_lineage : Lineage
+no_lineage =
+    record { name = []; forks = 0; missing = []; unmatched = []; gathered = []; given = [] }
+
 -- what is left of a log that was joined or learnt into another
 abbrev pub spent_log : Log
 spent_log =
-    new_log record { nodes = 0; loads = 0; payloads = 0; fixed = [] } role.Spent [] record {
-      allowance = 0;
-      credit = 0;
-    } record {
-      name = [];
-      forks = 0;
-      missing = [];
-      unmatched = [];
-      gathered = [];
-      given = [];
-    }
+    new_log record { nodes = 0; loads = 0; payloads = 0; fixed = [] } role.Spent [] no_budget
+    no_lineage
+
+-- what a reader begins with that has seen so much
+abbrev pub reader_log : Terms → List Update → Log
+reader_log t past = new_log t role.Reader past no_budget no_lineage
+
+-- a reader that has seen what its maker has
+abbrev pub reader_of : Log → Log
+reader_of v = reader_log v.terms v.past
 
 -- The releases that a split gives away with so many of the `left` update calls: those of the calls,
 -- and half of the surplus, rounded down.
@@ -164,7 +182,7 @@ abbrev pub after_note : Log → Log
 after_note v = record v { trace = after_meeting v.trace; lineage = after_fork v.lineage }
 
 abbrev pub note_of : Log → Log
-note_of v = child_log role.Note record { allowance = 0; credit = 0 } v
+note_of v = child_log role.Note no_budget v
 
 -- a note was learnt
 abbrev pub after_learn : Log → Log → Log

@@ -8,7 +8,7 @@ use Rattle.tree_shape.specs.NodeData.{NodeData}
 use Rattle.word_rule.specs.declared.log.Log.{Log}
 use Rattle.word_rule.specs.declared.log.LoaderHolding.{LoaderHolding}
 use Rattle.word_rule.specs.declared.log.Ask.{Ask}
-use Rattle.word_rule.specs.Places.{ALLOWANCE, CREDIT, node_place}
+use Rattle.word_rule.specs.Places.{ALLOWANCE, CREDIT, lower, node_place}
 use Rattle.word_rule.specs.Sights.{after_node_begin, after_node_version, after_node_load}
 use Rattle.word_rule.specs.Sights.{after_copy_load}
 use Rattle.word_rule.specs.Steps.{after_node_lock, after_head_load, after_copy_store, AfterPublish}
@@ -21,8 +21,8 @@ use Rattle.word_rule.specs.TreeRefusals.{AppendsRefusal}
 use Rattle.word_rule.specs.Held.{held_of}
 use Rattle.word_rule.specs.NodeTells.{AloneTells, HeldTells, HolderTells, IsTakenNode, OutTells}
 use Rattle.word_rule.specs.NodeTells.{KnowsTree, SightTells}
-use Rattle.word_rule.specs.Logs.{is_spent, IsTaken, after_load, after_loader_lock, after_write}
-use Rattle.word_rule.specs.Logs.{after_loader_release, after_loader_release_same}
+use Rattle.word_rule.specs.Logs.{is_nameless, reader_log, IsTaken, after_load, after_loader_lock}
+use Rattle.word_rule.specs.Logs.{after_loader_release, after_loader_release_same, after_write}
 use Rattle.word_rule.specs.Callers.{IsLockedAt, IsAlone, IsWhole}
 
 abbrev pub Seated : Type 0
@@ -78,7 +78,7 @@ abbrev pub confirms : Stepped → Seated → ℕ → Seated → Type 0
 confirms st me found me' =
     (me' ≡ me) × (length me.0.past + me.0.budget.allowance ≤ ALLOWANCE)
     × (me.0.budget.credit ≤ CREDIT)
-    × (is_spent me.0.role ≡ false → IsAlone me.0.lineage → IsWhole me.0)
+    × (is_nameless me.0.role ≡ false → IsAlone me.0.lineage → IsWhole me.0)
     × IsPrefix me.0.receipts.heard me.0.past
 
 -- a word of a copy was loaded
@@ -189,3 +189,8 @@ commits u st me found me' = AfterCommit u found me.0 me'.0 × (me'.1 ≡ me.1)
 abbrev pub releases_node : ℕ → Stepped → Seated → ℕ → Seated → Type 0
 releases_node n st me found me' =
     (me' ≡ (after_node_release n me.0, me.1)) × NodeWasLocked n me found
+
+-- a reader came by a load of the clock: it has seen all that was accepted
+abbrev pub enters : Stepped → Seated → ℕ → Seated → Type 0
+enters st me found me' =
+    (past : List Update) × ((lower found ≡ length past) × (me'.0 ≡ reader_log me.0.terms past))

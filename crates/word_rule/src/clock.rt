@@ -1,5 +1,6 @@
 //! Steps on the clock and on the loader's copies.
-ghost use Rattle.std.specs.Prelude.{◌≡◌, ℕ, ◌+◌, ◌<◌, ◌≤◌, length, IfSome, IsSomeAnd};
+ghost use Rattle.std.specs.Prelude.{◌≡◌, ℕ, ◌+◌, ◌<◌, ◌≤◌, length, IfSome, IsSomeAnd, false};
+ghost use Rattle.word_rule.specs.Logs.{is_gone};
 ghost use Rattle.word_rule.specs.CallerData.{due};
 ghost use Rattle.word_rule.specs.Places.{copy_place, word_count};
 ghost use Rattle.word_rule.specs.Steps.{AfterPublish, IsHeldWord, MayPublish, MayStoreCopy};
@@ -22,11 +23,11 @@ use tree_shape::laws;
 pub(crate) const CLOCK_WORD: usize = CLOCK as usize;
 
 impl Words {
-    fn load_clock_for<A: Asking>(&self, seat: &mut Seat<(), Log>, ask: Ask) -> u64
+    pub(crate) fn load_clock_for<A: Asking>(&self, seat: &mut Seat<(), Log>, ask: Ask) -> u64
         requires table { seat.old.table_id ≡ self.now.table }
         requires about { (A.ask ≡ ask) × (A.terms ≡ self.now.terms) }
         requires ask { MayAsk self.now.terms ask seat.old.me.0 }
-        requires caller { seat.old.me.0.role ≡ Role.Caller }
+        requires stands { is_gone seat.old.me.0.role ≡ false }
         ensures same { (seat.new.table_id ≡ seat.old.table_id) × (seat.new.id ≡ seat.old.id)
             × (seat.new.me.1 ≡ seat.old.me.1) }
         ensures log { AfterClock A.terms A.ask result seat.old.me.0 seat.new.me.0 }

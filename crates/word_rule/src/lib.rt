@@ -12,7 +12,8 @@
 //!
 //! A caller splits off others and makes notes for them; a caller may join another, or learn a note.
 //! Each has a name, its maker's with a number, by which a caller knows whether it is alone
-//! (`lineage`).
+//! (`lineage`). A `Reader` only loads: it has no name, so nobody waits for it, and it may be made
+//! and dropped at any time. A `Looker` is either.
 //!
 //! Who writes which word, under which lock, and why it is safe to read it without one:
 //!
@@ -31,7 +32,7 @@
 //! (tree_shape: what a node is, when contents are a lawful tree). From atomic_table it takes the
 //! steps, each proved to keep a rule that it is given. The rule here is the whole invariant. Built
 //! are the steps on version locks, on nodes, on the free head, on the clock and the loader's
-//! copies, the commit of an update of the tree, and callers and notes that come and go.
+//! copies, the commit of an update of the tree, and callers, notes and readers that come and go.
 #![tactic(auto)]
 
 mod caller;
@@ -43,8 +44,10 @@ mod initial;
 mod lifecycle;
 mod lineage;
 mod log;
+mod looker;
 mod nodes;
 pub mod places;
+mod readers;
 mod rule;
 mod seats;
 mod words;
@@ -54,5 +57,7 @@ pub use log::{
     Ask, Budget, CopySight, Holding, Holdings, Lineage, LoadEvent, LoadedWord, LoaderHolding,
     LockId, Log, NodeSight, ReceiptList, Receipts, Role, Sights, Terms, Trace,
 };
+pub use looker::Looker;
 pub use nodes::{FIRST_NODE, NODE_WORDS};
+pub use readers::Reader;
 pub use words::Words;

@@ -28,10 +28,12 @@ pub struct Terms {
     pub fixed: LinkedList<Member>,
 }
 
-/// Whose a log is: a caller's, a note's, or nobody's, where it was joined or learnt into another.
+/// Whose a log is: a caller's, a note's, a reader's, or nobody's, where it was joined or learnt
+/// into another.
 pub enum Role {
     Caller,
     Note,
+    Reader,
     Spent,
 }
 

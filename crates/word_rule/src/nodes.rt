@@ -4,7 +4,7 @@ ghost use Rattle.std.specs.Prelude.{IfOk, IfErr, IfSome, IsSomeAnd, false};
 ghost use Rattle.word_rule.specs.CallerData.{surplus};
 ghost use Rattle.word_rule.specs.Callers.{IsLockedAt};
 ghost use Rattle.word_rule.specs.Held.{held_of};
-ghost use Rattle.word_rule.specs.Logs.{after_load};
+ghost use Rattle.word_rule.specs.Logs.{after_load, is_gone};
 ghost use Rattle.word_rule.specs.NodeTells.{AloneTells, HeldTells, HolderTells, KnowsTree};
 ghost use Rattle.word_rule.specs.NodeTells.{OutTells, SightTells};
 ghost use Rattle.word_rule.specs.Places.{node_place};
@@ -40,11 +40,16 @@ pub(crate) fn place_of(node: u32) -> usize
 }
 
 impl Words {
-    fn load_version_for<N: AtNode>(&self, seat: &mut Seat<(), Log>, node: u32, ask: Ask) -> u64
+    pub(crate) fn load_version_for<N: AtNode>(
+        &self,
+        seat: &mut Seat<(), Log>,
+        node: u32,
+        ask: Ask,
+    ) -> u64
         requires table { seat.old.table_id ≡ self.now.table }
         requires about { (N.node ≡ node) × (N.ask ≡ ask) × (N.terms ≡ self.now.terms) }
         requires inside { node < self.now.terms.nodes }
-        requires caller { seat.old.me.0.role ≡ Role.Caller }
+        requires stands { is_gone seat.old.me.0.role ≡ false }
         ensures same { (seat.new.table_id ≡ seat.old.table_id) × (seat.new.id ≡ seat.old.id)
             × (seat.new.me.1 ≡ seat.old.me.1) }
         ensures log { seat.new.me.0 ≡ after_node_version N.ask N.node result seat.old.me.0 }
@@ -76,11 +81,11 @@ impl Words {
         self.load_version_for::<Brand>(&mut me.seat, node, ask)
     }
 
-    fn begin_sight_for<N: AtNode>(&self, seat: &mut Seat<(), Log>, node: u32) -> u64
+    pub(crate) fn begin_sight_for<N: AtNode>(&self, seat: &mut Seat<(), Log>, node: u32) -> u64
         requires table { seat.old.table_id ≡ self.now.table }
         requires about { N.node ≡ node }
         requires inside { node < self.now.terms.nodes }
-        requires caller { seat.old.me.0.role ≡ Role.Caller }
+        requires stands { is_gone seat.old.me.0.role ≡ false }
         ensures same { (seat.new.table_id ≡ seat.old.table_id) × (seat.new.id ≡ seat.old.id)
             × (seat.new.me.1 ≡ seat.old.me.1) }
         ensures log { seat.new.me.0 ≡ after_node_begin N.node result seat.old.me.0 }
@@ -107,12 +112,17 @@ impl Words {
         self.begin_sight_for::<Brand>(&mut me.seat, node)
     }
 
-    fn load_node_for<N: AtNode>(&self, seat: &mut Seat<(), Log>, node: u32, at: u32) -> u64
+    pub(crate) fn load_node_for<N: AtNode>(
+        &self,
+        seat: &mut Seat<(), Log>,
+        node: u32,
+        at: u32,
+    ) -> u64
         requires table { seat.old.table_id ≡ self.now.table }
         requires about { (N.node ≡ node) × (N.at ≡ at) }
         requires inside { node < self.now.terms.nodes }
         requires word { (1 ≤ at) × (at ≤ 35) }
-        requires caller { seat.old.me.0.role ≡ Role.Caller }
+        requires stands { is_gone seat.old.me.0.role ≡ false }
         ensures same { (seat.new.table_id ≡ seat.old.table_id) × (seat.new.id ≡ seat.old.id)
             × (seat.new.me.1 ≡ seat.old.me.1) }
         ensures log { seat.new.me.0 ≡ after_node_load N.node N.at result seat.old.me.0 }

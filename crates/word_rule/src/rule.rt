@@ -371,3 +371,21 @@ impl Join<Log> for Learns {
 
     ghost spent = { spent_log };
 }
+
+pub(crate) struct Reads;
+
+impl Split<Log> for Reads {
+    ghost use Rattle.word_rule.specs.Logs.{reader_of};
+
+    ghost left = { λ v. v };
+
+    ghost right = { reader_of };
+}
+
+pub(crate) struct Enters;
+
+impl Play<(), Log> for Enters {
+    ghost use Rattle.word_rule.specs.Plays.{enters};
+
+    ghost then = { enters };
+}

@@ -3,7 +3,7 @@ ghost use Rattle.std.specs.Prelude.{◌≡◌, ◌+◌, ◌-◌, ◌*◌, ◌<�
 ghost use Rattle.std.specs.Prelude.{OnErr, IfOk, IfErr, OnOk, false, length};
 ghost use mathlib.Core.List.{IsPrefix};
 ghost use Rattle.word_rule.specs.Places.{ALLOWANCE, CALL_CREDIT, CREDIT};
-ghost use Rattle.word_rule.specs.Logs.{is_spent, after_split, split_off, after_note, note_of};
+ghost use Rattle.word_rule.specs.Logs.{is_nameless, after_split, split_off, after_note, note_of};
 ghost use Rattle.word_rule.specs.Logs.{after_join, after_learn};
 ghost use Rattle.word_rule.specs.Callers.{IsAlone, IsWhole};
 
@@ -89,7 +89,7 @@ impl Words {
         ensures allowance { length seat.old.me.0.past + seat.old.me.0.budget.allowance
             ≤ ALLOWANCE }
         ensures credit { seat.old.me.0.budget.credit ≤ CREDIT }
-        ensures whole { is_spent seat.old.me.0.role ≡ false → IsAlone seat.old.me.0.lineage
+        ensures whole { is_nameless seat.old.me.0.role ≡ false → IsAlone seat.old.me.0.lineage
             → IsWhole seat.old.me.0 }
         ensures heard { IsPrefix seat.old.me.0.receipts.heard seat.old.me.0.past }
     {

@@ -11,5 +11,5 @@ load-requires g c =
     let wide = c.self.invariant.1 in (
       c.requires.table ∙ sym (ap (λ k. k.table) c.self.view_is),
       omega (arith, wide, place, inside, ap (λ k. k.terms.nodes) c.self.view_is),
-      begins_sight_of _ _ _ _ c.requires.caller (record { live = c.children.ensures.live; never_root = c.children.ensures.never_root }) _ _ _ c.requires.about place (subst (λ k. c.args.node < k.nodes) (sym terms) inside),
+      begins_sight_of _ _ _ _ c.requires.stands (record { live = c.children.ensures.live; never_root = c.children.ensures.never_root }) _ _ _ c.requires.about place (subst (λ k. c.args.node < k.nodes) (sym terms) inside),
     )

@@ -10,5 +10,5 @@ load-requires g c =
     let may = may_ask _ _ _ _ c.args.seat.now.me.0 (sym c.requires.about.0) (ap (λ k. k.terms) (sym c.self.view_is) ∙ ap terms_of (sym c.self.invariant.0)) c.requires.ask in (
       c.requires.table ∙ sym (ap (λ k. k.table) c.self.view_is),
       omega (arith, c.self.invariant.1),
-      loads_clock_of law _ _ _ _ c.requires.caller _ may _ terms,
+      loads_clock_of law _ _ _ _ c.requires.stands _ may _ terms,
     )
