@@ -11,7 +11,7 @@ use crate::visit::{Visit, where_holds};
 use reg_model::{Member, Span};
 use tree_shape::ENTRIES;
 use word_rule::places::{COUNT, ENTRY_WORDS, FIRST};
-use word_rule::{Caller, Words};
+use word_rule::{Looker, Words};
 
 /// The first entry's base, its size and its payload. The next entry stands three words on.
 const BASE: u32 = FIRST;
@@ -52,18 +52,18 @@ impl Entry {
 /// How many entries after the first one begin at or below the address, up to one that doesn't. All
 /// are looked at, also those behind the count: so no branch depends on the address.
 #[inline(always)]
-fn later_begun(words: &Words, me: &mut Caller, visit: Visit, pc: u64) -> u32
-    requires table { me.old.table ≡ words.now.table }
+fn later_begun<L: Looker>(words: &Words, me: &mut L, visit: Visit, pc: u64) -> u32
+    requires table { (L.known me.old).table ≡ words.now.table }
     requires inside { visit.node < words.now.terms.nodes }
-    ensures table { me.new.table ≡ me.old.table }
+    ensures table { (L.known me.new).table ≡ (L.known me.old).table }
     ensures later { (k : CallerData) → (count : ℕ)
-        → SeesLater words.now.terms pc k visit count 0 0 me.old
-        → SeesLater words.now.terms pc k visit count 9 result me.new }
+        → SeesLater words.now.terms pc k visit count 0 0 (L.known me.old)
+        → SeesLater words.now.terms pc k visit count 9 result (L.known me.new) }
 {
     let mut later = 0;
     let mut ahead = 1;
     for at in 0..ENTRIES as u32 - 1 {
-        let next = words.load_node(me, visit.node, BASE + ENTRY_WORDS * (at + 1));
+        let next = me.load_node(words, visit.node, BASE + ENTRY_WORDS * (at + 1));
         ahead = where_holds(ahead, next <= pc);
         later += ahead;
     }
@@ -71,22 +71,22 @@ fn later_begun(words: &Words, me: &mut Caller, visit: Visit, pc: u64) -> u32
 }
 
 /// The entries that begin at or below the address: they stand before the others.
-fn begun_at(words: &Words, me: &mut Caller, visit: Visit, pc: u64) -> Begun
-    requires table { me.old.table ≡ words.now.table }
+fn begun_at<L: Looker>(words: &Words, me: &mut L, visit: Visit, pc: u64) -> Begun
+    requires table { (L.known me.old).table ≡ words.now.table }
     requires inside { visit.node < words.now.terms.nodes }
-    ensures table { me.new.table ≡ me.old.table }
+    ensures table { (L.known me.new).table ≡ (L.known me.old).table }
     ensures few { result.count ≤ 10 }
     ensures below { result.base ≤ pc }
-    ensures begun { (k : CallerData) → Way words.now.terms pc k visit me.old
-        → SeesBegun words.now.terms pc k visit result me.new }
+    ensures begun { (k : CallerData) → Way words.now.terms pc k visit (L.known me.old)
+        → SeesBegun words.now.terms pc k visit result (L.known me.new) }
 {
     let none = Begun { count: 0, base: 0 };
-    let count = words.load_node(me, visit.node, COUNT).min(ENTRIES as u64) as u32;
+    let count = me.load_node(words, visit.node, COUNT).min(ENTRIES as u64) as u32;
     if count == 0 {
         return none;
     }
     let place = later_begun(words, me, visit, pc).min(count - 1);
-    let base = words.load_node(me, visit.node, BASE + ENTRY_WORDS * place);
+    let base = me.load_node(words, visit.node, BASE + ENTRY_WORDS * place);
     if base > pc {
         return none;
     }
@@ -98,23 +98,24 @@ fn begun_at(words: &Words, me: &mut Caller, visit: Visit, pc: u64) -> Begun
 
 /// The entry that contains the address: the last one that begins at or below it, where it is long
 /// enough.
-pub fn entry_at(words: &Words, me: &mut Caller, visit: Visit, pc: u64) -> Option<Entry>
-    requires table { me.old.table ≡ words.now.table }
+pub fn entry_at<L: Looker>(words: &Words, me: &mut L, visit: Visit, pc: u64) -> Option<Entry>
+    requires table { (L.known me.old).table ≡ words.now.table }
     requires inside { visit.node < words.now.terms.nodes }
-    ensures table { me.new.table ≡ me.old.table }
-    ensures entry { (k : CallerData) → visit.level ≡ 0 → Way words.now.terms pc k visit me.old
-        → SeesEntry words.now.terms pc k visit result me.new }
+    ensures table { (L.known me.new).table ≡ (L.known me.old).table }
+    ensures entry { (k : CallerData) → visit.level ≡ 0
+        → Way words.now.terms pc k visit (L.known me.old)
+        → SeesEntry words.now.terms pc k visit result (L.known me.new) }
 {
     let Begun { count, base } = begun_at(words, me, visit, pc);
     if count == 0 {
         return None;
     }
     let place = ENTRY_WORDS * (count - 1);
-    let size = words.load_node(me, visit.node, SIZE + place);
+    let size = me.load_node(words, visit.node, SIZE + place);
     if pc - base >= size {
         return None;
     }
-    let payload = words.load_node(me, visit.node, PAYLOAD + place);
+    let payload = me.load_node(words, visit.node, PAYLOAD + place);
     Some(Entry {
         base,
         size,

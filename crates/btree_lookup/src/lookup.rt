@@ -10,7 +10,7 @@ use crate::entry::{self, Entry};
 use crate::visit::{self, Visit};
 use reg_model::{Again, Found};
 use word_rule::places::LOWER;
-use word_rule::{Ask, Caller, LockId, Words};
+use word_rule::{Ask, Looker, Words};
 
 /// The answer at a stamp.
 fn answer(entry: Option<Entry>, stamp: u32) -> Found
@@ -28,21 +28,23 @@ fn answer(entry: Option<Entry>, stamp: u32) -> Found
 }
 
 /// What the leaf says, where its version is found again after the clock was loaded.
-fn leaf(words: &Words, me: &mut Caller, visit: Visit, pc: u64) -> Result<Found, Again>
-    requires table { me.old.table ≡ words.now.table }
+fn leaf<L: Looker>(words: &Words, me: &mut L, visit: Visit, pc: u64) -> Result<Found, Again>
+    requires table { (L.known me.old).table ≡ words.now.table }
     requires inside { visit.node < words.now.terms.nodes }
-    ensures table { me.new.table ≡ me.old.table }
-    ensures tries { (k : CallerData) → visit.level ≡ 0 → Way words.now.terms pc k visit me.old
-        → TriesTree words.now.terms pc k me.new result }
-    ensures terms { (k : CallerData) → visit.level ≡ 0 → Way words.now.terms pc k visit me.old
+    ensures table { (L.known me.new).table ≡ (L.known me.old).table }
+    ensures tries { (k : CallerData) → visit.level ≡ 0
+        → Way words.now.terms pc k visit (L.known me.old)
+        → TriesTree words.now.terms pc k (L.known me.new) result }
+    ensures terms { (k : CallerData) → visit.level ≡ 0
+        → Way words.now.terms pc k visit (L.known me.old)
         → IsOk result → k.log.terms ≡ words.now.terms }
-    ensures alone { (k : CallerData) → visit.level ≡ 0 → Way words.now.terms pc k visit me.old
+    ensures alone { (k : CallerData) → visit.level ≡ 0
+        → Way words.now.terms pc k visit (L.known me.old)
         → IsAlone k.log.lineage → IsOk result }
 {
     let entry = entry::entry_at(words, me, visit, pc);
-    let clock = words.load_clock(me, Ask::Nothing);
-    let lock = LockId::Node { node: visit.node };
-    let second = words.load_version(me, lock, Ask::Registered { pc });
+    let clock = me.load_clock(words, Ask::Nothing);
+    let second = me.load_version(words, visit.node, Ask::Registered { pc });
     if second != visit.version {
         return Err(visit::changed(words, visit, second));
     }
@@ -52,13 +54,15 @@ fn leaf(words: &Words, me: &mut Caller, visit: Visit, pc: u64) -> Result<Found, 
 /// Looks an address up once among the registered members: the one that contains it, at the stamp
 /// of a load of the clock in this call. Again where a version was found changed or locked on the
 /// way. It takes no lock, stores nothing and waits for nobody.
-pub fn try_find(words: &Words, me: &mut Caller, pc: u64) -> Result<Found, Again>
-    requires table { me.old.table ≡ words.now.table }
-    ensures tries { TriesTree words.now.terms pc me.old me.new result }
-    ensures terms { IsOk result → me.old.log.terms ≡ words.now.terms }
-    ensures alone { IsAlone me.old.log.lineage → me.old.log.holdings.held ≡ [] → IsOk result }
-    ensures writes { me.new.log.trace.writes ≡ me.old.log.trace.writes }
-    ensures few { length me.new.log.trace.loads ≤ length me.old.log.trace.loads + 500 }
+pub fn try_find<L: Looker>(words: &Words, me: &mut L, pc: u64) -> Result<Found, Again>
+    requires table { (L.known me.old).table ≡ words.now.table }
+    ensures tries { TriesTree words.now.terms pc (L.known me.old) (L.known me.new) result }
+    ensures terms { IsOk result → (L.known me.old).log.terms ≡ words.now.terms }
+    ensures alone { IsAlone (L.known me.old).log.lineage → (L.known me.old).log.holdings.held ≡ []
+        → IsOk result }
+    ensures writes { (L.known me.new).log.trace.writes ≡ (L.known me.old).log.trace.writes }
+    ensures few { length (L.known me.new).log.trace.loads
+        ≤ length (L.known me.old).log.trace.loads + 500 }
 {
     let mut visit = visit::root(words, me)?;
     while visit.level > 0 {

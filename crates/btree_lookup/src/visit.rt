@@ -17,7 +17,7 @@ use std::ops::Range;
 use tree_shape::PAIRS;
 use tree_shape::limits::HIGHEST_LEVEL;
 use word_rule::places::{COUNT, FIRST, LEVEL, PAIR_WORDS};
-use word_rule::{Ask, Caller, FIRST_NODE, LockId, NODE_WORDS, Words};
+use word_rule::{Ask, FIRST_NODE, Looker, NODE_WORDS, Words};
 
 /// The first child of an inner node, and its first separator. The next pair stands two words on.
 const CHILD: u32 = FIRST;
@@ -68,29 +68,31 @@ pub fn changed(words: &Words, visit: Visit, second: u64) -> Again
 }
 
 /// The root, where a lookup begins.
-pub fn root(words: &Words, me: &mut Caller) -> Result<Visit, Again>
-    requires table { me.old.table ≡ words.now.table }
-    ensures table { me.new.table ≡ me.old.table }
+pub fn root<L: Looker>(words: &Words, me: &mut L) -> Result<Visit, Again>
+    requires table { (L.known me.old).table ≡ words.now.table }
+    ensures table { (L.known me.new).table ≡ (L.known me.old).table }
     ensures inside { IfOk result (λ visit. visit.node < words.now.terms.nodes) }
     ensures ok { (pc : ℕ) → pc ≤ TOP
-        → IfOk result (λ visit. Way words.now.terms pc me.old visit me.new) }
+        → IfOk result (λ visit. Way words.now.terms pc (L.known me.old) visit (L.known me.new)) }
     ensures err { (pc : ℕ)
-        → IfErr result (λ again. EndsAgain words.now.terms pc me.old again me.new) }
-    ensures alone { IsAlone me.old.log.lineage → me.old.log.holdings.held ≡ [] → IsOk result }
+        → IfErr result
+        (λ again. EndsAgain words.now.terms pc (L.known me.old) again (L.known me.new)) }
+    ensures alone { IsAlone (L.known me.old).log.lineage → (L.known me.old).log.holdings.held ≡ []
+        → IsOk result }
 {
     let _some = words.nodes();
-    let version = words.begin_sight(me, 0);
+    let version = me.begin_sight(words, 0);
     if version % 2 != 0 {
         return Err(locked(words, 0, version));
     }
-    let level = words.load_node(me, 0, LEVEL);
+    let level = me.load_node(words, 0, LEVEL);
     let visit = Visit {
         node: 0,
         version,
         level,
     };
     if level > HIGHEST_LEVEL as u64 {
-        let second = words.load_version(me, LockId::Node { node: 0 }, Ask::Nothing);
+        let second = me.load_version(words, 0, Ask::Nothing);
         return Err(changed(words, visit, second));
     }
     Ok(visit)
@@ -107,20 +109,20 @@ pub fn where_holds(number: u32, holds: bool) -> u32
 /// The first of these slots whose separator is at least the address, or their end. All of them are
 /// looked at, also those behind the count: so no branch depends on the address.
 #[inline(always)]
-fn below(words: &Words, me: &mut Caller, visit: Visit, pc: u64, slots: Range<u32>) -> u32
-    requires table { me.old.table ≡ words.now.table }
+fn below<L: Looker>(words: &Words, me: &mut L, visit: Visit, pc: u64, slots: Range<u32>) -> u32
+    requires table { (L.known me.old).table ≡ words.now.table }
     requires inside { visit.node < words.now.terms.nodes }
     requires slots { (slots.start ≤ slots.end) × (slots.end ≤ 15) }
-    ensures table { me.new.table ≡ me.old.table }
+    ensures table { (L.known me.new).table ≡ (L.known me.old).table }
     ensures few { result ≤ slots.end }
     ensures below { (k : CallerData) → (count : ℕ)
-        → SeesBelow words.now.terms pc k visit count slots.start slots.start me.old
-        → SeesBelow words.now.terms pc k visit count slots.end result me.new }
+        → SeesBelow words.now.terms pc k visit count slots.start slots.start (L.known me.old)
+        → SeesBelow words.now.terms pc k visit count slots.end result (L.known me.new) }
 {
     let mut slot = slots.start;
     let mut ahead = 1;
     for at in slots.start..slots.end {
-        let separator = words.load_node(me, visit.node, SEPARATOR + PAIR_WORDS * at);
+        let separator = me.load_node(words, visit.node, SEPARATOR + PAIR_WORDS * at);
         ahead = where_holds(ahead, separator < pc);
         slot += ahead;
     }
@@ -130,13 +132,13 @@ fn below(words: &Words, me: &mut Caller, visit: Visit, pc: u64, slots: Range<u32
 /// The first slot whose separator is at least the address, whatever the count says. The second half
 /// is loaded only where all of the first are below it.
 #[inline(always)]
-fn slot_for(words: &Words, me: &mut Caller, visit: Visit, pc: u64) -> u32
-    requires table { me.old.table ≡ words.now.table }
+fn slot_for<L: Looker>(words: &Words, me: &mut L, visit: Visit, pc: u64) -> u32
+    requires table { (L.known me.old).table ≡ words.now.table }
     requires inside { visit.node < words.now.terms.nodes }
-    ensures table { me.new.table ≡ me.old.table }
+    ensures table { (L.known me.new).table ≡ (L.known me.old).table }
     ensures below { (k : CallerData) → (count : ℕ)
-        → SeesBelow words.now.terms pc k visit count 0 0 me.old
-        → SeesBelow words.now.terms pc k visit count 15 result me.new }
+        → SeesBelow words.now.terms pc k visit count 0 0 (L.known me.old)
+        → SeesBelow words.now.terms pc k visit count 15 result (L.known me.new) }
 {
     let slot = below(words, me, visit, pc, 0..HALF);
     if slot < HALF {
@@ -147,17 +149,19 @@ fn slot_for(words: &Words, me: &mut Caller, visit: Visit, pc: u64) -> u32
 
 /// The child of the first pair whose separator is at least the address. None where there is no such
 /// pair, or where it names no other node below the root: then the version has changed.
-fn child_for(words: &Words, me: &mut Caller, visit: Visit, pc: u64) -> Option<u32>
-    requires table { me.old.table ≡ words.now.table }
+fn child_for<L: Looker>(words: &Words, me: &mut L, visit: Visit, pc: u64) -> Option<u32>
+    requires table { (L.known me.old).table ≡ words.now.table }
     requires inside { visit.node < words.now.terms.nodes }
-    ensures table { me.new.table ≡ me.old.table }
+    ensures table { (L.known me.new).table ≡ (L.known me.old).table }
     ensures inside { IfSome result (λ child. child < words.now.terms.nodes) }
-    ensures child { (k : CallerData) → 0 < visit.level → Way words.now.terms pc k visit me.old
-        → IfSome result (λ child. SeesChild words.now.terms pc k visit child me.new) }
-    ensures none { (k : CallerData) → 0 < visit.level → Way words.now.terms pc k visit me.old
-        → IsNone result → SeesNone words.now.terms pc k visit me.new }
+    ensures child { (k : CallerData) → 0 < visit.level
+        → Way words.now.terms pc k visit (L.known me.old)
+        → IfSome result (λ child. SeesChild words.now.terms pc k visit child (L.known me.new)) }
+    ensures none { (k : CallerData) → 0 < visit.level
+        → Way words.now.terms pc k visit (L.known me.old)
+        → IsNone result → SeesNone words.now.terms pc k visit (L.known me.new) }
 {
-    let count = words.load_node(me, visit.node, COUNT);
+    let count = me.load_node(words, visit.node, COUNT);
     if count > PAIRS as u64 {
         return None;
     }
@@ -165,7 +169,7 @@ fn child_for(words: &Words, me: &mut Caller, visit: Visit, pc: u64) -> Option<u3
     if slot as u64 >= count {
         return None;
     }
-    let child = words.load_node(me, visit.node, CHILD + PAIR_WORDS * slot);
+    let child = me.load_node(words, visit.node, CHILD + PAIR_WORDS * slot);
     if child == 0 || child == visit.node as u64 || child >= words.nodes() as u64 {
         return None;
     }
@@ -173,30 +177,29 @@ fn child_for(words: &Words, me: &mut Caller, visit: Visit, pc: u64) -> Option<u3
 }
 
 /// From a node to the child that the address leads to.
-pub fn descend(words: &Words, me: &mut Caller, visit: Visit, pc: u64) -> Result<Visit, Again>
-    requires table { me.old.table ≡ words.now.table }
+pub fn descend<L: Looker>(words: &Words, me: &mut L, visit: Visit, pc: u64) -> Result<Visit, Again>
+    requires table { (L.known me.old).table ≡ words.now.table }
     requires inside { visit.node < words.now.terms.nodes }
     requires above { 0 < visit.level }
-    ensures table { me.new.table ≡ me.old.table }
+    ensures table { (L.known me.new).table ≡ (L.known me.old).table }
     ensures inside { IfOk result (λ next. next.node < words.now.terms.nodes) }
     ensures level { IfOk result (λ next. next.level + 1 ≡ visit.level) }
-    ensures ok { (k : CallerData) → Way words.now.terms pc k visit me.old
-        → IfOk result (λ next. Way words.now.terms pc k next me.new) }
-    ensures err { (k : CallerData) → Way words.now.terms pc k visit me.old
-        → IfErr result (λ again. EndsAgain words.now.terms pc k again me.new) }
-    ensures alone { (k : CallerData) → Way words.now.terms pc k visit me.old
+    ensures ok { (k : CallerData) → Way words.now.terms pc k visit (L.known me.old)
+        → IfOk result (λ next. Way words.now.terms pc k next (L.known me.new)) }
+    ensures err { (k : CallerData) → Way words.now.terms pc k visit (L.known me.old)
+        → IfErr result (λ again. EndsAgain words.now.terms pc k again (L.known me.new)) }
+    ensures alone { (k : CallerData) → Way words.now.terms pc k visit (L.known me.old)
         → IsAlone k.log.lineage → k.log.holdings.held ≡ [] → IsOk result }
 {
-    let lock = LockId::Node { node: visit.node };
     let Some(node) = child_for(words, me, visit, pc) else {
-        let second = words.load_version(me, lock, Ask::Nothing);
+        let second = me.load_version(words, visit.node, Ask::Nothing);
         return Err(changed(words, visit, second));
     };
-    let version = words.begin_sight(me, node);
+    let version = me.begin_sight(words, node);
     if version % 2 != 0 {
         return Err(locked(words, node, version));
     }
-    let second = words.load_version(me, lock, Ask::Nothing);
+    let second = me.load_version(words, visit.node, Ask::Nothing);
     if second != visit.version {
         return Err(changed(words, visit, second));
     }

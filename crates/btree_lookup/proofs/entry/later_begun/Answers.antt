@@ -6,14 +6,14 @@ use Rattle.btree_lookup.proofs.Turns.{Goes, after_turn, goes_on}
 use Rattle.btree_lookup.proofs.entry.later_begun.Goals as goal
 
 pub loop-at-init : goal.loop-at-init
-loop-at-init c = record {
+loop-at-init g c = record {
   table = c.requires.table;
   goes = (true, refl, record { few = omega arith; all_so = λ _. refl; fewer = λ e. absurd (true≢false e) });
   later = λ k count w. w;
 }
 
 pub loop-at-preserved : goal.loop-at-preserved
-loop-at-preserved c =
+loop-at-preserved g c =
     let i = c.loop-at.invariant in let less = c.loop-at-test.true in
     let low : Bool = nat_le c.load_node-next.result c.args.pc in
     let was = i.goes.2 in
@@ -24,12 +24,12 @@ loop-at-preserved c =
       goes = (i.goes.0 && low, sym number, goes);
       later = λ k count w.
           let place : 6 + 3 * (c.loop-at.at + 1) ≡ 9 + 3 * c.loop-at.at = omega arith in
-          let log = subst (λ p. c.load_node-next.new.me ≡ record c.loop-at.me { log = after_node_load c.args.visit.node p c.load_node-next.result c.loop-at.me.log }) place c.load_node-next.ensures.log in
-          subst (λ n. SeesLater c.args.words.now.terms c.args.pc k c.args.visit count (c.loop-at.at + 1) (c.loop-at.later + n) c.load_node-next.new.me) number
-          (base_looked c.args.words.now.terms c.args.pc k c.args.visit c.loop-at.me c.load_node-next.new.me count c.loop-at.at c.loop-at.later c.load_node-next.result i.goes.0 low (i.later k count w) log less was.all_so was.fewer refl);
+          let log = subst (λ p. (g.L.Looker.known c.load_node-next.new.self) ≡ record (g.L.Looker.known c.loop-at.me) { log = after_node_load c.args.visit.node p c.load_node-next.result (g.L.Looker.known c.loop-at.me).log }) place c.load_node-next.ensures.log in
+          subst (λ n. SeesLater c.args.words.now.terms c.args.pc k c.args.visit count (c.loop-at.at + 1) (c.loop-at.later + n) (g.L.Looker.known c.load_node-next.new.self)) number
+          (base_looked c.args.words.now.terms c.args.pc k c.args.visit (g.L.Looker.known c.loop-at.me) (g.L.Looker.known c.load_node-next.new.self) count c.loop-at.at c.loop-at.later c.load_node-next.result i.goes.0 low (i.later k count w) log less was.all_so was.fewer refl);
     }
 
 pub returns-clause-later : goal.returns-clause-later
-returns-clause-later c k count w =
+returns-clause-later g c k count w =
     let end : c.loop-at.at ≡ 9 = (let t = c.loop-at-test.false in let e = c.loop-at.auto.at-end in omega (arith, t, e)) in
-    subst (λ n. SeesLater c.args.words.now.terms c.args.pc k c.args.visit count n c.loop-at.later c.loop-at.me) end (c.loop-at.invariant.later k count w)
+    subst (λ n. SeesLater c.args.words.now.terms c.args.pc k c.args.visit count n c.loop-at.later (g.L.Looker.known c.loop-at.me)) end (c.loop-at.invariant.later k count w)

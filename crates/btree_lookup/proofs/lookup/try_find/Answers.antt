@@ -3,31 +3,31 @@ use Rattle.btree_lookup.proofs.Answering.{few_loads, writes_same}
 use Rattle.btree_lookup.proofs.lookup.try_find.Goals as goal
 
 pub returns-in_err-visit-clause-writes : goal.returns-in_err-visit-clause-writes
-returns-in_err-visit-clause-writes c = writes_same c.args.words.now.terms c.args.pc c.args.me.now c.root.new.me _ (c.in_err-visit.ensures.err c.args.pc)
+returns-in_err-visit-clause-writes g c = writes_same c.args.words.now.terms c.args.pc (g.L.Looker.known c.args.me.now) (g.L.Looker.known c.root.new.me) _ (c.in_err-visit.ensures.err c.args.pc)
 
 pub returns-in_err-visit-clause-few : goal.returns-in_err-visit-clause-few
-returns-in_err-visit-clause-few c = few_loads c.args.words.now.terms c.args.pc c.args.me.now c.root.new.me _ (c.in_err-visit.ensures.err c.args.pc)
+returns-in_err-visit-clause-few g c = few_loads c.args.words.now.terms c.args.pc (g.L.Looker.known c.args.me.now) (g.L.Looker.known c.root.new.me) _ (c.in_err-visit.ensures.err c.args.pc)
 
 pub returns-in_err-visit-2-clause-writes : goal.returns-in_err-visit-2-clause-writes
-returns-in_err-visit-2-clause-writes c = writes_same c.args.words.now.terms c.args.pc c.args.me.now c.descend.new.me _ (c.in_err-visit-2.ensures.err c.args.me.now c.loop-visit.invariant.way)
+returns-in_err-visit-2-clause-writes g c = writes_same c.args.words.now.terms c.args.pc (g.L.Looker.known c.args.me.now) (g.L.Looker.known c.descend.new.me) _ (c.in_err-visit-2.ensures.err (g.L.Looker.known c.args.me.now) c.loop-visit.invariant.way)
 
 pub returns-in_err-visit-2-clause-few : goal.returns-in_err-visit-2-clause-few
-returns-in_err-visit-2-clause-few c = few_loads c.args.words.now.terms c.args.pc c.args.me.now c.descend.new.me _ (c.in_err-visit-2.ensures.err c.args.me.now c.loop-visit.invariant.way)
+returns-in_err-visit-2-clause-few g c = few_loads c.args.words.now.terms c.args.pc (g.L.Looker.known c.args.me.now) (g.L.Looker.known c.descend.new.me) _ (c.in_err-visit-2.ensures.err (g.L.Looker.known c.args.me.now) c.loop-visit.invariant.way)
 
 pub loop-visit-preserved : goal.loop-visit-preserved
-loop-visit-preserved c =
+loop-visit-preserved g c =
     let told = c.in_ok-visit-2.ensures in
     record {
       table = told.table ∙ c.loop-visit.invariant.table;
       inside = told.inside;
-      way = told.ok c.args.me.now c.loop-visit.invariant.way;
+      way = told.ok (g.L.Looker.known c.args.me.now) c.loop-visit.invariant.way;
     }
 
 pub returns-clause-writes : goal.returns-clause-writes
-returns-clause-writes c = writes_same c.args.words.now.terms c.args.pc c.args.me.now c.leaf.new.me _ (c.leaf.ensures.tries c.args.me.now (omega (arith, c.loop-visit-test.false)) c.loop-visit.invariant.way)
+returns-clause-writes g c = writes_same c.args.words.now.terms c.args.pc (g.L.Looker.known c.args.me.now) (g.L.Looker.known c.leaf.new.me) _ (c.leaf.ensures.tries (g.L.Looker.known c.args.me.now) (omega (arith, c.loop-visit-test.false)) c.loop-visit.invariant.way)
 
 pub returns-clause-few : goal.returns-clause-few
-returns-clause-few c = few_loads c.args.words.now.terms c.args.pc c.args.me.now c.leaf.new.me _ (c.leaf.ensures.tries c.args.me.now (omega (arith, c.loop-visit-test.false)) c.loop-visit.invariant.way)
+returns-clause-few g c = few_loads c.args.words.now.terms c.args.pc (g.L.Looker.known c.args.me.now) (g.L.Looker.known c.leaf.new.me) _ (c.leaf.ensures.tries (g.L.Looker.known c.args.me.now) (omega (arith, c.loop-visit-test.false)) c.loop-visit.invariant.way)
 
 pub returns-clause-terms : goal.returns-clause-terms
-returns-clause-terms c = c.leaf.ensures.terms c.args.me.now (omega (arith, c.loop-visit-test.false)) c.loop-visit.invariant.way
+returns-clause-terms g c = c.leaf.ensures.terms (g.L.Looker.known c.args.me.now) (omega (arith, c.loop-visit-test.false)) c.loop-visit.invariant.way

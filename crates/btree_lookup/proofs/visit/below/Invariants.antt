@@ -5,9 +5,9 @@ use Rattle.btree_lookup.proofs.visit.below.Given as goal
 use Rattle.btree_lookup.proofs.Turns.{Goes}
 
 abbrev pub invariant-loop-at : goal.invariant-loop-at
-invariant-loop-at l = record {
-  table : l.me.table ≡ l.words.table;
+invariant-loop-at g l = record {
+  table : (g.L.Looker.known l.me).table ≡ l.words.table;
   goes : (b : Bool) × (l.ahead ≡ (if b then 1 else 0)) × Goes b l.at l.slot;
-  below : (k : CallerData) → (count : ℕ) → SeesBelow l.words.terms l.pc k l.visit count l.fn.slots.start l.fn.slots.start l.fn.me
-      → SeesBelow l.words.terms l.pc k l.visit count l.at l.slot l.me;
+  below : (k : CallerData) → (count : ℕ) → SeesBelow l.words.terms l.pc k l.visit count l.fn.slots.start l.fn.slots.start (g.L.Looker.known l.fn.me)
+      → SeesBelow l.words.terms l.pc k l.visit count l.at l.slot (g.L.Looker.known l.me);
 }
