@@ -10,14 +10,15 @@ use crate::fixed;
 use crate::walk::{self, Listed};
 use reg_model::{Again, Found};
 use word_rule::places::{CLOCK, LOWER};
-use word_rule::{Ask, Caller, Words};
+use word_rule::{Ask, Looker, Words};
 
 /// The fixed member that contains the address, or else the one that a copy lists.
-fn object_at(words: &Words, me: &mut Caller, copy: u32, pc: u64) -> Option<Listed>
-    requires copy { IsAtCopy words.now copy me.old }
-    ensures loads { LoadsCopy words.now.terms copy me.old me.new }
-    ensures found { IsObjectAt words.now.terms copy me.new words.now.terms.fixed pc result }
-    ensures few { load_count me.new ≤ load_count me.old + 33 }
+fn object_at<L: Looker>(words: &Words, me: &mut L, copy: u32, pc: u64) -> Option<Listed>
+    requires copy { IsAtCopy words.now copy (L.known me.old) }
+    ensures loads { LoadsCopy words.now.terms copy (L.known me.old) (L.known me.new) }
+    ensures found { IsObjectAt words.now.terms copy (L.known me.new) words.now.terms.fixed pc
+        result }
+    ensures few { load_count (L.known me.new) ≤ load_count (L.known me.old) + 33 }
 {
     match fixed::containing(words.fixed(), pc) {
         Some(member) => Some(Listed::of(&member)),
@@ -43,17 +44,17 @@ fn answer(object: Option<Listed>, stamp: u32) -> Found
 /// Looks an address up among the fixed and the loaded members: the one that contains it, at the
 /// stamp of this call's second load of the clock. Again where the loader published between the two
 /// loads. It takes no lock, stores nothing and waits for nobody.
-pub fn try_object(words: &Words, me: &mut Caller, pc: u64) -> Result<Found, Again>
-    requires table { me.old.table ≡ words.now.table }
-    ensures looks { LooksUp words.now.terms pc me.old me.new result }
-    ensures alone { IsAlone me.old.log.lineage → IsOk result }
-    ensures writes { me.new.log.trace.writes ≡ me.old.log.trace.writes }
-    ensures few { load_count me.new ≤ load_count me.old + 36 }
+pub fn try_object<L: Looker>(words: &Words, me: &mut L, pc: u64) -> Result<Found, Again>
+    requires table { (L.known me.old).table ≡ words.now.table }
+    ensures looks { LooksUp words.now.terms pc (L.known me.old) (L.known me.new) result }
+    ensures alone { IsAlone (L.known me.old).log.lineage → IsOk result }
+    ensures writes { (L.known me.new).log.trace.writes ≡ (L.known me.old).log.trace.writes }
+    ensures few { load_count (L.known me.new) ≤ load_count (L.known me.old) + 36 }
 {
-    let first = words.load_clock(me, Ask::Nothing);
+    let first = me.load_clock(words, Ask::Nothing);
     let published = first / LOWER;
     let object = object_at(words, me, (published % 2) as u32, pc);
-    let second = words.load_clock(me, Ask::Loaded { pc });
+    let second = me.load_clock(words, Ask::Loaded { pc });
     if second / LOWER != published {
         return Err(Again::Changed {
             word: CLOCK,

@@ -12,7 +12,7 @@ ghost use Rattle.array_publish.specs.CopyLoads.{IsAtCopy, LoadsCopy, load_count}
 ghost use Rattle.array_publish.specs.Search.{CountsBegun, IsNarrowed, IsLastBegun, others};
 
 use crate::walk::{CopyStart, FULL, MEMBER_WORDS, SEGMENT_WORDS, load_word};
-use word_rule::{Caller, Words};
+use word_rule::{Looker, Words};
 
 /// Where the first member of a copy begins.
 const FIRST_MEMBER: u32 = 4;
@@ -59,15 +59,16 @@ fn where_holds(number: u32, holds: bool) -> u32
 
 /// How many words of a series are at or below the address. Each is loaded.
 #[inline(always)]
-fn begun_in(words: &Words, me: &mut Caller, at: CopyStart, pc: u64, series: Series) -> u32
-    requires copy { IsAtCopy words.now at.copy me.old }
+fn begun_in<L: Looker>(words: &Words, me: &mut L, at: CopyStart, pc: u64, series: Series) -> u32
+    requires copy { IsAtCopy words.now at.copy (L.known me.old) }
     requires start { at.start ≡ copy_place words.now.terms at.copy }
     requires inside { (i : ℕ) → i < series.length
         → series.place + series.apart * i < copy_words words.now.terms }
-    ensures loads { LoadsCopy words.now.terms at.copy me.old me.new }
-    ensures few { load_count me.new ≤ load_count me.old + series.length }
+    ensures loads { LoadsCopy words.now.terms at.copy (L.known me.old) (L.known me.new) }
+    ensures few { load_count (L.known me.new) ≤ load_count (L.known me.old) + series.length }
     ensures inside { result ≤ series.length }
-    ensures begun { CountsBegun words.now.terms at.copy me.new pc series series.length result }
+    ensures begun { CountsBegun words.now.terms at.copy (L.known me.new) pc series series.length
+        result }
 {
     let mut begun = 0;
     for number in 0..series.length {
@@ -80,16 +81,22 @@ fn begun_in(words: &Words, me: &mut Caller, at: CopyStart, pc: u64, series: Seri
 /// The last segment whose first member begins at or below the address, or the first one. The last
 /// member has this number.
 #[inline(always)]
-fn segment_for(words: &Words, me: &mut Caller, at: CopyStart, pc: u64, last: u32) -> SegmentStart
-    requires copy { IsAtCopy words.now at.copy me.old }
+fn segment_for<L: Looker>(
+    words: &Words,
+    me: &mut L,
+    at: CopyStart,
+    pc: u64,
+    last: u32,
+) -> SegmentStart
+    requires copy { IsAtCopy words.now at.copy (L.known me.old) }
     requires start { at.start ≡ copy_place words.now.terms at.copy }
     requires last { last < words.now.terms.loads }
-    ensures loads { LoadsCopy words.now.terms at.copy me.old me.new }
-    ensures few { load_count me.new ≤ load_count me.old + 14 }
+    ensures loads { LoadsCopy words.now.terms at.copy (L.known me.old) (L.known me.new) }
+    ensures few { load_count (L.known me.new) ≤ load_count (L.known me.old) + 14 }
     ensures after { result.after ≤ last }
     ensures whole { (last - result.after) % 16 ≡ 0 }
     ensures place { result.place ≡ member_place (last - result.after) }
-    ensures between { IsNarrowed words.now.terms at.copy me.new pc (last + 1)
+    ensures between { IsNarrowed words.now.terms at.copy (L.known me.new) pc (last + 1)
         (last - result.after) (last - result.after + 16) }
 {
     let eights = Series {
@@ -115,22 +122,22 @@ fn segment_for(words: &Words, me: &mut Caller, at: CopyStart, pc: u64, last: u32
 
 /// How many of the other members of a segment begin at or below the address.
 #[inline(always)]
-fn begun_within(
+fn begun_within<L: Looker>(
     words: &Words,
-    me: &mut Caller,
+    me: &mut L,
     at: CopyStart,
     pc: u64,
     segment: SegmentStart,
 ) -> u32
-    requires copy { IsAtCopy words.now at.copy me.old }
+    requires copy { IsAtCopy words.now at.copy (L.known me.old) }
     requires start { at.start ≡ copy_place words.now.terms at.copy }
     requires place { segment.place < copy_words words.now.terms }
     requires inside { (i : ℕ) → i < min segment.after 15
         → segment.place + 3 + 3 * i < copy_words words.now.terms }
-    ensures loads { LoadsCopy words.now.terms at.copy me.old me.new }
-    ensures few { load_count me.new ≤ load_count me.old + 15 }
+    ensures loads { LoadsCopy words.now.terms at.copy (L.known me.old) (L.known me.new) }
+    ensures few { load_count (L.known me.new) ≤ load_count (L.known me.old) + 15 }
     ensures inside { result ≤ min segment.after 15 }
-    ensures begun { CountsBegun words.now.terms at.copy me.new pc
+    ensures begun { CountsBegun words.now.terms at.copy (L.known me.new) pc
         (others segment) (min segment.after 15) result }
 {
     let place = segment.place + MEMBER_WORDS;
@@ -152,19 +159,19 @@ fn begun_within(
 }
 
 /// Of so many members, the last one that begins at or below the address.
-pub fn last_begun(
+pub fn last_begun<L: Looker>(
     words: &Words,
-    me: &mut Caller,
+    me: &mut L,
     at: CopyStart,
     pc: u64,
     count: u32,
 ) -> Option<Begun>
-    requires copy { IsAtCopy words.now at.copy me.old }
+    requires copy { IsAtCopy words.now at.copy (L.known me.old) }
     requires start { at.start ≡ copy_place words.now.terms at.copy }
     requires count { count ≤ words.now.terms.loads }
-    ensures loads { LoadsCopy words.now.terms at.copy me.old me.new }
-    ensures last { IsLastBegun words.now.terms at.copy me.new pc count result }
-    ensures few { load_count me.new ≤ load_count me.old + 30 }
+    ensures loads { LoadsCopy words.now.terms at.copy (L.known me.old) (L.known me.new) }
+    ensures last { IsLastBegun words.now.terms at.copy (L.known me.new) pc count result }
+    ensures few { load_count (L.known me.new) ≤ load_count (L.known me.old) + 30 }
 {
     if count == 0 {
         return None;

@@ -11,7 +11,7 @@ ghost use Rattle.array_publish.specs.Search.{IsMember, IsObjectAt, listed_member
 use crate::search::{Begun, last_begun};
 use reg_model::{Member, Span};
 use segment_array::{segments_for, spot};
-use word_rule::{Caller, FIRST_NODE, NODE_WORDS, Words};
+use word_rule::{FIRST_NODE, Looker, NODE_WORDS, Words};
 
 /// The words of a segment, and those before the members of a copy or a segment.
 pub const SEGMENT_WORDS: u32 = 50;
@@ -75,23 +75,23 @@ pub fn place_of_member(index: u32) -> u32
 
 /// Loads a word of a copy, counted from the copy's first.
 #[inline(always)]
-pub fn load_word(words: &Words, me: &mut Caller, at: CopyStart, word: u32) -> u64
-    requires copy { IsAtCopy words.now at.copy me.old }
+pub fn load_word<L: Looker>(words: &Words, me: &mut L, at: CopyStart, word: u32) -> u64
+    requires copy { IsAtCopy words.now at.copy (L.known me.old) }
     requires start { at.start ≡ copy_place words.now.terms at.copy }
     requires inside { word < copy_words words.now.terms }
-    ensures loads { LoadsCopy words.now.terms at.copy me.old me.new }
-    ensures told { IsTold words.now.terms at.copy me.new word result }
-    ensures one { load_count me.new ≡ load_count me.old + 1 }
+    ensures loads { LoadsCopy words.now.terms at.copy (L.known me.old) (L.known me.new) }
+    ensures told { IsTold words.now.terms at.copy (L.known me.new) word result }
+    ensures one { load_count (L.known me.new) ≡ load_count (L.known me.old) + 1 }
 {
-    words.load_copy(me, at.start + word)
+    me.load_copy(words, at.start + word)
 }
 
 /// The member of a copy that contains the address.
-pub fn listed_at(words: &Words, me: &mut Caller, copy: u32, pc: u64) -> Option<Listed>
-    requires copy { IsAtCopy words.now copy me.old }
-    ensures loads { LoadsCopy words.now.terms copy me.old me.new }
-    ensures found { IsObjectAt words.now.terms copy me.new [] pc result }
-    ensures few { load_count me.new ≤ load_count me.old + 33 }
+pub fn listed_at<L: Looker>(words: &Words, me: &mut L, copy: u32, pc: u64) -> Option<Listed>
+    requires copy { IsAtCopy words.now copy (L.known me.old) }
+    ensures loads { LoadsCopy words.now.terms copy (L.known me.old) (L.known me.new) }
+    ensures found { IsObjectAt words.now.terms copy (L.known me.new) [] pc result }
+    ensures few { load_count (L.known me.new) ≤ load_count (L.known me.old) + 33 }
 {
     let start = place_of_copy(words, copy);
     let at = CopyStart { copy, start };

@@ -7,26 +7,26 @@ use Rattle.array_publish.proofs.Counts.{none_counted, one_counted, counted_at_mo
 use Rattle.array_publish.proofs.search.begun_in.Goals as goal
 
 pub loop-number-init : goal.loop-number-init
-loop-number-init c = record {
-  loads = loads_none c.args.words.now.terms c.args.at.copy c.args.me.now;
+loop-number-init g c = record {
+  loads = loads_none c.args.words.now.terms c.args.at.copy (g.L.Looker.known c.args.me.now);
   copy = c.requires.copy;
   few = omega arith;
   inside = omega arith;
-  begun = none_counted c.args.words.now.terms c.args.at.copy c.args.me.now c.args.pc c.args.series;
+  begun = none_counted c.args.words.now.terms c.args.at.copy (g.L.Looker.known c.args.me.now) c.args.pc c.args.series;
 }
 
 pub loop-number-preserved : goal.loop-number-preserved
-loop-number-preserved c =
+loop-number-preserved g c =
     let t : Terms = c.args.words.now.terms in
     let copy : ℕ = c.args.at.copy in
-    let k : CallerData = c.loop-number.me in
-    let k' : CallerData = c.load_word-first.new.me in
+    let k : CallerData = (g.L.Looker.known c.loop-number.me) in
+    let k' : CallerData = (g.L.Looker.known c.load_word-first.new.me) in
     let was = c.loop-number in
     let i = was.invariant in let more = c.load_word-first.ensures.loads in
     let first : ℕ = c.load_word-first.result in
     let count = i.few in let one = c.load_word-first.ensures.one in
     let inside = i.inside in let number = c.where_holds-begun.ensures in let most = counted_at_most first c.args.pc 1 in record {
-      loads = loads_both t copy c.args.me.now k k' i.loads more;
+      loads = loads_both t copy (g.L.Looker.known c.args.me.now) k k' i.loads more;
       copy = at_copy_stays c.args.words.now copy k k' i.copy more;
       few = omega (arith, count, one);
       inside = omega (arith, inside, number, most);

@@ -8,12 +8,12 @@ use Rattle.array_publish.proofs.Searches.{by_segments, eights}
 use Rattle.array_publish.proofs.search.segment_for.Goals as goal
 
 pub returns-clause-loads : goal.returns-clause-loads
-returns-clause-loads c = loads_both c.args.words.now.terms c.args.at.copy c.args.me.now c.begun_in-begun.new.me c.begun_in-more.new.me c.begun_in-begun.ensures.loads c.begun_in-more.ensures.loads
+returns-clause-loads g c = loads_both c.args.words.now.terms c.args.at.copy (g.L.Looker.known c.args.me.now) (g.L.Looker.known c.begun_in-begun.new.me) (g.L.Looker.known c.begun_in-more.new.me) c.begun_in-begun.ensures.loads c.begun_in-more.ensures.loads
 
 pub returns-clause-between : goal.returns-clause-between
-returns-clause-between c =
+returns-clause-between g c =
     let t : Terms = c.args.words.now.terms in
-    let k1 : CallerData = c.begun_in-begun.new.me in let k2 : CallerData = c.begun_in-more.new.me in
+    let k1 : CallerData = (g.L.Looker.known c.begun_in-begun.new.me) in let k2 : CallerData = (g.L.Looker.known c.begun_in-more.new.me) in
     let e : ℕ = c.begun_in-begun.result in let o : ℕ = c.begun_in-more.result in
     let few = c.begun_in-begun.ensures.inside in let most = c.begun_in-more.ensures.inside in let number = c.min-length.ensures in
     by_segments t c.args.at.copy k2 c.args.pc c.args.last e o (c.args.last - (c.args.last - 128 * e - 16 * o)) (counted_later t c.args.at.copy k1 k2 c.args.pc (eights c.args.last) (c.args.last / 128) e c.begun_in-more.ensures.loads c.begun_in-begun.ensures.begun) few
