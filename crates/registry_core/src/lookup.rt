@@ -9,15 +9,15 @@ use btree_lookup::try_find;
 use crossbeam_utils::Backoff;
 use reg_model::Found;
 use std::sync::Wait;
-use word_rule::{Caller, Words};
+use word_rule::{Looker, Words};
 
 /// The registered half: it is tried until a try is answered, with a pause after each that isn't.
-pub(crate) fn registered_at<R: Wait>(rt: &R, words: &Words, me: &mut Caller, pc: u64) -> Found
-    requires table { me.old.table ≡ words.now.table }
-    ensures queries { Queries words.now.terms (receipt.Query half.Registered pc result ∷ []) me.old
-        me.new }
+pub(crate) fn registered_at<R: Wait, L: Looker>(rt: &R, words: &Words, me: &mut L, pc: u64) -> Found
+    requires table { (L.known me.old).table ≡ words.now.table }
+    ensures queries { Queries words.now.terms (receipt.Query half.Registered pc result ∷ [])
+        (L.known me.old) (L.known me.new) }
     ensures known { IsKnown words.now.terms result }
-    ensures terms { me.old.log.terms ≡ words.now.terms }
+    ensures terms { (L.known me.old).log.terms ≡ words.now.terms }
 {
     let backoff = Backoff::new();
     for _ in rt.forever() {
@@ -30,10 +30,10 @@ pub(crate) fn registered_at<R: Wait>(rt: &R, words: &Words, me: &mut Caller, pc:
 }
 
 /// The loader's half: it is tried until a try is answered, with a pause after each that isn't.
-pub(crate) fn loaded_at<R: Wait>(rt: &R, words: &Words, me: &mut Caller, pc: u64) -> Found
-    requires table { me.old.table ≡ words.now.table }
-    ensures queries { Queries words.now.terms (receipt.Query half.Loaded pc result ∷ []) me.old
-        me.new }
+pub(crate) fn loaded_at<R: Wait, L: Looker>(rt: &R, words: &Words, me: &mut L, pc: u64) -> Found
+    requires table { (L.known me.old).table ≡ words.now.table }
+    ensures queries { Queries words.now.terms (receipt.Query half.Loaded pc result ∷ [])
+        (L.known me.old) (L.known me.new) }
     ensures known { IsKnown words.now.terms result }
 {
     let backoff = Backoff::new();

@@ -37,7 +37,7 @@ use reg_model::{Again, Found, Inserted, Loading, Member, NoMemory, Place, Remove
 use std::alloc::Global;
 use std::marker::Model;
 use std::sync::Wait;
-use word_rule::{Caller, Words};
+use word_rule::{Caller, Looker, Words};
 
 /// The registry that threads share by `&`. Each has a caller of its own.
 #[derive(Drop)]
@@ -292,34 +292,37 @@ impl Registry {
 
     /// Looks an address up once among the registered members. Again where the tree was changed or
     /// locked on the way. It takes no lock, stores nothing and waits for nobody.
-    pub fn try_registered(&self, me: &mut Caller, pc: u64) -> Result<Found, Again>
-        requires table { me.old.table ≡ self.now.table }
-        ensures tries { TriesTree self.now.terms pc me.old me.new result }
-        ensures terms { IsOk result → me.old.log.terms ≡ self.now.terms }
-        ensures alone { IsAlone me.old.log.lineage → me.old.log.holdings.held ≡ [] → IsOk result }
+    pub fn try_registered<L: Looker>(&self, me: &mut L, pc: u64) -> Result<Found, Again>
+        requires table { (L.known me.old).table ≡ self.now.table }
+        ensures tries { TriesTree self.now.terms pc (L.known me.old) (L.known me.new) result }
+        ensures terms { IsOk result → (L.known me.old).log.terms ≡ self.now.terms }
+        ensures alone { IsAlone (L.known me.old).log.lineage
+            → (L.known me.old).log.holdings.held ≡ [] → IsOk result }
     {
         try_find(&self.words, me, pc)
     }
 
     /// Looks an address up once among the fixed and the loaded members. Again where the loader
     /// published meanwhile. It takes no lock, stores nothing and waits for nobody.
-    pub fn try_loaded(&self, me: &mut Caller, pc: u64) -> Result<Found, Again>
-        requires table { me.old.table ≡ self.now.table }
-        ensures looks { LooksUp self.now.terms pc me.old me.new result }
-        ensures alone { IsAlone me.old.log.lineage → IsOk result }
+    pub fn try_loaded<L: Looker>(&self, me: &mut L, pc: u64) -> Result<Found, Again>
+        requires table { (L.known me.old).table ≡ self.now.table }
+        ensures looks { LooksUp self.now.terms pc (L.known me.old) (L.known me.new) result }
+        ensures alone { IsAlone (L.known me.old).log.lineage → IsOk result }
     {
         try_object(&self.words, me, pc)
     }
 
     /// Where an address is found: the registered half is asked first, and the loader's where that
     /// misses. Each half is asked until it is answered. It takes no lock and stores nothing.
-    pub fn find<R: Wait>(&self, rt: &R, me: &mut Caller, pc: u64) -> Place
-        requires table { me.old.table ≡ self.now.table }
-        ensures queries { Queries self.now.terms (receipts_of_place pc result) me.old me.new }
+    pub fn find<R: Wait, L: Looker>(&self, rt: &R, me: &mut L, pc: u64) -> Place
+        requires table { (L.known me.old).table ≡ self.now.table }
+        ensures queries { Queries self.now.terms (receipts_of_place pc result) (L.known me.old)
+            (L.known me.new) }
         ensures halves { IsPlace result }
         ensures known { IsKnownPlace self.now.terms result }
-        ensures terms { me.old.log.terms ≡ self.now.terms }
-        ensures calls { Chain Receives me.old (receipts_of_place pc result) me.new }
+        ensures terms { (L.known me.old).log.terms ≡ self.now.terms }
+        ensures calls { Chain Receives (L.known me.old) (receipts_of_place pc result)
+            (L.known me.new) }
     {
         // What the registered half answered goes on to hold; a law that takes no step.
         receipts_stay();

@@ -9,14 +9,14 @@ returns-in-Miss-clause-queries g c =
 
 pub returns-in-Miss-clause-calls : goal.returns-in-Miss-clause-calls
 returns-in-Miss-clause-calls g c = (
-  c.registered_at-registered.new.me,
+  (g.L.Looker.known c.registered_at-registered.new.me),
   query_received _ _ _ _ _ _ c.registered_at-registered.ensures.queries,
-  (c.loaded_at.new.me, query_received _ _ _ _ _ _ c.loaded_at.ensures.queries, refl),
+  ((g.L.Looker.known c.loaded_at.new.me), query_received _ _ _ _ _ _ c.loaded_at.ensures.queries, refl),
 )
 
 pub returns-in-Hit-clause-calls : goal.returns-in-Hit-clause-calls
 returns-in-Hit-clause-calls g c = (
-  c.registered_at-registered.new.me,
+  (g.L.Looker.known c.registered_at-registered.new.me),
   query_received _ _ _ _ _ _ c.registered_at-registered.ensures.queries,
   refl,
 )
