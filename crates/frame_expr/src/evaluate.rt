@@ -9,10 +9,10 @@ ghost use Rattle.eh_bytes.specs.Results.{Leaves};
 
 use crate::expr::Expr;
 use crate::fault::NoBytes;
-use crate::memory::Memory;
 use crate::operation::{Binary, Comparison, Operation, Unary};
 use crate::reading::next;
 use crate::regs::Regs;
+use crate::source::WordSource;
 use crate::stack::Stack;
 use eh_bytes::Cursor;
 
@@ -70,11 +70,11 @@ fn column_of(regs: &Regs, column: u8) -> u64
 }
 
 /// Puts the eight bytes at the top's address in the place of the top.
-fn load(stack: &mut Stack, memory: &Memory) -> Result<(), NoBytes>
+fn load<M: WordSource>(stack: &mut Stack, memory: &M) -> Result<(), NoBytes>
     requires { 0 < length stack.old }
     ensures { Leaves
         (with_loaded (entry 0 stack.old) (drop 1 stack.old)
-        (word_at (entry 0 stack.old) memory.now))
+        (word_at (entry 0 stack.old) (M.regions memory.now)))
         result stack.new }
 {
     let address = stack.entry(0);
@@ -88,15 +88,16 @@ fn load(stack: &mut Stack, memory: &Memory) -> Result<(), NoBytes>
 }
 
 /// Does what an operation says.
-fn apply(
+fn apply<M: WordSource>(
     stack: &mut Stack,
     operation: &Operation,
     regs: &Regs,
-    memory: &Memory,
+    memory: &M,
 ) -> Result<(), NoBytes>
     requires { fits (length stack.old) operation.now ≡ true }
-    ensures { Leaves (stack_after regs.now.columns memory.now operation.now stack.old) result
-        stack.new }
+    ensures { Leaves
+        (stack_after regs.now.columns (M.regions memory.now) operation.now stack.old)
+        result stack.new }
 {
     match operation {
         Operation::Nop => {}
@@ -127,17 +128,18 @@ fn apply(
     Ok(())
 }
 
-/// The value of an expression, from the registers and the recorded memory. The stack starts with
+/// The value of an expression, from the registers and the words of a memory. The stack starts with
 /// the number `start`, where the expression was read for one. The only fault is that the first
 /// `deref` that fails finds no region for the eight bytes at an address. It takes no memory.
-pub fn value<const DEPTH: u32>(
+pub fn value<const DEPTH: u32, M: WordSource>(
     expr: &Expr<'_, DEPTH>,
     regs: &Regs,
-    memory: &Memory,
+    memory: &M,
     start: Option<u64>,
 ) -> Result<u64, NoBytes>
     requires { length (stack_of start) ≡ DEPTH }
-    ensures { IsValue DEPTH expr.now.bytes.now regs.now.columns memory.now start result }
+    ensures { IsValue DEPTH expr.now.bytes.now regs.now.columns (M.regions memory.now) start
+        result }
 {
     expr.known();
     let bytes = expr.bytes();

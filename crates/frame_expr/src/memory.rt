@@ -10,7 +10,8 @@ ghost use Rattle.frame_expr.specs.Regions.{RegionData, end, holds_bytes, region_
 ghost use Rattle.frame_expr.specs.Regions.{tail_in, tail_at};
 ghost use Rattle.frame_expr.specs.Regions.{regions_end, Accepts, IsRefusedRegion, AreRegions};
 
-use byteorder::{ByteOrder, LittleEndian};
+use crate::lent::word_from;
+use crate::source::WordSource;
 use std::alloc::{AllocError, AllocFailed, Global};
 use std::marker::Model;
 
@@ -73,18 +74,10 @@ impl Region {
 
     /// The eight bytes at an address as a number, where it holds all eight.
     fn word(&self, address: u64) -> Option<u64>
-        requires { end self.now < 2 ^ 64 }
         ensures { result ≡ (if holds_bytes 8 address self.now
             then Some (little_number 8 (tail_in address self.now)) else None) }
     {
-        if address < self.address || self.bytes.len() < 8 {
-            return None;
-        }
-        let place = address - self.address;
-        if place > self.bytes.len() as u64 - 8 {
-            return None;
-        }
-        Some(LittleEndian::read_u64(&self.bytes[place as usize..]))
+        word_from(self.address, &self.bytes, address)
     }
 
     /// Its bytes from an address on, where it holds the address.
@@ -185,20 +178,21 @@ impl Memory {
         &self.regions[index].bytes
     }
 
-    /// The eight bytes at an address as a number, the lowest first. `None` exactly where no single
-    /// region holds all eight.
-    pub fn word(&self, address: u64) -> Option<u64>
-        ensures { result ≡ word_at address self.now }
-    {
-        word_among(&self.regions, address)
-    }
-
     /// The bytes from an address to the end of the region that holds it. `None` exactly where none
     /// does.
     pub fn tail(&self, address: u64) -> Option<&[u8]>
         ensures { option_map (λ bytes. bytes.now) result ≡ tail_at address self.now }
     {
         tail_among(&self.regions, address)
+    }
+}
+
+impl WordSource for Memory {
+    ghost regions = { λ m. m };
+
+    #[inline(always)]
+    fn word(&self, address: u64) -> Option<u64> {
+        word_among(&self.regions, address)
     }
 }
 

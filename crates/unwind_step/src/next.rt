@@ -13,7 +13,7 @@ ghost use Rattle.unwind_step.specs.NextFrame.{Leads, AreRestored, FailsFirst, Is
 ghost use Rattle.unwind_step.specs.NextFrame.{IsStep, IsNextFrame};
 
 use crate::source::{FdeRow, RowSource};
-use frame_expr::{ColumnExpr, Memory, NoBytes, Regs, one_answer, value};
+use frame_expr::{ColumnExpr, NoBytes, Regs, WordSource, one_answer, value};
 use frame_parse::Fde;
 use frame_rows::{CfaRule, Row, Rule, row_at};
 
@@ -39,8 +39,8 @@ pub struct FoundStep {
 }
 
 /// The eight bytes at an address.
-fn saved_at(address: u64, memory: &Memory) -> Result<u64, NoBytes>
-    ensures { result ≡ saved_at address memory.now }
+fn saved_at<M: WordSource>(address: u64, memory: &M) -> Result<u64, NoBytes>
+    ensures { result ≡ saved_at address (M.regions memory.now) }
 {
     match memory.word(address) {
         Some(number) => Ok(number),
@@ -58,18 +58,18 @@ fn column_of(regs: &Regs, column: usize) -> u64
     }
 }
 
-/// A frame whose caller is asked for: its registers, and the recorded memory.
+/// A frame whose caller is asked for: its registers, and the memory beside them.
 #[derive(Clone, Copy)]
-struct Callee<'c> {
+struct Callee<'c, M> {
     regs: &'c Regs,
-    memory: &'c Memory,
+    memory: &'c M,
 }
 
 /// The CFA, where a rule tells it.
-fn cfa_of(rule: &CfaRule<'_>, callee: &Callee<'_>) -> Result<u64, NoBytes>
+fn cfa_of<M: WordSource>(rule: &CfaRule<'_>, callee: &Callee<'_, M>) -> Result<u64, NoBytes>
     requires { cfa_rule_told (λ e. e.bytes.now) rule.now ≢ Missing }
     ensures { IsCfa (cfa_rule_told (λ e. e.bytes.now) rule.now) callee.now.regs.now.columns
-        callee.now.memory.now result }
+        (M.regions callee.now.memory.now) result }
 {
     match rule {
         CfaRule::Missing => unreachable!(),
@@ -81,17 +81,25 @@ fn cfa_of(rule: &CfaRule<'_>, callee: &Callee<'_>) -> Result<u64, NoBytes>
 }
 
 /// The value of a column's expression, which starts with the CFA.
-fn column_value(expr: &ColumnExpr<'_>, cfa: u64, callee: &Callee<'_>) -> Result<u64, NoBytes>
-    ensures { IsValue 1 expr.now.bytes.now callee.now.regs.now.columns callee.now.memory.now
-        (Some cfa) result }
+fn column_value<M: WordSource>(
+    expr: &ColumnExpr<'_>,
+    cfa: u64,
+    callee: &Callee<'_, M>,
+) -> Result<u64, NoBytes>
+    ensures { IsValue 1 expr.now.bytes.now callee.now.regs.now.columns
+        (M.regions callee.now.memory.now) (Some cfa) result }
 {
     value(expr, callee.regs, callee.memory, Some(cfa))
 }
 
 /// The eight bytes at the value of a column's expression.
-fn saved_there(expr: &ColumnExpr<'_>, cfa: u64, callee: &Callee<'_>) -> Result<u64, NoBytes>
+fn saved_there<M: WordSource>(
+    expr: &ColumnExpr<'_>,
+    cfa: u64,
+    callee: &Callee<'_, M>,
+) -> Result<u64, NoBytes>
     ensures { IsSavedThere expr.now.bytes.now cfa callee.now.regs.now.columns
-        callee.now.memory.now result }
+        (M.regions callee.now.memory.now) result }
 {
     match column_value(expr, cfa, callee) {
         Ok(address) => saved_at(address, callee.memory),
@@ -100,9 +108,14 @@ fn saved_there(expr: &ColumnExpr<'_>, cfa: u64, callee: &Callee<'_>) -> Result<u
 }
 
 /// The number that a column is restored to by its rule.
-fn restored(column: usize, rule: &Rule<'_>, cfa: u64, callee: &Callee<'_>) -> Result<u64, NoBytes>
+fn restored<M: WordSource>(
+    column: usize,
+    rule: &Rule<'_>,
+    cfa: u64,
+    callee: &Callee<'_, M>,
+) -> Result<u64, NoBytes>
     ensures { IsRestored column (rule_told (λ e. e.bytes.now) rule.now) cfa
-        callee.now.regs.now.columns callee.now.memory.now result }
+        callee.now.regs.now.columns (M.regions callee.now.memory.now) result }
 {
     match rule {
         Rule::Unset if column == 7 => Ok(cfa),
@@ -116,11 +129,15 @@ fn restored(column: usize, rule: &Rule<'_>, cfa: u64, callee: &Callee<'_>) -> Re
 }
 
 /// All columns, each restored by its rule from the old registers.
-fn restore_all(row: &Row<'_>, cfa: u64, callee: &Callee<'_>) -> Result<Regs, NoBytes>
+fn restore_all<M: WordSource>(
+    row: &Row<'_>,
+    cfa: u64,
+    callee: &Callee<'_, M>,
+) -> Result<Regs, NoBytes>
     ensures restored { IfOk result (λ new. AreRestored 17 row.now cfa
-        callee.now.regs.now.columns callee.now.memory.now new.columns) }
+        callee.now.regs.now.columns (M.regions callee.now.memory.now) new.columns) }
     ensures fails { IfErr result (FailsFirst row.now cfa
-        callee.now.regs.now.columns callee.now.memory.now) }
+        callee.now.regs.now.columns (M.regions callee.now.memory.now)) }
 {
     let mut columns = [0; 17];
     for column in 0..17usize {
@@ -131,21 +148,25 @@ fn restore_all(row: &Row<'_>, cfa: u64, callee: &Callee<'_>) -> Result<Regs, NoB
 }
 
 /// The registers of the frame before, where the row leads to one.
-fn frame_before(row: &Row<'_>, rule: &CfaRule<'_>, callee: &Callee<'_>) -> Result<Regs, NoBytes>
+fn frame_before<M: WordSource>(
+    row: &Row<'_>,
+    rule: &CfaRule<'_>,
+    callee: &Callee<'_, M>,
+) -> Result<Regs, NoBytes>
     requires leads { Leads row.now }
     requires cfa { cfa_rule_told (λ e. e.bytes.now) rule.now ≡ row.now.cfa }
     ensures frame { IfOk result (λ new. IsFrame row.now
-        callee.now.regs.now.columns callee.now.memory.now new.columns) }
+        callee.now.regs.now.columns (M.regions callee.now.memory.now) new.columns) }
     ensures fails { IfErr result (LacksBytes row.now
-        callee.now.regs.now.columns callee.now.memory.now) }
+        callee.now.regs.now.columns (M.regions callee.now.memory.now)) }
 {
     let cfa = cfa_of(rule, callee)?;
     restore_all(row, cfa, callee)
 }
 
 /// What a row makes of the old registers.
-fn follow(row: &Row<'_>, callee: &Callee<'_>) -> Stepped
-    ensures { IsStep row.now callee.now.regs.now.columns callee.now.memory.now result }
+fn follow<M: WordSource>(row: &Row<'_>, callee: &Callee<'_, M>) -> Stepped
+    ensures { IsStep row.now callee.now.regs.now.columns (M.regions callee.now.memory.now) result }
 {
     let cfa = row.cfa();
     if let CfaRule::Missing = cfa {
@@ -163,11 +184,12 @@ fn follow(row: &Row<'_>, callee: &Callee<'_>) -> Stepped
 
 /// What an FDE makes of a frame's registers, at the address where the frame was looked up. It takes
 /// no memory.
-pub fn step(fde: &Fde<'_>, look: u64, regs: &Regs, memory: &Memory) -> Stepped
-    ensures outcome { IsNextFrame fde.now look regs.now.columns memory.now result }
+pub fn step<M: WordSource>(fde: &Fde<'_>, look: u64, regs: &Regs, memory: &M) -> Stepped
+    ensures outcome { IsNextFrame fde.now look regs.now.columns (M.regions memory.now) result }
     // Nothing else can come of them.
     ensures only { (other : Stepped)
-        → IsNextFrame fde.now look regs.now.columns memory.now other → other ≡ result }
+        → IsNextFrame fde.now look regs.now.columns (M.regions memory.now) other
+        → other ≡ result }
 {
     one_answer();
     let row = row_at(fde, look);
@@ -176,19 +198,19 @@ pub fn step(fde: &Fde<'_>, look: u64, regs: &Regs, memory: &Memory) -> Stepped
 
 /// What comes of a frame by the FDE of the address where it was looked up, in a section or in a
 /// table made of it. None where no FDE covers the address. It takes no memory.
-pub fn step_at<S: RowSource>(
+pub fn step_at<S: RowSource, M: WordSource>(
     source: &S,
     look: u64,
     regs: &Regs,
-    memory: &Memory,
+    memory: &M,
 ) -> Option<FoundStep>
     ensures outcome { MatchOption result (first_cover look (S.section source.now).fdes ≡ None)
-        (λ found. IsStepIn (S.section source.now) look regs.now.columns memory.now
+        (λ found. IsStepIn (S.section source.now) look regs.now.columns (M.regions memory.now)
         found.outcome found.signal) }
     // Nothing else can come of it.
     ensures only { IfSome result (λ found. (other : Stepped) (signal : Bool)
-        → IsStepIn (S.section source.now) look regs.now.columns memory.now other signal
-        → other ≡ found.outcome) }
+        → IsStepIn (S.section source.now) look regs.now.columns (M.regions memory.now)
+        other signal → other ≡ found.outcome) }
 {
     one_answer();
     match source.row_of(look) {

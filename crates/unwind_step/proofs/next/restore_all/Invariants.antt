@@ -4,7 +4,7 @@ use Rattle.unwind_step.proofs.next.restore_all.Given as goal
 
 -- the columns so far are restored
 abbrev pub invariant-loop-column : goal.invariant-loop-column
-invariant-loop-column l = record {
-  restored : AreRestored l.column l.row l.cfa l.callee.regs.now.columns l.callee.memory.now l.columns;
+invariant-loop-column g l = record {
+  restored : AreRestored l.column l.row l.cfa l.callee.regs.now.columns (g.M.WordSource.regions l.callee.memory.now) l.columns;
   all : length l.columns ≡ 17;
 }
