@@ -1,7 +1,7 @@
 //! A script is read, and printed back.
 
 use event_script::{Event, Reason, ScriptFault, print_script, read};
-use frame_expr::Regs;
+use frame_expr::{Regs, WordSource};
 use std::test::Fail;
 
 /// Each kind of line: the cases one_range, loaded_and_fixed and call_is_last_instruction in one.

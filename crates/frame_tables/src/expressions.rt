@@ -3,7 +3,7 @@
 use crate::bytes::hex_told;
 use crate::tables::Tables;
 use crate::words::{Refusal, Wanted, Words, hexadecimal, refuse};
-use frame_expr::{CfaExpr, ColumnExpr, ExprFault, Memory, NoBytes, RegionFault, Regs};
+use frame_expr::{CfaExpr, ColumnExpr, ExprFault, Memory, NoBytes, RegionFault, Regs, WordSource};
 
 /// `columns N=NUMBER..`: the registers, 0 where no word names one.
 pub fn columns(tables: &mut Tables, words: &Words<'_>, text: &mut String) -> Result<(), Refusal> {

@@ -23,7 +23,7 @@ pub struct Frame {
 
 impl AddressKind {
     /// Of a frame entered from one whose CIE says whether that is a signal's.
-    pub(crate) fn before(signal: bool) -> AddressKind
+    pub fn before(signal: bool) -> AddressKind
         ensures { result ≡ address_kind signal }
     {
         if signal {
@@ -47,7 +47,7 @@ impl Frame {
 
     /// The address at which the frame is looked up. A call may be the last instruction of its
     /// function, so that its return address lies after the function.
-    pub(crate) fn look(&self) -> u64
+    pub fn look(&self) -> u64
         ensures { result ≡ lookup_address self.now.address (slice_index self.now.regs.columns 16) }
     {
         let pc = self.regs.columns[16];
