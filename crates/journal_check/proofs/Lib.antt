@@ -8,3 +8,5 @@ pub mod Flawless
 pub mod Ascending
 pub mod Numbers
 pub mod Strict
+pub mod Passing
+pub mod TextVerdicts

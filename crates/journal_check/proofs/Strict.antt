@@ -1,6 +1,6 @@
 -- A journal without a flaw is lawful, but for its answers' kinds and its backtraces.
 use Rattle.std.proofs.Common.{◌≡◌, ℕ, ◌+◌, ◌<◌, ◌≤◌, List, [], ◌∷◌, ◌++◌, length, get_or, Option, Some, None, IfSome, MatchOption, Bool, true, cond, ◌&&◌, leb, All, inl, inr, refl, sym, ◌∙◌, ap, subst, append_assoc, arith}
-use Rattle.std.specs.List.{Contains, flat_map}
+use Rattle.std.specs.List.{Contains, flat_map, AllZip}
 use Rattle.std.specs.Option.{is_some}
 use Rattle.std.proofs.lemmas.Bool.{cases_lt}
 use Rattle.std.proofs.lemmas.List.Elements.{All-append, All-cons, All-head, All-tail, All-nil, All-weaker, All-map, All-contains, Contains-get_or, Contains-append_left, Contains-append_right, Contains-append_cases, Contains-push_cases}
@@ -12,7 +12,7 @@ use Rattle.reg_model.specs.declared.answer.Update.{Update}
 use Rattle.reg_model.specs.declared.answer.Receipt.{Receipt}
 use Rattle.event_script.specs.ScriptData.{ScriptData}
 use Rattle.event_script.specs.JournalData.{JournalData}
-use Rattle.event_script.specs.Lawful.{RoundsHold, AreInRounds, thread_receipts, in_one, start_of, done_after}
+use Rattle.event_script.specs.Lawful.{RoundsHold, AreInRounds, thread_receipts, in_one, start_of, done_after, AnswersEvent, IsUnfolded, IsLawfulJournal}
 use Rattle.receipt_check.proofs.Halves.{All-front, All-back}
 use Rattle.receipt_check.specs.declared.account.Told.{Told}
 use Rattle.receipt_check.specs.declared.account.Flaw.TheVariants as flaw
@@ -153,3 +153,6 @@ module _ (script : ScriptData) (journal : JournalData) (free : IsFlawless (accou
     receipts = subst (λ (h : List Update). RoundsHold (start_of script) h script.nodes 1 0 threads) same_history (hold_from (start_of script) (told_history account) script.nodes journal.updates [] 1 0 threads numbered (All-nil (Within 0)) refl in_rounds hold order);
     rounds = in_rounds;
   }
+
+  pub lawful_from : AllZip (AllZip (AllZip AnswersEvent)) script.rounds journal.rounds → All (All (All (IsUnfolded script.sections script.snapshots))) journal.rounds → IsLawfulJournal script journal
+  lawful_from answered unfolded = record { answered = answered; numbered = parts.numbered; history = parts.history; receipts = parts.receipts; rounds = parts.rounds; unfolded = unfolded }

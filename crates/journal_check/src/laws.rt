@@ -1,8 +1,8 @@
 //! Laws of the definitions. Each is the contract of a function that does nothing.
 
-ghost use Rattle.std.specs.Prelude.{◌≡◌, ℕ, ◌↔◌, All};
+ghost use Rattle.std.specs.Prelude.{◌≡◌, ℕ, ◌↔◌, List, All};
 ghost use Rattle.std.specs.List.{AllZip};
-ghost use Rattle.event_script.specs.ScriptData.{ScriptData};
+ghost use Rattle.event_script.specs.ScriptData.{ScriptData, IsRunnable};
 ghost use Rattle.event_script.specs.JournalData.{JournalData};
 ghost use Rattle.event_script.specs.Lawful.{thread_receipts, in_one, AreInRounds};
 ghost use Rattle.event_script.specs.Lawful.{IsLawfulJournal, AnswersEvent, IsUnfolded};
@@ -10,7 +10,9 @@ ghost use Rattle.receipt_check.specs.Flaws.{AccountData, told_receipts, IsFreeOf
 ghost use Rattle.receipt_check.specs.Flaws.{CountsFirst};
 ghost use Rattle.receipt_check.specs.declared.account.Flaw.{Flaw};
 ghost use Rattle.receipt_check.specs.declared.account.Flaw.TheVariants as flaw;
-ghost use Rattle.journal_check.specs.Telling.{account_of};
+ghost use Rattle.journal_check.specs.Telling.{account_of, receipt_lines};
+ghost use Rattle.journal_check.specs.TextFlaws.{IsVerdictOn};
+ghost use Rattle.journal_check.specs.declared.verdict.Verdict.{Verdict};
 
 /// Of what is told, one flaw at the most counts first, on one line, and none where nothing is
 /// wrong.
@@ -50,4 +52,10 @@ pub fn flawless_journals_are_lawful()
         → AllZip (AllZip (AllZip AnswersEvent)) script.rounds journal.rounds
         → All (All (All (IsUnfolded script.sections script.snapshots))) journal.rounds
         → IsFlawless (account_of script journal) → IsLawfulJournal script journal }
+{}
+
+/// A text has one verdict at the most. That each one has a verdict is what `check` shows.
+pub fn texts_have_one_verdict()
+    ensures { (script : ScriptData) (text : List ℕ) (one other : Verdict) → IsRunnable script
+        → IsVerdictOn script text one → IsVerdictOn script text other → one ≡ other }
 {}

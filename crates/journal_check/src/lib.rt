@@ -6,9 +6,14 @@
 //! answers' kinds and its backtraces, are laws beside it.
 #![tactic(auto)]
 
+mod checking;
 mod judging;
 pub mod laws;
 mod teller;
+mod traces;
 mod updates;
+mod verdict;
 
+pub use checking::check;
 pub use judging::{account_in, judge};
+pub use verdict::{Flaw, Verdict};

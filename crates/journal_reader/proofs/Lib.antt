@@ -15,3 +15,4 @@ pub mod Loops
 pub mod OneAnswer
 pub mod LawfulMembers
 pub mod LawfulTold
+pub mod ToldAnswers

@@ -1,10 +1,10 @@
 //! The reader of journals.
 
 ghost use Rattle.std.specs.Prelude.{◌≡◌, ◌+◌, ◌^◌, ◌<◌, ◌≤◌, ◌==◌, [], ◌∷◌, ◌++◌, length};
-ghost use Rattle.std.specs.Prelude.{map, option_map, count_by, OnOk, IfOk, IfErr};
+ghost use Rattle.std.specs.Prelude.{map, option_map, count_by, OnOk, IfOk, IfErr, All};
 ghost use Rattle.std.specs.List.{AllZip};
 ghost use Rattle.event_script.specs.Fields.{pieces};
-ghost use Rattle.event_script.specs.Text.{trace_lines};
+ghost use Rattle.event_script.specs.Text.{trace_lines, IsPrintable};
 ghost use Rattle.event_script.specs.declared.script.Event.TheVariants as event;
 ghost use Rattle.journal_reader.specs.Told.{IsToldAnswer, IsToldTrace};
 ghost use Rattle.journal_reader.specs.Reading.{IsOneLine};
@@ -295,6 +295,9 @@ pub fn read_journal(
 ) -> Result<Result<Journal, FormFault>, NoMemory>
     ensures told { IfOk result (λ read. IfOk read (λ journal.
         TellsJournal script.now text.now journal)) }
+    // So it can be printed again.
+    ensures printable { IfOk result (λ read. IfOk read (λ journal.
+        All (All (All IsPrintable)) journal.rounds)) }
     ensures bad { IfOk result (λ read. IfErr read (λ fault.
         FormFlaw script.now text.now fault.line)) }
 {

@@ -1,6 +1,7 @@
 use Rattle.std.proofs.Common.{◌^◌, ◌<◌, length, subst, arith}
 use Rattle.event_script.specs.ScriptData.{ScriptData}
 use Rattle.journal_reader.proofs.Flaws.{left_fewer, flaw_of, whole_tells}
+use Rattle.journal_reader.proofs.ToldAnswers.{told_prints}
 use Rattle.journal_reader.proofs.reader.read_journal.Goals as goal
 
 pub line_number-line-requires : goal.line_number-line-requires
@@ -11,6 +12,12 @@ returns-in-Some-clause-told c =
     let few : length c.args.script.now.images < 2 ^ 32 = subst (λ (s : ScriptData). length s.images < 2 ^ 32) c.script.view_is (let bound = c.script.invariant.images in omega (arith, bound)) in
     let read = rw c.in-Some.is at c.in_ok-journal.ensures in
     whole_tells c.args.script.now few c.args.text.now c.in-Some.journal read.0 read.1
+
+pub returns-in-Some-clause-printable : goal.returns-in-Some-clause-printable
+returns-in-Some-clause-printable c =
+    let few : length c.args.script.now.images < 2 ^ 32 = subst (λ (s : ScriptData). length s.images < 2 ^ 32) c.script.view_is (let bound = c.script.invariant.images in omega (arith, bound)) in
+    let read = rw c.in-Some.is at c.in_ok-journal.ensures in
+    told_prints c.args.script.now c.in-Some.journal (whole_tells c.args.script.now few c.args.text.now c.in-Some.journal read.0 read.1).told
 
 pub returns-in-None-clause-bad : goal.returns-in-None-clause-bad
 returns-in-None-clause-bad c =

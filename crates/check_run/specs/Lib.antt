@@ -1,0 +1,4 @@
+pub mod Parts
+pub mod CheckText
+pub mod CheckStatuses
+pub mod CheckOutcome

@@ -1,0 +1,156 @@
+-- What is told answers the script's events, has the sizes of a program's, and can be printed.
+use Rattle.std.proofs.Common.{ℕ, List, [], ◌∷◌, Option, Some, None, IfSome, All, refl}
+use Rattle.std.specs.List.{AllByRecursion, AllZip}
+use Rattle.std.proofs.lemmas.List.Elements.{All-cons, All-nil}
+use Rattle.reg_model.specs.SpanData.{SpanData}
+use Rattle.reg_model.specs.Receipt.{IsPlace}
+use Rattle.reg_model.specs.declared.answer.Found.{Found}
+use Rattle.reg_model.specs.declared.answer.Found.TheVariants.{Hit, Miss}
+use Rattle.reg_model.specs.declared.answer.Inserted.{Inserted}
+use Rattle.reg_model.specs.declared.answer.Inserted.TheVariants as inserted
+use Rattle.reg_model.specs.declared.answer.Loading.{Loading}
+use Rattle.reg_model.specs.declared.answer.Loading.TheVariants as loading
+use Rattle.reg_model.specs.declared.answer.Place.{Place}
+use Rattle.reg_model.specs.declared.answer.Removed.{Removed}
+use Rattle.reg_model.specs.declared.answer.Removed.TheVariants as removed
+use Rattle.unwind_step.specs.declared.backtrace.FrameLine.{FrameLine}
+use Rattle.event_script.specs.JournalData.{JournalData}
+use Rattle.event_script.specs.Lawful.{AnswersEvent}
+use Rattle.event_script.specs.ScriptData.{ScriptData}
+use Rattle.event_script.specs.Text.{IsPrintable}
+use Rattle.event_script.specs.declared.journal.Answer.{Answer}
+use Rattle.event_script.specs.declared.journal.Answer.TheVariants.{Register, Deregister, Load, Unload, Find, Unwind}
+use Rattle.event_script.specs.declared.script.Event.{Event}
+use Rattle.event_script.specs.declared.script.Event.TheVariants as event
+use Rattle.journal_reader.specs.Told.{IsToldAnswer, IsToldFound, IsToldFrame, IsToldInserted, IsToldJournal, IsToldLoading, IsToldPlace, IsToldRemoved}
+use Rattle.journal_reader.specs.Sizes.{IsSized, IsSizedAnswer, IsSizedFound, IsSizedFrame, IsSizedInserted, IsSizedLoading, IsSizedPlace, IsSizedRemoved}
+
+module _ (images : List SpanData) where
+  found_sized : (found : Found) → IsToldFound images found → IsSizedFound found
+  found_sized (Hit m stamp) told = told.1
+  found_sized (Miss stamp) told = told
+
+  loaded_sized : (loaded : Option Found) → IfSome loaded (IsToldFound images) → IfSome loaded IsSizedFound
+  loaded_sized None told = tt
+  loaded_sized (Some found) told = found_sized found told
+
+  place_sized : (place : Place) → IsToldPlace images place → IsSizedPlace place
+  place_sized place told = record { registered = found_sized place.registered told.registered; loaded = loaded_sized place.loaded told.loaded }
+
+  inserted_sized : (answer : Inserted) → IsToldInserted images answer → IsSizedInserted answer
+  inserted_sized (inserted.Done number) told = told
+  inserted_sized (inserted.Overlap m stamp) told = told.1
+  inserted_sized (inserted.Full stamp) told = told
+  inserted_sized inserted.Spent told = tt
+
+  loading_sized : (answer : Loading) → IsToldLoading images answer → IsSizedLoading answer
+  loading_sized (loading.Done number) told = told
+  loading_sized (loading.Overlap m stamp) told = told.1
+  loading_sized (loading.LoadFull stamp) told = told
+  loading_sized loading.Spent told = tt
+
+  removed_sized : (answer : Removed) → IsToldRemoved images answer → IsSizedRemoved answer
+  removed_sized (removed.Done number m) told = told.0
+  removed_sized (removed.NotFound stamp) told = told
+  removed_sized removed.Spent told = tt
+
+  frames_sized : (frames : List FrameLine) → AllByRecursion (IsToldFrame images) frames → AllByRecursion IsSizedFrame frames
+  frames_sized [] told = tt
+  frames_sized (line ∷ frames) told =
+      let first = told.0 in
+      (record { pc = first.pc; sp = first.sp; look = first.look; place = place_sized line.place first.place }, frames_sized frames told.1)
+
+  -- places have their halves
+  frames_whole : (frames : List FrameLine) → AllByRecursion (IsToldFrame images) frames → All (λ line. IsPlace line.place) frames
+  frames_whole [] told = All-nil (λ (line : FrameLine). IsPlace line.place)
+  frames_whole (line ∷ frames) told = (let first = told.0 in All-cons (λ (line : FrameLine). IsPlace line.place) line frames first.place.whole (frames_whole frames told.1))
+
+  answer_sized : (asked : Event) (answer : Answer) → IsToldAnswer images asked answer → IsSizedAnswer answer
+  answer_sized (event.Register image) (Register number answer) told = inserted_sized answer told.1
+  answer_sized (event.Deregister base) (Deregister number answer) told = removed_sized answer told.1
+  answer_sized (event.Load image) (Load number answer) told = loading_sized answer told.1
+  answer_sized (event.Unload base) (Unload number answer) told = removed_sized answer told.1
+  answer_sized (event.Find pc) (Find number place) told = place_sized place told.1
+  answer_sized (event.Unwind snapshot) (Unwind number trace) told = (let is = told.1 in (frames_sized trace.frames is.frames, is.end))
+  answer_sized asked answer told = absurd told
+
+  answers_event : (asked : Event) (answer : Answer) → IsToldAnswer images asked answer → AnswersEvent asked answer
+  answers_event (event.Register image) (Register number answer) told = told.0
+  answers_event (event.Deregister base) (Deregister number answer) told = told.0
+  answers_event (event.Load image) (Load number answer) told = told.0
+  answers_event (event.Unload base) (Unload number answer) told = told.0
+  answers_event (event.Find pc) (Find number place) told = (let is = told.1 in (told.0, is.whole))
+  answers_event (event.Unwind snapshot) (Unwind number trace) told = (let is = told.1 in (told.0, frames_whole trace.frames is.frames))
+  answers_event asked answer told = absurd told
+
+  inserted_prints : (image : ℕ) (answer : Inserted) → IsToldInserted images answer → IsPrintable (Register image answer)
+  inserted_prints image (inserted.Done number) told = tt
+  inserted_prints image (inserted.Overlap m stamp) told = tt
+  inserted_prints image (inserted.Full stamp) told = tt
+  inserted_prints image inserted.Spent told = told
+
+  loading_prints : (image : ℕ) (answer : Loading) → IsToldLoading images answer → IsPrintable (Load image answer)
+  loading_prints image (loading.Done number) told = tt
+  loading_prints image (loading.Overlap m stamp) told = tt
+  loading_prints image (loading.LoadFull stamp) told = tt
+  loading_prints image loading.Spent told = told
+
+  deregistered_prints : (base : ℕ) (answer : Removed) → IsToldRemoved images answer → IsPrintable (Deregister base answer)
+  deregistered_prints base (removed.Done number m) told = tt
+  deregistered_prints base (removed.NotFound stamp) told = tt
+  deregistered_prints base removed.Spent told = told
+
+  unloaded_prints : (base : ℕ) (answer : Removed) → IsToldRemoved images answer → IsPrintable (Unload base answer)
+  unloaded_prints base (removed.Done number m) told = tt
+  unloaded_prints base (removed.NotFound stamp) told = tt
+  unloaded_prints base removed.Spent told = told
+
+  answer_prints : (asked : Event) (answer : Answer) → IsToldAnswer images asked answer → IsPrintable answer
+  answer_prints (event.Register image) (Register number answer) told = inserted_prints number answer told.1
+  answer_prints (event.Deregister base) (Deregister number answer) told = deregistered_prints number answer told.1
+  answer_prints (event.Load image) (Load number answer) told = loading_prints number answer told.1
+  answer_prints (event.Unload base) (Unload number answer) told = unloaded_prints number answer told.1
+  answer_prints (event.Find pc) (Find number place) told = (let is = told.1 in is.whole)
+  answer_prints (event.Unwind snapshot) (Unwind number trace) told = (let is = told.1 in frames_whole trace.frames is.frames)
+  answer_prints asked answer told = absurd told
+
+-- ---- lists
+
+zip_weaker : {X Y : Type 0} (P Q : X → Y → Type 0) → ((x : X) (y : Y) → P x y → Q x y) → (xs : List X) (ys : List Y) → AllZip P xs ys → AllZip Q xs ys
+zip_weaker P Q so [] [] all = tt
+zip_weaker P Q so [] (y ∷ ys) all = absurd all
+zip_weaker P Q so (x ∷ xs) [] all = absurd all
+zip_weaker P Q so (x ∷ xs) (y ∷ ys) all = (so x y all.0, zip_weaker P Q so xs ys all.1)
+
+zip_second : {X Y : Type 0} (P : X → Y → Type 0) (Q : Y → Type 0) → ((x : X) (y : Y) → P x y → Q y) → (xs : List X) (ys : List Y) → AllZip P xs ys → AllByRecursion Q ys
+zip_second P Q so [] [] all = tt
+zip_second P Q so [] (y ∷ ys) all = absurd all
+zip_second P Q so (x ∷ xs) [] all = absurd all
+zip_second P Q so (x ∷ xs) (y ∷ ys) all = (so x y all.0, zip_second P Q so xs ys all.1)
+
+zip_all : {X Y : Type 0} (P : X → Y → Type 0) (Q : Y → Type 0) → ((x : X) (y : Y) → P x y → Q y) → (xs : List X) (ys : List Y) → AllZip P xs ys → All Q ys
+zip_all P Q so [] [] all = All-nil Q
+zip_all P Q so [] (y ∷ ys) all = absurd all
+zip_all P Q so (x ∷ xs) [] all = absurd all
+zip_all P Q so (x ∷ xs) (y ∷ ys) all = All-cons Q y ys (so x y all.0) (zip_all P Q so xs ys all.1)
+
+module _ (script : ScriptData) (journal : JournalData) (told : IsToldJournal script journal) where
+  abbrev Told : Event → Answer → Type 0
+  Told = IsToldAnswer script.images
+
+  pub told_answered : AllZip (AllZip (AllZip AnswersEvent)) script.rounds journal.rounds
+  told_answered =
+      zip_weaker (AllZip (AllZip Told)) (AllZip (AllZip AnswersEvent))
+      (zip_weaker (AllZip Told) (AllZip AnswersEvent) (zip_weaker Told AnswersEvent (answers_event script.images))) script.rounds journal.rounds told.answered
+
+  pub told_sized : IsSized journal
+  told_sized = record {
+    answers = zip_second (AllZip (AllZip Told)) (AllByRecursion (AllByRecursion IsSizedAnswer))
+    (zip_second (AllZip Told) (AllByRecursion IsSizedAnswer) (zip_second Told IsSizedAnswer (answer_sized script.images))) script.rounds journal.rounds told.answered;
+    updates = told.updates;
+  }
+
+  pub told_prints : All (All (All IsPrintable)) journal.rounds
+  told_prints =
+      zip_all (AllZip (AllZip Told)) (All (All IsPrintable))
+      (zip_all (AllZip Told) (All IsPrintable) (zip_all Told IsPrintable (answer_prints script.images))) script.rounds journal.rounds told.answered
