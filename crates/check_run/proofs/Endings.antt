@@ -1,12 +1,13 @@
 -- How the program ends.
-use Rattle.std.proofs.Common.{◌≡◌, ◌≢◌, ◌⊎◌, ℕ, ◌<◌, ◌≤◌, List, [], ◌∷◌, length, map, true, false, eqb, eqb-true, Option, Some, None, IfSome, refl, sym, ap, ◌∙◌, subst, inl, inr, arith}
+use Rattle.std.proofs.Common.{◌≡◌, ◌≢◌, ◌⊎◌, ◌↔◌, ℕ, ◌<◌, ◌≤◌, List, [], ◌∷◌, length, map, true, false, eqb, eqb-true, Option, Some, None, IfSome, refl, sym, ap, ◌∙◌, subst, inl, inr, arith}
 use Rattle.event_script.specs.ScriptData.{ScriptData, IsRunnable}
 use Rattle.event_script.specs.Spelling.{IsScript}
 use Rattle.event_script.specs.Refusal.{HasOneReading}
 use Rattle.run_ports.specs.Endings.{Change, WritesPart}
 use Rattle.run_ports.specs.Ports.{Rose}
 use Rattle.run_ports.specs.declared.status.Ending.TheVariants as ending
-use Rattle.journal_check.specs.TextFlaws.{IsVerdictOn}
+use Rattle.journal_check.specs.TextFlaws.{IsFirstFlaw, IsLawfulText, IsVerdictOn}
+use Rattle.journal_check.specs.declared.verdict.Flaw.{Flaw}
 use Rattle.journal_check.specs.declared.verdict.Verdict.{Verdict}
 use Rattle.journal_check.specs.declared.verdict.Verdict.TheVariants as verdict
 use Rattle.check_run.specs.Parts.{script_part, journal_part}
@@ -107,9 +108,10 @@ module _ (one_answer : (bytes : List ℕ) → HasOneReading bytes) (words : List
 
 -- ---- the parts of what was taken
 
-pub of_input : (input : Option (List ℕ)) (bytes : List ℕ) (P : List ℕ → Type 0) → IfSome input (λ had. had ≡ bytes) → P bytes → IfSome input P
-of_input None bytes P same holds = tt
-of_input (Some had) bytes P same holds = subst P (sym same) holds
+-- what is known of a verdict that was given says that it is right
+pub verdict_right : (script : ScriptData) (text : List ℕ) (v : Verdict) → ((updates : ℕ) → (v ≡ verdict.Lawful updates) ↔ IsLawfulText script text updates) → ((line : ℕ) (which : Flaw) → (v ≡ verdict.Line line which) ↔ IsFirstFlaw script text line which) → IsVerdictOn script text v
+verdict_right script text (verdict.Lawful updates) lawful flaw = (lawful updates).0 refl
+verdict_right script text (verdict.Line line which) lawful flaw = (flaw line which).0 refl
 
 pub verdict_on_part : (input : Option (List ℕ)) (script : ScriptData) (text : List ℕ) (v : Verdict) → IfSome input (λ bytes. journal_part bytes ≡ text) → IsVerdictOn script text v → IfSome input (λ bytes. IsVerdictOn script (journal_part bytes) v)
 verdict_on_part None script text v same right = tt

@@ -1,0 +1,8 @@
+use Rattle.check_run.proofs.Endings.{check_complete, check_exact}
+use Rattle.check_run.proofs.running.check_run.Goals as goal
+
+pub returns-clause-complete : goal.returns-clause-complete
+returns-clause-complete g c = λ none. check_complete c.bytes_have_one_answer.ensures _ none _ _ c.end_of.result c.end_of.ensures.ends
+
+pub returns-clause-exact : goal.returns-clause-exact
+returns-clause-exact g c = λ none. check_exact c.bytes_have_one_answer.ensures _ none _ c.texts_have_one_verdict.ensures _ c.end_of.result c.end_of.ensures.ends

@@ -1,0 +1,29 @@
+use Rattle.std.proofs.Common.{◌≡◌, ◌<◌, ◌≤◌, length, vec_len, refl, sym, ◌∙◌, arith}
+use Rattle.run_ports.proofs.Endings.{ends_concluded}
+use Rattle.run_ports.proofs.Pieces.{Hands-longer, IfSome-same}
+use Rattle.check_run.specs.CheckOutcome.{IsDueFor}
+use Rattle.check_run.specs.CheckStatuses.{check_ending_of}
+use Rattle.check_run.specs.declared.running.TheConstants.{CHECK_LIMIT}
+use Rattle.check_run.specs.declared.status.CheckStatus.TheVariants as status
+use Rattle.check_run.proofs.Endings.{check_write_told}
+use Rattle.check_run.proofs.running.check_source.Goals as goal
+
+pub returns-then-len-gt-CHECK_LIMIT-clause-ends : goal.returns-then-len-gt-CHECK_LIMIT-clause-ends
+returns-then-len-gt-CHECK_LIMIT-clause-ends g c =
+    let long : CHECK_LIMIT < length c.in-Ok.bytes.items = (let count = c.len.ensures in let above = c.if-len-gt-CHECK_LIMIT.true in omega (arith, c.in-Ok.bytes.ok.0)) in
+    ends_concluded check_ending_of (IsDueFor _) (Unit {0}) _ _ status.TooLong _ refl
+    (Hands-longer CHECK_LIMIT _ _ c.in-Ok.bytes.items c.in-Ok.ensures.handed long, refl)
+    c.conclude.ensures.concludes
+
+pub returns-then-len-gt-CHECK_LIMIT-clause-writes : goal.returns-then-len-gt-CHECK_LIMIT-clause-writes
+returns-then-len-gt-CHECK_LIMIT-clause-writes g c = λ other. c.conclude.ensures.sound (λ says. other (check_write_told c.conclude.result says))
+
+pub check_input-requires-short : goal.check_input-requires-short
+check_input-requires-short g c =
+    let short : length c.in-Ok.bytes.items ≤ CHECK_LIMIT = (let count = c.len.ensures in let below = c.if-len-gt-CHECK_LIMIT.false in omega (arith, c.in-Ok.bytes.ok.0)) in
+    rw (c.deref.ensures.value) short
+
+pub returns-else-len-gt-CHECK_LIMIT-clause-ends : goal.returns-else-len-gt-CHECK_LIMIT-clause-ends
+returns-else-len-gt-CHECK_LIMIT-clause-ends g c =
+    let within : vec_len c.in-Ok.bytes ≤ CHECK_LIMIT = (let count = c.len.ensures in let below = c.if-len-gt-CHECK_LIMIT.false in omega arith) in
+    c.check_input.ensures.ends _ _ _ (rw (c.deref.ensures.value) (c.in-Ok.ensures.all within))
