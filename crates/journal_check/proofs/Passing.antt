@@ -1,7 +1,9 @@
 -- Answers are gone through, one after another, and one backtrace leaves the rules first.
 use Rattle.std.proofs.Common.{◌≡◌, ◌≢◌, ℕ, ◌+◌, ◌<◌, ◌≤◌, List, [], ◌∷◌, ◌++◌, length, get_or, drop, map, Option, Some, None, MatchOption, Result, Ok, Err, IfOk, OnErr, All, inl, inr, refl, sym, ◌∙◌, ap, subst, arith}
 use Rattle.std.specs.List.{flat_map, slice_get}
+use Rattle.std.specs.Result.{IsErrAnd}
 use Rattle.std.proofs.lemmas.List.{drop_more, drop_all}
+use Rattle.std.proofs.lemmas.Option.{slice_get_read}
 use Rattle.std.proofs.lemmas.List.Sums.{sum_by-append, sum_by-cons}
 use Rattle.std.proofs.lemmas.List.Elements.{All-append, All-cons, All-head, All-tail, All-nil}
 use Rattle.event_script.specs.ScriptData.{ScriptData, SnapshotData}
@@ -47,6 +49,11 @@ module _ (script : ScriptData) where
   pub passed_stop : (xs ys : List Answer) (first : ℕ) (e : Stopped) → IsPassed script xs first (Err e) → IsPassed script (xs ++ ys) first (Err e)
   passed_stop xs ys first (Departs line) departs = departs_early xs ys first line departs
   passed_stop xs ys first NoMemory none = tt
+
+  -- `?` hands on why it stopped
+  pub stop_handed : (xs : List Answer) (first : ℕ) (e : Stopped) (r : Result ℕ Stopped) → IsErrAnd r (λ x. x ≡ e) → IsPassed script xs first (Err e) → IsPassed script xs first r
+  stop_handed xs first e (Err x) is stopped = subst (λ x. IsPassed script xs first (Err x)) (sym is) stopped
+  stop_handed xs first e (Ok next) is stopped = absurd is
 
   -- none are left
   pub passed_none : (next : ℕ) → IsPassed script [] next (Ok next)
@@ -103,6 +110,19 @@ module _ (script : ScriptData) where
   no_trace (Unload base answer) other = tt
   no_trace (Find pc place) other = tt
   no_trace (Unwind number trace) other = absurd (other number trace refl)
+
+  -- the snapshot of a backtrace is there
+  module _ (answer : Answer) (number : ℕ) (trace : TraceData) (recorded : SnapshotData) (asked : answer ≡ Unwind number trace) (within : number < length script.snapshots) (is : recorded ≡ get_or script.snapshots number recorded) where
+    recorded_at : slice_get script.snapshots number ≡ Some recorded
+    recorded_at = slice_get_read script.snapshots (length script.snapshots) number recorded refl within is
+
+    pub unfolds_here : Unfolds script.sections recorded.memory recorded.regs trace → IsRight answer
+    unfolds_here unfolds = subst IsRight (sym asked) (recorded, recorded_at, unfolds)
+
+    pub departs_here : (first line k : ℕ) → IsDeparture script.sections recorded.memory recorded.regs trace k → line ≡ first + 1 + k → DepartsOn script answer first line
+    departs_here first line k departs at =
+        subst (λ a. DepartsOn script a first line) (sym asked)
+        (subst (λ (o : Option SnapshotData). MatchOption o (line ≡ first) (λ s. (k : ℕ) × IsDeparture script.sections s.memory s.regs trace k × (line ≡ first + 1 + k))) (sym recorded_at) (k, departs, at))
 
   -- ---- one backtrace leaves the rules first
 

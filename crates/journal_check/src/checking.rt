@@ -1,6 +1,7 @@
 //! The checker of texts.
 
 ghost use Rattle.std.specs.Prelude.{◌≡◌, ◌↔◌, ℕ, List, IfOk};
+ghost use Rattle.event_script.specs.ScriptData.{IsRunnable};
 ghost use Rattle.journal_reader.specs.FormFlaw.{TellsJournal};
 ghost use Rattle.journal_check.specs.TextFlaws.{IsLawfulText, IsFirstFlaw, IsVerdictOn};
 ghost use Rattle.journal_check.specs.declared.verdict.Flaw.{Flaw};
@@ -24,7 +25,15 @@ pub fn check(alloc: Global, script: &Script, text: &[u8]) -> Result<Verdict, NoM
 {
     // A text has one verdict at the most: `exactly where` rests on this law, which takes no step.
     texts_have_one_verdict();
+    know_runnable(script);
     verdict_of(alloc, script, text)
+}
+
+/// Every script can be run: its type says so, where a field is read.
+fn know_runnable(script: &Script)
+    ensures { IsRunnable script.now }
+{
+    let _nodes = script.nodes;
 }
 
 /// The verdict, by what it says of the text.
