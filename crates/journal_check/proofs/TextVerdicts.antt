@@ -1,6 +1,5 @@
 -- A text has one verdict at the most.
 use Rattle.std.proofs.Common.{◌≡◌, ◌↔◌, ℕ, List, Result, Ok, Err, IfOk, All, inl, inr, refl, sym, ◌∙◌, ap, ap₂, subst}
-use Rattle.std.specs.List.{AllZip}
 use Rattle.event_script.specs.ScriptData.{ScriptData, IsRunnable}
 use Rattle.event_script.specs.JournalData.{JournalData}
 use Rattle.event_script.specs.Lawful.{IsLawfulJournal, IsUnfolded}

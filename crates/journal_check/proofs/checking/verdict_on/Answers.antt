@@ -1,4 +1,4 @@
-use Rattle.std.proofs.Common.{List, ℕ, refl, sym, subst, ap, ◌∙◌}
+use Rattle.std.proofs.Common.{sym, subst, ap}
 use Rattle.event_script.specs.JournalData.{JournalData}
 use Rattle.journal_check.specs.TextFlaws.{IsLawfulText}
 use Rattle.journal_check.proofs.TextVerdicts.{found_lawful}

@@ -1,4 +1,4 @@
-use Rattle.std.proofs.Common.{◌≡◌, ℕ, ◌+◌, ◌<◌, List, length, get_or, inl, refl, ◌∙◌, ap, subst, arith}
+use Rattle.std.proofs.Common.{◌≡◌, ◌<◌, List, length, get_or, inl, refl, ◌∙◌, ap, subst, arith}
 use Rattle.event_script.specs.ScriptData.{ScriptData, SnapshotData}
 use Rattle.trace_check.specs.Departures.{IsDeparture}
 use Rattle.unwind_step.specs.Backtrace.{Unfolds}
