@@ -56,7 +56,10 @@ static void *look_up(void *given) {
   struct reader *me = given;
   while (!atomic_load(&done)) {
     struct answer one = {.pc = some_address(&me->seed)};
-    registry_c_find(me->client, one.pc, &one.place, &me->client);
+    if (me->seed % 2)
+      registry_c_find(me->client, one.pc, &one.place, &me->client);
+    else
+      registry_c_find_cached(me->client, one.pc, &one.place, &me->client);
     if (one.place.kind == REGISTRY_FIND_AGAIN) {
       me->again++;
       sched_yield();

@@ -114,6 +114,20 @@ static int places(registry_client *client) {
   return 0;
 }
 
+/* The same, once when the cache has nothing and once when it has what was found. */
+static int cached_places(registry_client *client) {
+  registry_place place;
+  for (int time = 0; time < 2; time++) {
+    registry_c_find_cached(*client, 0x2010, &place, client);
+    CHECK(is_place(place, REGISTRY_REGISTERED, 24, 0, (registry_member){0x2010, 0x10, 2}));
+    registry_c_find_cached(*client, 0x1000, &place, client);
+    CHECK(is_place(place, REGISTRY_LOADED, 24, 24, (registry_member){0x1000, 0x20, 1}));
+    registry_c_find_cached(*client, 0x2000, &place, client);
+    CHECK(is_place(place, REGISTRY_NOWHERE, 24, 24, no_member));
+  }
+  return 0;
+}
+
 static int members(registry_client *client) {
   const registry_member empty = {0x3000, 0, 0}, beyond = {UINT64_MAX - 1, 1, 0},
                         unpaid = {0x3000, 1, 3};
@@ -141,6 +155,10 @@ static int splits(registry_client *client) {
   registry_c_deregister(other, 0x2010, &answer, &other);
   CHECK(is_answer(answer, REGISTRY_SPENT, 0, 0, no_member));
   CHECK(registry_c_seen(*client, client) == 24);
+  /* its last hits have the range still, but not at this stamp */
+  registry_place place;
+  registry_c_find_cached(*client, 0x2010, &place, client);
+  CHECK(is_place(place, REGISTRY_NOWHERE, 25, 25, no_member));
   CHECK(registry_c_join(*client, other, client, &other) == REGISTRY_JOINED);
   CHECK(registry_c_seen(*client, client) == 25 && registry_c_left(*client, client) == left - 1);
   return 0;
@@ -249,7 +267,8 @@ int main(void) {
   if (refusals()) return 1;
   if (registry_c_new(&limits, fixed, 2, &client) != REGISTRY_NEW) return 1;
   heap_count_from_here(0);
-  if (loads(&client) || registrations(&client) || places(&client) || members(&client)) return 1;
+  if (loads(&client) || registrations(&client) || places(&client)) return 1;
+  if (cached_places(&client) || members(&client)) return 1;
   CHECK(heap_calls() == 0);
   if (splits(&client) || spent(&client) || other_registries(&client)) return 1;
   if (closes(client) || node_counts()) return 1;

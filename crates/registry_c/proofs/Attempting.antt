@@ -12,6 +12,8 @@ use Rattle.btree_change.specs.Updates.{GivesUp}
 use Rattle.node_store.specs.declared.locking.Busy.{Busy}
 use Rattle.node_store.specs.declared.locking.Busy.TheVariants as busy
 use Rattle.word_rule.specs.Callers.{IsIdle}
+use Rattle.reg_model.specs.declared.answer.Half.TheVariants.{Loaded, Registered}
+use Rattle.registry_c.proofs.Caches.{GoOnToFit, adds_none, still_fits}
 use Rattle.registry_c.specs.Clients.{ClientData, IsClient, begun_count}
 use Rattle.registry_c.specs.Members.{given_member}
 use Rattle.registry_c.specs.Tries.{Begins, TriesCall, is_lost}
@@ -30,6 +32,8 @@ module _ (r : RegistryMember) (c mid : ClientData) (k : CallerData) (may : MayAd
     may = b.may;
     stepped = subst (λ (z : CallerData). step z k) (ap (λ (z : ClientData). z.me) b.begun) s;
     words = ap (λ (z : ClientData). z.words) b.begun;
+    registered = ap (λ (z : ClientData). z.registered) b.begun;
+    loaded = ap (λ (z : ClientData). z.loaded) b.begun;
     name = ap (λ (z : ClientData). z.name) b.begun;
     begun_now = refl;
     lost_now = ap (λ (z : ClientData). z.lost) b.begun ∙ b.may.0;
@@ -53,6 +57,8 @@ module _ (r : RegistryMember) (c mid : ClientData) (k : CallerData) (may : MayAd
     may = b.may;
     stepped = subst (λ (z : CallerData). step z k) (ap (λ (z : ClientData). z.me) b.begun) s;
     words = ap (λ (z : ClientData). z.words) b.begun;
+    registered = ap (λ (z : ClientData). z.registered) b.begun;
+    loaded = ap (λ (z : ClientData). z.loaded) b.begun;
     name = ap (λ (z : ClientData). z.name) b.begun;
     begun_now = ap (λ (z : ClientData). z.begun) b.begun;
     lost_now = refl;
@@ -84,11 +90,13 @@ count_most : (b : Bool) → begun_count b ≤ 1
 count_most true = omega arith
 count_most false = omega arith
 
-pub gave_up : (mid : ClientData) (why : Busy) (k : CallerData) → IsClient mid → GivesUp why mid.me k → 0 < due k → IsClient (record mid { me = k; lost = is_lost why })
-gave_up mid why k is g begun = record {
+pub gave_up : GoOnToFit → (mid : ClientData) (why : Busy) (k : CallerData) → IsClient mid → GivesUp why mid.me k → 0 < due k → IsClient (record mid { me = k; lost = is_lost why })
+gave_up law mid why k is g begun = record {
   home = g.table ∙ is.home;
   held = g.nothing.0;
   loader = g.loader ∙ is.loader;
   out = none_out why k.log.holdings.out g.nothing.1;
   owed = let one = count_most mid.begun in omega (arith, begun, one);
+  registered = still_fits law Registered mid.registered mid.me k (adds_none mid.me k (ap (λ r. r.own) g.receipts)) is.registered;
+  loaded = still_fits law Loaded mid.loaded mid.me k (adds_none mid.me k (ap (λ r. r.own) g.receipts)) is.loaded;
 }

@@ -1,3 +1,4 @@
 mod Attempting
 mod Handles
 mod FixedMembers
+mod Caches

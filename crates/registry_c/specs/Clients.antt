@@ -1,12 +1,19 @@
--- A client: the words that it shares, its caller, whether an update call is begun, whether it lost
--- a node, and the name of its registry.
+-- A client: the words that it shares, its caller, its last hits in each half, whether an update
+-- call is begun, whether it lost a node, and the name of its registry.
 use Rattle.std.specs.Prelude.{◌≡◌, ℕ, ◌+◌, ◌≤◌, Bool, true, false, [], Option, Some, None}
 use Rattle.std.specs.Prelude.{Result, Ok, Err}
+use Rattle.frame_cache.specs.CacheData.{CacheData}
+use Rattle.frame_cache.specs.Cached.{FitsCaller}
+use Rattle.reg_model.specs.declared.answer.Half.{Half}
+use Rattle.reg_model.specs.declared.answer.Half.TheVariants.{Loaded, Registered}
 use Rattle.word_rule.specs.CallerData.{CallerData, WordsData}
+use Rattle.word_rule.specs.declared.log.Log.{Log}
 
 pub record ClientData : Type 0 where
   pub words : WordsData
   pub me : CallerData
+  pub registered : CacheData
+  pub loaded : CacheData
   pub begun : Bool
   pub lost : Bool
   pub name : ℕ
@@ -16,6 +23,14 @@ abbrev pub begun_count : Bool → ℕ
 begun_count true = 1
 begun_count false = 0
 
+-- A cache of this half without entries.
+abbrev pub empty_cache : Half → CacheData
+empty_cache half = record { half = half; stamp = 0; entries = [] }
+
+-- A cache is of this half, and its caller had each of its entries answered.
+abbrev pub IsCacheOf : Half → CacheData → Log → Type 0
+IsCacheOf half cache v = (cache.half ≡ half) × FitsCaller cache v
+
 -- Between two calls of C: its caller steps on these words, holds no lock, and has no node out
 -- unless it lost one. The calls that are left and the one that is begun are allowed.
 pub record IsClient (c : ClientData) : Type 0 where
@@ -24,6 +39,8 @@ pub record IsClient (c : ClientData) : Type 0 where
   pub loader : c.me.log.loader ≡ None
   pub out : c.lost ≡ false → c.me.log.holdings.out ≡ []
   pub owed : c.me.left + begun_count c.begun ≤ c.me.log.budget.allowance
+  pub registered : IsCacheOf Registered c.registered c.me.log
+  pub loaded : IsCacheOf Loaded c.loaded c.me.log
 
 -- a handle leads to a client, or to nothing
 abbrev pub LeadsToClient : Option ClientData → Type 0

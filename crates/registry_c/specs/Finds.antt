@@ -1,17 +1,23 @@
 -- Lookups of a client, and what C is told of them.
-use Rattle.std.specs.Prelude.{◌≡◌, ℕ, ◌⊎◌, Option, Some, None, Result, Ok, Err, IsOk}
+use Rattle.std.specs.Prelude.{◌≡◌, ℕ, ◌⊎◌, Option, Some, None, Result, Ok, Err, IfOk, IsOk}
 use Rattle.array_publish.specs.Lookup.{LooksUp}
 use Rattle.btree_lookup.specs.Tries.{TriesTree}
 use Rattle.reg_model.specs.Receipt.{IsPlace}
 use Rattle.reg_model.specs.declared.answer.Again.{Again}
+use Rattle.frame_cache.specs.CacheData.{CacheData}
+use Rattle.frame_cache.specs.Cached.{CachedTry, IsAnswerOf}
 use Rattle.reg_model.specs.declared.answer.Found.{Found}
 use Rattle.reg_model.specs.declared.answer.Found.TheVariants.{Hit, Miss}
+use Rattle.reg_model.specs.declared.answer.Half.{Half}
+use Rattle.reg_model.specs.declared.answer.Half.TheVariants.{Loaded, Registered}
 use Rattle.reg_model.specs.declared.answer.Place.{Place}
 use Rattle.word_rule.specs.CallerData.{CallerData}
 use Rattle.word_rule.specs.Callers.{IsAlone}
 use Rattle.word_rule.specs.declared.log.Terms.{Terms}
 use Rattle.registry_c.specs.Clients.{ClientData}
 use Rattle.registry_c.specs.Members.{member_told, no_member}
+use Rattle.registry_c.specs.declared.find.LookupBy.{LookupBy}
+use Rattle.registry_c.specs.declared.find.LookupBy.TheVariants as by
 use Rattle.registry_c.specs.declared.find.RegistryFound.{RegistryFound}
 use Rattle.registry_c.specs.declared.find.RegistryPlace.{RegistryPlace}
 
@@ -28,17 +34,42 @@ AsksRegistered = Asks TriesTree
 abbrev pub AsksLoaded : ℕ → ClientData → ClientData → Result Found Again → Type 0
 AsksLoaded = Asks LooksUp
 
+-- One half was asked once by the cache of its last hits. Each answer is right at its stamp, which
+-- isn't below what the client had seen. Whoever is alone is answered.
+pub record AsksCache (half : Half) (pc : ℕ) (cache cache' : CacheData) (c c' : ClientData)
+    (result : Result Found Again) : Type 0 where
+  pub stepped : CachedTry c.words.terms pc cache cache' c.me c'.me result
+  pub right : IfOk result (IsAnswerOf c.words.terms half pc c.me c'.me)
+  pub alone : IsAlone c.me.log.lineage → IsOk result
+
+abbrev pub AsksRegisteredCached : ℕ → ClientData → ClientData → Result Found Again → Type 0
+AsksRegisteredCached pc c c' result = (c' ≡ record c { me = c'.me; registered = c'.registered })
+    × AsksCache Registered pc c.registered c'.registered c c' result
+
+abbrev pub AsksLoadedCached : ℕ → ClientData → ClientData → Result Found Again → Type 0
+AsksLoadedCached pc c c' result = (c' ≡ record c { me = c'.me; loaded = c'.loaded })
+    × AsksCache Loaded pc c.loaded c'.loaded c c' result
+
+-- how each half is asked
+abbrev pub AsksRegisteredBy : LookupBy → ℕ → ClientData → ClientData → Result Found Again → Type 0
+AsksRegisteredBy by.Tables = AsksRegistered
+AsksRegisteredBy by.Caches = AsksRegisteredCached
+
+abbrev pub AsksLoadedBy : LookupBy → ℕ → ClientData → ClientData → Result Found Again → Type 0
+AsksLoadedBy by.Tables = AsksLoaded
+AsksLoadedBy by.Caches = AsksLoadedCached
+
 -- The registered half was asked once, and where that misses the loader's, once. The one that isn't
 -- answered is the last one asked.
-abbrev pub FindsOnce : ℕ → ClientData → ClientData → Result Place Again → Type 0
-FindsOnce pc c c' (Ok place) = IsPlace place × elim place.loaded [
-  | None ↦ AsksRegistered pc c c' (Ok place.registered)
-  | Some found ↦ (mid : ClientData) × (AsksRegistered pc c mid (Ok place.registered)
-      × AsksLoaded pc mid c' (Ok found))
+abbrev pub FindsOnce : LookupBy → ℕ → ClientData → ClientData → Result Place Again → Type 0
+FindsOnce how pc c c' (Ok place) = IsPlace place × elim place.loaded [
+  | None ↦ AsksRegisteredBy how pc c c' (Ok place.registered)
+  | Some found ↦ (mid : ClientData) × (AsksRegisteredBy how pc c mid (Ok place.registered)
+      × AsksLoadedBy how pc mid c' (Ok found))
 ]
-FindsOnce pc c c' (Err again) = AsksRegistered pc c c' (Err again)
-    ⊎ ((mid : ClientData) × (stamp : ℕ) × (AsksRegistered pc c mid (Ok (Miss stamp))
-    × AsksLoaded pc mid c' (Err again)))
+FindsOnce how pc c c' (Err again) = AsksRegisteredBy how pc c c' (Err again)
+    ⊎ ((mid : ClientData) × (stamp : ℕ) × (AsksRegisteredBy how pc c mid (Ok (Miss stamp))
+    × AsksLoadedBy how pc mid c' (Err again)))
 
 -- the kinds of answers of one half
 abbrev pub MISS : ℕ

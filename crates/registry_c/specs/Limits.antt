@@ -2,7 +2,8 @@
 use Rattle.std.specs.Prelude.{◌≡◌, ℕ, ◌≤◌, false, List, map, Option, Result, Ok, Err}
 use Rattle.word_rule.specs.Logs.{first_log}
 use Rattle.word_rule.specs.Places.{ALLOWANCE}
-use Rattle.registry_c.specs.Clients.{ClientData, opened}
+use Rattle.reg_model.specs.declared.answer.Half.TheVariants.{Loaded, Registered}
+use Rattle.registry_c.specs.Clients.{ClientData, empty_cache, opened}
 use Rattle.registry_c.specs.Members.{AreGivenMembers, given_member}
 use Rattle.registry_c.specs.declared.limits.LimitFault.{LimitFault}
 use Rattle.registry_c.specs.declared.limits.LimitFault.TheVariants.{Fixed, Loads, NoMemory, Nodes}
@@ -46,6 +47,8 @@ pub record IsFirst (l : RegistryLimits) (fixed : List RegistryMember) (c : Clien
       left = ALLOWANCE;
       log = first_log c.words.terms;
     }
+    pub registered : c.registered ≡ empty_cache Registered
+    pub loaded : c.loaded ≡ empty_cache Loaded
     pub idle : c.begun ≡ false
     pub kept : c.lost ≡ false
     pub name : c.name ≡ l.name

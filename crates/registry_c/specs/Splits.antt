@@ -3,7 +3,8 @@ use Rattle.std.specs.Prelude.{◌≡◌, ◌≢◌, ◌<◌, ◌≤◌, ℕ, ◌
 use Rattle.std.specs.Prelude.{Result, Ok, Err}
 use Rattle.registry_core.specs.Rounds.{IsWholeWhereAlone, after_one_join, after_one_split}
 use Rattle.registry_core.specs.Rounds.{one_split_off}
-use Rattle.registry_c.specs.Clients.{ClientData, opened}
+use Rattle.reg_model.specs.declared.answer.Half.TheVariants.{Loaded, Registered}
+use Rattle.registry_c.specs.Clients.{ClientData, empty_cache, opened}
 use Rattle.registry_c.specs.declared.splits.JoinAnswer.{JoinAnswer}
 use Rattle.registry_c.specs.declared.splits.JoinAnswer.TheVariants.{Joined, NoMemoryToJoin}
 use Rattle.registry_c.specs.declared.splits.JoinAnswer.TheVariants.{OtherRegistry}
@@ -15,6 +16,8 @@ abbrev pub split_client : ℕ → ClientData → ClientData
 split_client give c = record {
   words = c.words;
   me = one_split_off give c.me;
+  registered = empty_cache Registered;
+  loaded = empty_cache Loaded;
   begun = false;
   lost = false;
   name = c.name;
@@ -51,6 +54,8 @@ ShareByName other c = other.name ≡ c.name → other.words.table ≡ c.words.ta
 pub record JoinsClient (other c c' : ClientData) : Type 0 where
   pub words : c'.words ≡ c.words
   pub me : c'.me ≡ after_one_join other.me c.me
+  pub registered : c'.registered ≡ c.registered
+  pub loaded : c'.loaded ≡ c.loaded
   pub begun : c'.begun ≡ (c.begun || other.begun)
   pub lost : c'.lost ≡ c.lost
   pub name : c'.name ≡ c.name

@@ -39,6 +39,8 @@ pub record TriesCall (step : CallerData → CallerData → Type 0) (begun lost :
   pub may : MayTry c
   pub stepped : step (begun_caller c) c'.me
   pub words : c'.words ≡ c.words
+  pub registered : c'.registered ≡ c.registered
+  pub loaded : c'.loaded ≡ c.loaded
   pub name : c'.name ≡ c.name
   pub begun_now : c'.begun ≡ begun
   pub lost_now : c'.lost ≡ lost

@@ -7,6 +7,8 @@ ghost use Rattle.registry_core.specs.Rounds.{IsWholeWhereAlone};
 
 use crate::limits::{LimitFault, RegistryLimits, fixed_members};
 use crate::member::RegistryMember;
+use frame_cache::FrameCache;
+use reg_model::Half;
 use registry_core::Registry;
 use std::alloc::Global;
 use std::marker::Model;
@@ -18,6 +20,10 @@ use word_rule::Caller;
 pub struct Client {
     pub(crate) registry: Arc<Registry, Global>,
     pub(crate) me: Caller,
+    /// Its last hits among what is registered.
+    pub(crate) registered: FrameCache,
+    /// And among what is loaded.
+    pub(crate) loaded: FrameCache,
     /// Whether an update call is begun, and not answered yet.
     pub(crate) begun: bool,
     /// Whether a node couldn't be put back: it makes no more updates then.
@@ -38,6 +44,8 @@ impl Model for Client {
     ghost view = { λ c. record {
       words = arc_value c.registry;
       me = c.me;
+      registered = c.registered;
+      loaded = c.loaded;
       begun = c.begun;
       lost = c.lost;
       name = c.name;
@@ -46,6 +54,8 @@ impl Model for Client {
     ghost invariant = { λ c. IsClient record {
       words = arc_value c.registry;
       me = c.me;
+      registered = c.registered;
+      loaded = c.loaded;
       begun = c.begun;
       lost = c.lost;
       name = c.name;
@@ -74,6 +84,8 @@ impl Client {
         let client = Client {
             registry,
             me,
+            registered: FrameCache::new(Half::Registered),
+            loaded: FrameCache::new(Half::Loaded),
             begun: false,
             lost: false,
             payloads: limits.payloads,

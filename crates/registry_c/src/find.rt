@@ -1,13 +1,15 @@
-//! Lookups: each is one try, takes no lock, counts no share, and stores nothing.
+//! Lookups: each is one try, takes no lock, counts no share, and stores nothing that is shared.
 
 ghost use Rattle.std.specs.Prelude.{◌≡◌, Ok};
 ghost use Rattle.registry_c.specs.Clients.{LeadsToClient, LeadsNowhere, Makes};
-ghost use Rattle.registry_c.specs.Finds.{AsksLoaded, AsksRegistered, FindsOnce, TellsFind};
+ghost use Rattle.registry_c.specs.Finds.{AsksLoaded, AsksLoadedBy, AsksRegistered};
+ghost use Rattle.registry_c.specs.Finds.{AsksRegisteredBy, FindsOnce, TellsFind};
 ghost use Rattle.registry_c.specs.Finds.{found_told, loaded_told, place_told};
 
 use crate::client::Client;
 use crate::handle::ClientHandle;
 use crate::member::RegistryMember;
+use frame_cache::laws::caches_go_on_to_fit;
 use reg_model::{Again, Found, Place};
 use std::alloc::Global;
 
@@ -28,6 +30,13 @@ pub struct RegistryPlace {
     pub registered: u32,
     pub loaded: u32,
     pub member: RegistryMember,
+}
+
+/// By what a half is asked: by its shared tables alone, or first by the client's last hits.
+#[derive(Clone, Copy, Debug, PartialEq, Eq)]
+pub enum LookupBy {
+    Tables,
+    Caches,
 }
 
 const MISS: u32 = 0;
@@ -123,6 +132,7 @@ impl Client {
     fn try_registered(&mut self, pc: u64) -> Result<Found, Again>
         ensures { AsksRegistered pc self.old self.new result }
     {
+        caches_go_on_to_fit();
         self.registry.try_registered(&mut self.me, pc)
     }
 
@@ -130,14 +140,35 @@ impl Client {
     fn try_loaded(&mut self, pc: u64) -> Result<Found, Again>
         ensures { AsksLoaded pc self.old self.new result }
     {
+        caches_go_on_to_fit();
         self.registry.try_loaded(&mut self.me, pc)
     }
 
-    /// Asks the registered half once, and where that misses the loader's.
-    fn find(&mut self, pc: u64) -> Result<Place, Again>
-        ensures { FindsOnce pc self.old self.new result }
+    fn registered_by(&mut self, how: LookupBy, pc: u64) -> Result<Found, Again>
+        ensures { AsksRegisteredBy how pc self.old self.new result }
     {
-        let registered = match self.try_registered(pc) {
+        caches_go_on_to_fit();
+        match how {
+            LookupBy::Tables => self.try_registered(pc),
+            LookupBy::Caches => self.registered.try_cached(&self.registry, &mut self.me, pc),
+        }
+    }
+
+    fn loaded_by(&mut self, how: LookupBy, pc: u64) -> Result<Found, Again>
+        ensures { AsksLoadedBy how pc self.old self.new result }
+    {
+        caches_go_on_to_fit();
+        match how {
+            LookupBy::Tables => self.try_loaded(pc),
+            LookupBy::Caches => self.loaded.try_cached(&self.registry, &mut self.me, pc),
+        }
+    }
+
+    /// Asks the registered half once, and where that misses the loader's.
+    fn find(&mut self, how: LookupBy, pc: u64) -> Result<Place, Again>
+        ensures { FindsOnce how pc self.old self.new result }
+    {
+        let registered = match self.registered_by(how, pc) {
             Ok(registered) => registered,
             Err(again) => return Err(again),
         };
@@ -146,7 +177,7 @@ impl Client {
                 registered,
                 loaded: None,
             }),
-            Found::Miss { .. } => match self.try_loaded(pc) {
+            Found::Miss { .. } => match self.loaded_by(how, pc) {
                 Ok(loaded) => Ok(Place {
                     registered,
                     loaded: Some(loaded),
@@ -169,10 +200,10 @@ fn tell_loaded(client: &mut Client, pc: u64, found: &mut RegistryFound)
     *found = RegistryFound::of(client.try_loaded(pc));
 }
 
-fn tell_place(client: &mut Client, pc: u64, place: &mut RegistryPlace)
-    ensures { TellsFind FindsOnce place_told pc place.new client.old client.new }
+fn tell_place(client: &mut Client, how: LookupBy, pc: u64, place: &mut RegistryPlace)
+    ensures { TellsFind (FindsOnce how) place_told pc place.new client.old client.new }
 {
-    *place = RegistryPlace::of(client.find(pc));
+    *place = RegistryPlace::of(client.find(how, pc));
 }
 
 /// Looks an address up once among the registered members: a miss or a hit at a stamp, or again
@@ -225,9 +256,30 @@ pub extern "C" fn registry_c_find(
 )
     requires client { LeadsToClient client.held }
     requires back { LeadsNowhere back.old.held }
-    ensures { Makes (TellsFind FindsOnce place_told pc place.new) client.held back.new.held }
+    ensures { Makes (TellsFind (FindsOnce LookupBy.Tables) place_told pc place.new) client.held
+        back.new.held }
 {
     let mut open = client.open(alloc);
-    tell_place(&mut open, pc, place);
+    tell_place(&mut open, LookupBy::Tables, pc, place);
+    *back = ClientHandle::of(open);
+}
+
+/// As `registry_c_find`, but each half is asked by the client's last eight hits in it first: where
+/// nothing was accepted since they were found, one that has the address is the answer, by one load.
+#[unsafe(no_mangle)]
+pub extern "C" fn registry_c_find_cached(
+    alloc: Global,
+    client: ClientHandle,
+    pc: u64,
+    place: &mut RegistryPlace,
+    back: &mut ClientHandle,
+)
+    requires client { LeadsToClient client.held }
+    requires back { LeadsNowhere back.old.held }
+    ensures { Makes (TellsFind (FindsOnce LookupBy.Caches) place_told pc place.new) client.held
+        back.new.held }
+{
+    let mut open = client.open(alloc);
+    tell_place(&mut open, LookupBy::Caches, pc, place);
     *back = ClientHandle::of(open);
 }

@@ -22,7 +22,8 @@ pub use clients::{
     registry_c_split,
 };
 pub use find::{
-    RegistryFound, RegistryPlace, registry_c_find, registry_c_try_loaded, registry_c_try_registered,
+    LookupBy, RegistryFound, RegistryPlace, registry_c_find, registry_c_find_cached,
+    registry_c_try_loaded, registry_c_try_registered,
 };
 pub use handle::ClientHandle;
 pub use limits::RegistryLimits;

@@ -4,6 +4,9 @@ ghost use Rattle.std.specs.Prelude.{◌≡◌, MatchResult, IfErr, IfSome, OnErr
 ghost use Rattle.registry_c.specs.Splits.{JoinsClient, SplitsOff, join_told};
 
 use crate::client::Client;
+use frame_cache::FrameCache;
+use frame_cache::laws::caches_go_on_to_fit;
+use reg_model::Half;
 use std::alloc::Global;
 use std::sync::Arc;
 
@@ -45,6 +48,7 @@ impl Client {
         ensures { MatchResult result (λ other. SplitsOff give self.old self.new (Ok other.value))
             (λ fault. SplitsOff give self.old self.new (Err fault)) }
     {
+        caches_go_on_to_fit();
         if give > self.me.left() {
             return Err(SplitFault::Few);
         }
@@ -57,6 +61,8 @@ impl Client {
         let other = Client {
             registry,
             me,
+            registered: FrameCache::new(Half::Registered),
+            loaded: FrameCache::new(Half::Loaded),
             begun: false,
             lost: false,
             payloads: self.payloads,
@@ -80,12 +86,15 @@ impl Client {
         ensures same { OnErr result (self.new ≡ self.old) }
         ensures back { IfErr result (λ back. IfSome back (λ b. b.value ≡ other.value)) }
     {
+        caches_go_on_to_fit();
         if other.lost {
             return Err(Some(other));
         }
         let Client {
             registry,
             me,
+            registered,
+            loaded,
             begun,
             payloads,
             name,
@@ -98,6 +107,8 @@ impl Client {
         let other = Client {
             registry,
             me,
+            registered,
+            loaded,
             begun,
             lost: false,
             payloads,

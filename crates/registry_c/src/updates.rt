@@ -14,6 +14,7 @@ use crate::attempt::{Attempt, RegistryAnswer};
 use crate::client::Client;
 use crate::handle::ClientHandle;
 use crate::member::RegistryMember;
+use frame_cache::laws::caches_go_on_to_fit;
 use node_store::{Busy, Once};
 use reg_model::{Inserted, Loading, Removed};
 use std::alloc::Global;
@@ -59,6 +60,7 @@ impl Client {
     fn register(&mut self, told: &RegistryMember) -> Attempt<Inserted>
         ensures { Registers told.now self.old self.new result }
     {
+        caches_go_on_to_fit();
         let Some(member) = told.member(self.payloads) else {
             return Attempt::NoMember;
         };
@@ -82,6 +84,7 @@ impl Client {
     fn deregister(&mut self, base: u64) -> Attempt<Removed>
         ensures { Deregisters base self.old self.new result }
     {
+        caches_go_on_to_fit();
         if !self.begin() {
             let answer = Removed::Spent;
             return Attempt::Answered { answer };
@@ -102,6 +105,7 @@ impl Client {
     fn load(&mut self, told: &RegistryMember) -> Attempt<Loading>
         ensures { Loads told.now self.old self.new result }
     {
+        caches_go_on_to_fit();
         let Some(member) = told.member(self.payloads) else {
             return Attempt::NoMember;
         };
@@ -122,6 +126,7 @@ impl Client {
     fn unload(&mut self, base: u64) -> Attempt<Removed>
         ensures { Unloads base self.old self.new result }
     {
+        caches_go_on_to_fit();
         if !self.begin() {
             let answer = Removed::Spent;
             return Attempt::Answered { answer };
