@@ -10,3 +10,5 @@ mod rounds;
 mod tree_lookups;
 #[cfg(test)]
 mod tree_rounds;
+#[cfg(test)]
+mod writers;
