@@ -265,12 +265,7 @@ fn keep_too(at: &Held, so_far: Option<Beyond>) -> Option<Beyond>
 }
 
 /// Lets go of the nodes that are kept above others.
-fn let_go_of_kept<L: Locking>(
-    locking: &L,
-    words: &Words,
-    me: &mut Caller,
-    beyond: Option<Beyond>,
-)
+fn let_go_of_kept<L: Locking>(locking: &L, words: &Words, me: &mut Caller, beyond: Option<Beyond>)
     requires table { me.old.table ≡ words.now.table }
     requires path { (below : List Holding)
         × HoldsPath words.now.terms (kept_above beyond) below me.old.log.holdings }

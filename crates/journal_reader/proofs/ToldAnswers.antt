@@ -146,7 +146,7 @@ module _ (script : ScriptData) (journal : JournalData) (told : IsToldJournal scr
   pub told_sized : IsSized journal
   told_sized = record {
     answers = zip_second (AllZip (AllZip Told)) (AllByRecursion (AllByRecursion IsSizedAnswer))
-    (zip_second (AllZip Told) (AllByRecursion IsSizedAnswer) (zip_second Told IsSizedAnswer (answer_sized script.images))) script.rounds journal.rounds told.answered;
+        (zip_second (AllZip Told) (AllByRecursion IsSizedAnswer) (zip_second Told IsSizedAnswer (answer_sized script.images))) script.rounds journal.rounds told.answered;
     updates = told.updates;
   }
 
