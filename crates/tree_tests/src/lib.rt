@@ -5,6 +5,8 @@
 #[cfg(test)]
 mod insertions;
 #[cfg(test)]
+mod readers;
+#[cfg(test)]
 mod rounds;
 #[cfg(test)]
 mod tree_lookups;

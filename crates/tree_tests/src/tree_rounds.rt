@@ -11,7 +11,7 @@ use std::thread::{Threads, join};
 use word_rule::Caller;
 
 // The range with a number: sixteen addresses from a base of its own on.
-fn range(number: u32) -> Option<Member>
+pub(crate) fn range(number: u32) -> Option<Member>
     ensures { IfSome result (λ m. m.payload ≡ number) }
 {
     let span = Span::new(0x1000 + 0x100 * number as u64, 0x10)?;
@@ -22,7 +22,12 @@ fn range(number: u32) -> Option<Member>
 }
 
 // Whether the ranges with numbers below this one are registered in order, each with its number.
-fn register_all<R: Wait>(rt: &R, registry: &Registry, me: &mut Caller, count: u32) -> bool
+pub(crate) fn register_all<R: Wait>(
+    rt: &R,
+    registry: &Registry,
+    me: &mut Caller,
+    count: u32,
+) -> bool
     requires table { me.old.table ≡ registry.now.table }
     requires idle { IsIdle me.old.log }
     requires payloads { count ≤ registry.now.terms.payloads }
@@ -86,12 +91,12 @@ fn four_nodes_are_full_at_twenty(rt: HostRuntime) -> Result<(), Fail> {
 }
 
 // How many ranges each of four threads registers, and all of them.
-const EACH: u32 = 2_500;
+pub(crate) const EACH: u32 = 2_500;
 
-const ALL: u32 = 10_000;
+pub(crate) const ALL: u32 = 10_000;
 
 #[derive(Clone, Copy)]
-enum Event {
+pub(crate) enum Event {
     Registered { range: u32, answer: Inserted },
     Looked { range: u32, found: Found },
 }
@@ -149,7 +154,7 @@ fn take_part<R: Wait>(
 }
 
 // Two threads take part side by side.
-fn two_take_part<R: Threads + Wait + Sync>(
+pub(crate) fn two_take_part<R: Threads + Wait + Sync>(
     rt: &R,
     alloc: Global,
     registry: &Registry,
@@ -207,13 +212,18 @@ fn four_take_part<R: Threads + Wait + Sync>(
     )
 }
 
-// The number of each range, where an event says it, once each.
-fn numbers_of(alloc: Global, parts: &[Vec<Event>]) -> Result<Option<Vec<u32>>, Fail> {
+// The number of each range, where an event says it, once each. One that none registered never has
+// any.
+pub(crate) fn numbers_of(alloc: Global, parts: &[Vec<Event>]) -> Result<Option<Vec<u32>>, Fail> {
     let mut numbers = Vec::new(alloc);
     let mut taken = Vec::new(alloc);
     for _ in 0..ALL {
-        numbers.push(0u32)?;
-        taken.push(false)?;
+        numbers.push(u32::MAX)?;
+    }
+    for _ in parts {
+        for _ in 0..EACH {
+            taken.push(false)?;
+        }
     }
     for part in parts {
         for event in part {
@@ -242,7 +252,7 @@ fn numbers_of(alloc: Global, parts: &[Vec<Event>]) -> Result<Option<Vec<u32>>, F
 
 // Whether the range was found exactly where its number isn't above the stamp, and stamps and
 // numbers never fall.
-fn are_right(numbers: &[u32], events: &[Event]) -> bool {
+pub(crate) fn are_right(numbers: &[u32], events: &[Event]) -> bool {
     let mut since = 0;
     for event in events {
         let now = match event {

@@ -67,12 +67,13 @@ impl Words {
             ≡ record { table = me.old.table; left = 0; log = reader_of me.old.log } }
         ensures same { me.new ≡ me.old }
     {
-        let seen = me.seen;
-        let seat = self.table.shared.split_seat::<Reads>(&mut me.seat);
-        Reader { seat, seen }
+        Reader {
+            seat: self.table.shared.split_seat::<Reads>(&mut me.seat),
+            seen: me.seen,
+        }
     }
 
-    /// Makes a reader from the words alone, which has seen all that was accepted by now.
+    /// Makes a reader from the words alone, which has seen each update that was accepted by now.
     pub fn reader(&self) -> Reader
         ensures table { result.table ≡ self.now.table }
         ensures log { (past : List Update) × (result.log ≡ reader_log self.now.terms past) }

@@ -1,0 +1,139 @@
+//! Readers: each way to make one, and sixteen beside two writers.
+ghost use Rattle.std.specs.Prelude.{◌≡◌, ◌≤◌};
+ghost use Rattle.word_rule.specs.Callers.{IsIdle};
+
+use crate::tree_rounds::{
+    ALL, EACH, Event, are_right, numbers_of, range, register_all, two_take_part,
+};
+use reg_model::{Found, Member};
+use registry_core::Registry;
+use std::alloc::Global;
+use std::sync::Wait;
+use std::test::Fail;
+use std::thread::{Threads, join, map_indices};
+use word_rule::Caller;
+
+const READERS: usize = 16;
+
+// Looks at the bases of ranges, by a reader of its own. What it was told.
+fn read_along<R: Wait>(
+    rt: &R,
+    alloc: Global,
+    registry: &Registry,
+    reader: u32,
+) -> Option<Vec<Event>>
+    requires { reader ≤ 16 }
+{
+    let mut me = registry.reader();
+    let mut events = Vec::new(alloc);
+    for turn in 0..EACH {
+        let number = (turn * 3_343 + reader) % ALL;
+        let pc = range(number)?.span.first();
+        let found = registry.find(rt, &mut me, pc).registered;
+        let looked = Event::Looked {
+            range: number,
+            found,
+        };
+        if events.push(looked).is_err() {
+            return None;
+        }
+    }
+    Some(events)
+}
+
+// Two writers and sixteen readers side by side.
+fn write_and_read<R: Threads + Wait + Sync>(
+    rt: &R,
+    alloc: Global,
+    registry: &Registry,
+    writers: (Caller, Caller),
+) -> (
+    (Option<Vec<Event>>, Option<Vec<Event>>),
+    Option<Vec<Option<Vec<Event>>>>,
+)
+    requires tables { (writers.0.table ≡ registry.now.table)
+        × (writers.1.table ≡ registry.now.table) }
+    requires idle { IsIdle writers.0.log × IsIdle writers.1.log }
+    requires payloads { ALL ≤ registry.now.terms.payloads }
+{
+    join(
+        rt,
+        || -> (Option<Vec<Event>>, Option<Vec<Event>>)
+            requires { (writers.0.table ≡ registry.now.table)
+                × (writers.1.table ≡ registry.now.table) × IsIdle writers.0.log
+                × IsIdle writers.1.log × (ALL ≤ registry.now.terms.payloads) }
+        { two_take_part(rt, alloc, registry, writers, 0) },
+        || -> Option<Vec<Option<Vec<Event>>>> { read_side_by_side(rt, alloc, registry) },
+    )
+}
+
+fn read_side_by_side<R: Threads + Wait + Sync>(
+    rt: &R,
+    alloc: Global,
+    registry: &Registry,
+) -> Option<Vec<Option<Vec<Event>>>> {
+    let read = &|reader: usize| -> Option<Vec<Event>>
+        requires { reader ≤ 15 }
+    { read_along(rt, alloc, registry, reader as u32) };
+    map_indices(rt, alloc, READERS, read).ok()
+}
+
+#[test]
+fn sixteen_readers_beside_two_writers(rt: HostRuntime) -> Result<(), Fail> {
+    let alloc = rt.alloc();
+    let (registry, mut a) = Registry::new(alloc, 4_096, 1, ALL, Vec::new(alloc))?;
+    let b = registry.words().split(alloc, &mut a, EACH)?;
+    let (written, read) = write_and_read(&rt, alloc, &registry, (a, b));
+    let (Some(one), Some(two), Some(read)) = (written.0, written.1, read) else {
+        panic!(rt; "no memory")
+    };
+    let parts = vec![in alloc; one, two]?;
+    let Some(numbers) = numbers_of(alloc, &parts)? else {
+        panic!(rt; "a number that is missing, or stands twice")
+    };
+    for part in &parts {
+        assert!(rt; are_right(&numbers, part));
+    }
+    for part in &read {
+        let Some(looked) = part else {
+            panic!(rt; "no memory")
+        };
+        assert!(rt; are_right(&numbers, looked));
+    }
+    Ok(())
+}
+
+// The payload of what was found, and the stamp.
+fn told(found: Found) -> (Option<u32>, u32) {
+    match found {
+        Found::Hit {
+            member: Member { payload, .. },
+            stamp,
+        } => (Some(payload), stamp),
+        Found::Miss { stamp } => (None, stamp),
+    }
+}
+
+#[test]
+fn each_way_to_make_a_reader(rt: HostRuntime) -> Result<(), Fail> {
+    let alloc = rt.alloc();
+    let (registry, mut a) = Registry::new(alloc, 4, 1, 2, Vec::new(alloc))?;
+    assert!(rt; register_all(&rt, &registry, &mut a, 2));
+    let mut first = registry.reader_of(&mut a);
+    let mut second = registry.another_reader(&mut first);
+    let mut third = registry.reader();
+    assert!(rt; first.seen() == 2 && second.seen() == 2 && third.seen() == 2);
+    let place = registry.find(&rt, &mut first, 0x1108);
+    assert!(rt; told(place.registered) == (Some(1), 2) && place.loaded.is_none());
+    let Ok(found) = registry.try_registered(&mut second, 0x1110) else {
+        panic!(rt; "again")
+    };
+    assert!(rt; told(found) == (None, 2));
+    let Ok(found) = registry.try_loaded(&mut third, 0x1108) else {
+        panic!(rt; "again")
+    };
+    assert!(rt; told(found) == (None, 2));
+    let alone = a.alone();
+    assert!(rt; alone);
+    Ok(())
+}
