@@ -83,9 +83,6 @@ full_alone t root m holdings h span full = record {
   out = h.out;
 }
 
-pub level_most : (t : Terms) (root : Held) (holdings : Holdings) → HoldsRoot t root holdings → root.content.level ≤ 12
-level_most t root holdings h = (settled_live t root.node root.content root.changed h.lock h.here).1.1.height h.root
-
 -- The root was lifted.
 module _ (t : Terms) (m : Member) (full : FullRoot) (k : CallerData) (held : HoldsFullRoot t full m.span.first k.log.holdings) (high : full.root.content.high ≡ 18446744073709551615) (span : IsSpan m.span) (split : Split) (k1 : CallerData) (lifts : LiftsRoot t full m.span.first split k k1) where
   parent_node : split.parent.node ≡ 0

@@ -54,8 +54,8 @@ fn sinks(x: &Siblings) -> bool
 }
 
 /// Joins two children of a held node, or gives them even shares, or sinks the root: the node that
-/// has the address, held alone, with one to spare. Lost where a node that left the tree can't be put
-/// back.
+/// has the address, held alone, with one to spare. Lost where a node that left the tree can't be
+/// put back.
 fn mend<L: Locking>(
     locking: &L,
     words: &Words,

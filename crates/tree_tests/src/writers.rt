@@ -93,7 +93,8 @@ fn sees_bit(words: &Words, me: &mut Caller, node: u32, bit: u64) -> bool
 // The leaf is let go of.
 fn watch<R: Wait>(rt: &R, words: &Words, me: &mut Caller, found: Leftmost) -> bool
     requires table { me.old.table ≡ words.now.table }
-    requires inside { (found.parent < words.now.terms.nodes) × (found.leaf < words.now.terms.nodes) }
+    requires inside { (found.parent < words.now.terms.nodes)
+        × (found.leaf < words.now.terms.nodes) }
     requires held { IsHeldClean (LockId.Node found.leaf) me.old.log }
 {
     let _nodes = words.nodes();
@@ -113,7 +114,8 @@ fn watch_and_insert<R: Threads + Wait + Sync>(
     between: Member,
 ) -> (bool, Inserted)
     requires tables { (callers.0.table ≡ words.now.table) × (callers.1.table ≡ words.now.table) }
-    requires inside { (found.parent < words.now.terms.nodes) × (found.leaf < words.now.terms.nodes) }
+    requires inside { (found.parent < words.now.terms.nodes)
+        × (found.leaf < words.now.terms.nodes) }
     requires held { IsHeldClean (LockId.Node found.leaf) callers.0.log }
     requires idle { IsIdle callers.1.log }
     requires payload { between.payload < words.now.terms.payloads }

@@ -7,7 +7,8 @@ use Rattle.btree_change.specs.Loads.{FoundNoRoom, KeepsLoads}
 use Rattle.node_store.specs.Locking.{FoundBusy}
 use Rattle.btree_change.specs.Roots.{EndsInsertion, GivesUpWhole}
 use Rattle.btree_change.specs.Splits.{HoldsFullAlone, IsRoomForRoot}
-use Rattle.btree_change.proofs.AtRoot.{ends_after, full_alone, full_root, gives_up_after, if_err, if_ok, kept_steps, level_most, root_gone, root_kept, root_lowest, root_stand, root_stands}
+use Rattle.btree_change.proofs.Rooted.{root_low}
+use Rattle.btree_change.proofs.AtRoot.{ends_after, full_alone, full_root, gives_up_after, if_err, if_ok, kept_steps, root_gone, root_kept, root_lowest, root_stand, root_stands}
 use Rattle.btree_change.proofs.Loading.{found_after, found_still}
 use Rattle.btree_change.proofs.NoRoom.{if_full, no_room_after, no_room_now, no_room_still}
 use Rattle.btree_change.proofs.Releasing.{lowest_may}
@@ -101,7 +102,7 @@ below-requires-clause-surplus g c =
     let t = c.args.words.now.terms in let m = c.args.member.now in let k = c.args.me.now in
     let root = c.args.root in let h = c.requires.root in let k1 = c.room_for_root.new.me in
     let none = subst (λ o. IsRoomForRoot g.L.Locking.gives_up root c.first.result k k1 (Ok o)) c.in-Ok-None.field-0-is c.in-Ok-None.ensures in let spent = kept_steps k k1 none.0 in
-    let e = c.requires.surplus in let low = level_most t root k.log.holdings h in surplus_steps 1 k k1 (2 * root.content.level + 0 + 13) spent (omega (arith, e, low))
+    let e = c.requires.surplus in let low = root_low t root k.log.holdings h in surplus_steps 1 k k1 (2 * root.content.level + 0 + 13) spent (omega (arith, e, low))
 
 pub let_go_of-requires-clause-inside : goal.let_go_of-requires-clause-inside
 let_go_of-requires-clause-inside g c =
@@ -146,7 +147,7 @@ returns-in-Ok-None-clause-answer g c =
     let t = c.args.words.now.terms in let m = c.args.member.now in let k = c.args.me.now in
     let root = c.args.root in let h = c.requires.root in let k1 = c.room_for_root.new.me in
     let none = subst (λ o. IsRoomForRoot g.L.Locking.gives_up root c.first.result k k1 (Ok o)) c.in-Ok-None.field-0-is c.in-Ok-None.ensures in let spent = kept_steps k k1 none.0 in
-    let low = level_most t root k.log.holdings h in
+    let low = root_low t root k.log.holdings h in
     if_ok (λ answer. EndsInsertion t m answer (2 * root.content.level + 0 + 13) k1 c.below.new.me) (λ answer. EndsInsertion t m answer 64 k c.below.new.me) c.below.result (λ answer e. ends_after t m answer 1 (2 * root.content.level + 0 + 13) 64 k k1 c.below.new.me (omega (arith, low)) spent e) c.below.ensures.answer
 
 pub returns-in-Ok-None-clause-busy : goal.returns-in-Ok-None-clause-busy
@@ -154,7 +155,7 @@ returns-in-Ok-None-clause-busy g c =
     let t = c.args.words.now.terms in let m = c.args.member.now in let k = c.args.me.now in
     let root = c.args.root in let h = c.requires.root in let k1 = c.room_for_root.new.me in
     let none = subst (λ o. IsRoomForRoot g.L.Locking.gives_up root c.first.result k k1 (Ok o)) c.in-Ok-None.field-0-is c.in-Ok-None.ensures in let spent = kept_steps k k1 none.0 in
-    let low = level_most t root k.log.holdings h in
+    let low = root_low t root k.log.holdings h in
     if_err (λ e. GivesUpWhole (2 * root.content.level + 0 + 13) e k1 c.below.new.me × (g.L.Locking.gives_up ≡ true)) (λ e. GivesUpWhole 64 e k c.below.new.me × (g.L.Locking.gives_up ≡ true)) c.below.result (λ e b. (gives_up_after 1 (2 * root.content.level + 0 + 13) 64 e k k1 c.below.new.me (omega (arith, low)) spent b.0, b.1)) c.below.ensures.busy
 
 pub returns-in-Err-clause-busy : goal.returns-in-Err-clause-busy
