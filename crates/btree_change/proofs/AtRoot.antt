@@ -1,5 +1,5 @@
 -- An insertion at the root, and below a lifted one.
-use Rattle.std.proofs.Common.{◌≡◌, ℕ, ◌+◌, ◌<◌, ◌≤◌, ◌⊎◌, inl, inr, List, [], ◌∷◌, drop, sym, refl, ap, ◌∙◌, subst, arith, true, true≢false, Some, None, is_some, Result, Ok, Err, IfOk, OnOk, IfErr, eq-eqb, cond}
+use Rattle.std.proofs.Common.{◌≡◌, ℕ, ◌+◌, ◌<◌, ◌≤◌, ◌⊎◌, inl, inr, List, [], ◌∷◌, drop, sym, refl, ap, ◌∙◌, subst, arith, None, Result, Ok, Err, IfOk, OnOk, IfErr}
 use Rattle.reg_model.specs.SpanData.{IsSpan}
 use Rattle.reg_model.specs.declared.answer.Inserted.{Inserted}
 use Rattle.reg_model.specs.declared.answer.Receipt.TheVariants as receipt
@@ -7,8 +7,7 @@ use Rattle.reg_model.specs.declared.span.Member.{Member}
 use Rattle.tree_shape.specs.NodeData.{IsInFences}
 use Rattle.tree_shape.specs.Lawful.{IsFilled, IsOrdered}
 use Rattle.tree_shape.specs.Steps.{IsFull}
-use Rattle.word_rule.specs.CallerData.{CallerData, surplus}
-use Rattle.word_rule.specs.Held.{held_of}
+use Rattle.word_rule.specs.CallerData.{CallerData}
 use Rattle.word_rule.specs.Spelling.{SpellsNode}
 use Rattle.word_rule.specs.declared.log.Holding.{Holding}
 use Rattle.word_rule.specs.declared.log.Holdings.{Holdings}
@@ -34,7 +33,7 @@ use Rattle.btree_change.proofs.Loading.{found_after, nothing_left}
 use Rattle.btree_change.proofs.Lowering.{settled_live}
 use Rattle.btree_change.proofs.NoRoom.{if_full, no_room_after}
 use Rattle.btree_change.proofs.Releasing.{IsLowest, left_above}
-use Rattle.btree_change.proofs.Spending.{answers_so, more_spent, right_after, right_before, spends_after, spends_all, spends_before, spends_one, spends_same, steps_after, surplus_after, surplus_steps}
+use Rattle.btree_change.proofs.Spending.{answers_so, more_spent, right_after, spends_after, spends_one, spends_same, steps_after}
 
 -- the root alone is where an insertion stands
 abbrev pub root_stands : (t : Terms) (root : Held) (holdings : Holdings) → HoldsRoot t root holdings → StandsAt t root holdings

@@ -1,5 +1,5 @@
 -- An insertion whose span ends in the next leaf.
-use Rattle.std.proofs.Common.{◌≡◌, ◌≢◌, ℕ, ◌+◌, ◌%◌, ◌<◌, ◌≤◌, List, [], ◌∷◌, ◌++◌, length, drop, map, sym, refl, ap, ◌∙◌, subst, arith, true, None, Some, IsSome, IsSomeAnd, true≢false}
+use Rattle.std.proofs.Common.{◌≡◌, ◌≢◌, ℕ, ◌+◌, ◌%◌, ◌<◌, ◌≤◌, List, [], ◌∷◌, ◌++◌, length, drop, map, sym, refl, ap, ◌∙◌, subst, arith, true, None, Some, IsSome, IsSomeAnd}
 use Rattle.std.proofs.lemmas.List.{length-map}
 use Rattle.std.specs.List.{AllByRecursion}
 use Rattle.reg_model.specs.State.{IsFree}
@@ -29,9 +29,9 @@ use Rattle.btree_change.specs.declared.beyond.Next.{Next}
 use Rattle.btree_change.specs.declared.descent.Held.{Held}
 use Rattle.btree_change.specs.declared.path.KeptNode.{KeptNode}
 use Rattle.btree_change.specs.declared.stand.Room.TheVariants as room
-use Rattle.btree_change.specs.Far.{EndsBeyond, HoldsFar, IsAtNext, IsReadyFar, StandsFar}
+use Rattle.btree_change.specs.Far.{HoldsFar, IsAtNext, IsReadyFar, StandsFar}
 use Rattle.btree_change.specs.Insertion.{HoldsLeaf, PutsMember, RefusesMember, taken_by}
-use Rattle.btree_change.specs.Kept.{AreKept, HoldsPath, IsKeptLock, LeavesBelow, as_changed}
+use Rattle.btree_change.specs.Kept.{AreKept, HoldsPath, LeavesBelow, as_changed}
 use Rattle.btree_change.specs.Paths.{AreHigher, HoldsNothing, IsSettledLock, StepsOnNodes}
 use Rattle.btree_change.specs.Loads.{KeepsLoads}
 use Rattle.btree_change.specs.Releases.{HaveSettled, LetsGo, MayGo, Spends}

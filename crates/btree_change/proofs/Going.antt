@@ -1,5 +1,5 @@
 -- An insertion goes down from where it stands: what it makes of its caller.
-use Rattle.std.proofs.Common.{◌≡◌, ◌≢◌, ℕ, ◌+◌, ◌-◌, ◌*◌, ◌<◌, ◌≤◌, List, [], ◌∷◌, drop, length, sym, refl, ap, ◌∙◌, subst, arith, Option, Some, None}
+use Rattle.std.proofs.Common.{◌≡◌, ◌≢◌, ℕ, ◌+◌, ◌-◌, ◌<◌, ◌≤◌, List, [], ◌∷◌, drop, length, sym, ap, ◌∙◌, subst, arith, Option, Some, None}
 use Rattle.std.specs.List.{AllByRecursion}
 use Rattle.reg_model.specs.declared.span.Member.{Member}
 use Rattle.tree_shape.specs.NodeData.{NodeData, IsInFences, frame_of}
@@ -7,7 +7,6 @@ use Rattle.tree_shape.specs.declared.node.Frame.{Frame}
 use Rattle.word_rule.specs.CallerData.{CallerData}
 use Rattle.word_rule.specs.Spelling.{SpellsNode}
 use Rattle.word_rule.specs.declared.log.Holding.{Holding}
-use Rattle.word_rule.specs.declared.log.Holdings.{Holdings}
 use Rattle.word_rule.specs.declared.log.Terms.{Terms}
 use Rattle.node_store.specs.declared.locking.Busy.{Busy}
 use Rattle.btree_change.specs.declared.descent.Held.{Held}
@@ -16,7 +15,7 @@ use Rattle.btree_change.specs.declared.stand.Room.{Room}
 use Rattle.btree_change.specs.declared.stand.Room.TheVariants as room
 use Rattle.btree_change.specs.declared.stand.Stand.{Stand}
 use Rattle.btree_change.specs.declared.stand.Step.{Step}
-use Rattle.btree_change.specs.Kept.{AreKept, HoldsPath, LeavesBelow}
+use Rattle.btree_change.specs.Kept.{HoldsPath, LeavesBelow}
 use Rattle.btree_change.specs.Loads.{KeepsLoads}
 use Rattle.btree_change.specs.Paths.{StepsOnNodes}
 use Rattle.btree_change.specs.Releases.{HaveSettled, Spends}
@@ -27,7 +26,7 @@ use Rattle.btree_change.proofs.Loading.{nothing_left}
 use Rattle.btree_change.proofs.NextLeaves.{higher_spelled}
 use Rattle.btree_change.proofs.NoRoom.{cause_after, cause_below, cause_still, same_cause}
 use Rattle.btree_change.proofs.Spending.{own_same, spends_all, spends_same, steps_after}
-use Rattle.btree_change.proofs.Standing.{reach_kept, stand_path, way_kept}
+use Rattle.btree_change.proofs.Standing.{reach_kept, way_kept}
 
 -- the way on, after the child was locked
 pub way_lowered : (way : Room) (pc : ℕ) (s : NodeData) (k l : CallerData) → StepsOnNodes k l → KeepsLoads k l → HasWayOn way pc s k.log → HasWayOn way pc s l.log

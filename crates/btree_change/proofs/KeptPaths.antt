@@ -1,5 +1,5 @@
 -- Nodes that were kept are let go of one by one, and those below them are left.
-use Rattle.std.proofs.Common.{◌≡◌, ◌≢◌, ℕ, ◌+◌, ◌-◌, ◌≤◌, ◌<◌, List, [], ◌∷◌, ◌++◌, length, append-nil, sym, refl, ap, ◌∙◌, subst, arith, Some, cond, not, ne_eqb}
+use Rattle.std.proofs.Common.{◌≡◌, ◌≢◌, ℕ, ◌<◌, List, [], ◌∷◌, ◌++◌, append-nil, sym, refl, ap, ◌∙◌, subst, cond, not, ne_eqb}
 use Rattle.std.specs.List.{AllByRecursion}
 use Rattle.word_rule.specs.CallerData.{CallerData}
 use Rattle.word_rule.specs.Held.{held_of, without_lock}
@@ -8,8 +8,8 @@ use Rattle.word_rule.specs.declared.log.Holding.{Holding}
 use Rattle.word_rule.specs.declared.log.Holdings.{Holdings}
 use Rattle.word_rule.specs.declared.log.Terms.{Terms}
 use Rattle.btree_change.specs.declared.path.KeptNode.{KeptNode}
-use Rattle.btree_change.specs.Kept.{AreKept, HoldsPath, IsKeptLock, LeavesBelow}
-use Rattle.btree_change.specs.Releases.{LetsGo, MayGo, Spends}
+use Rattle.btree_change.specs.Kept.{AreKept, HoldsPath, IsKeptLock}
+use Rattle.btree_change.specs.Releases.{LetsGo, MayGo}
 use Rattle.btree_change.specs.Spines.{AreApart}
 use Rattle.btree_change.proofs.FreshSpines.{apart_mid}
 use Rattle.btree_change.proofs.LockedSpines.{without_head}

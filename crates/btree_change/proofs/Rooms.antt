@@ -1,5 +1,5 @@
 -- A free node is taken for a full one; or none is free, and the loads say so.
-use Rattle.std.proofs.Common.{◌≡◌, ◌≢◌, ℕ, suc, ◌+◌, ◌⊎◌, inl, inr, List, [], ◌∷◌, ◌++◌, length, sym, refl, ap, ◌∙◌, subst, arith, Bool, true, false, ◌==◌, ◌&&◌, nat_le, Option, Some, None, Result, Ok, Err, IsSome, IfSome, option_map, is_some, append_assoc, append-nil, Contains, eq-eqb, ne_eqb, if◌then◌else◌}
+use Rattle.std.proofs.Common.{◌≡◌, ◌≢◌, ℕ, suc, ◌+◌, ◌⊎◌, inl, inr, List, [], ◌∷◌, ◌++◌, length, sym, refl, ap, ◌∙◌, subst, arith, Bool, true, false, ◌==◌, ◌&&◌, nat_le, Option, Some, None, Result, Ok, Err, IfSome, option_map, append_assoc, append-nil, Contains, eq-eqb, ne_eqb, if◌then◌else◌}
 use Rattle.std.proofs.lemmas.Option.{none-some, same_Some}
 use native.Mathlib.Decide.{ℕ_discrete}
 use Rattle.reg_model.specs.declared.span.Member.{Member}

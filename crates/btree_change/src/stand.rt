@@ -3,8 +3,8 @@
 //! Parent and child are held together. A node above is let go of as soon as the child can neither
 //! split under it nor end at a fence that moves in it.
 ghost use Rattle.std.specs.Prelude.{◌≡◌, ◌<◌, ◌≤◌, ◌+◌, ◌-◌, true, [], ◌∷◌, drop, length};
-ghost use Rattle.std.specs.Prelude.{List, IfOk, IfErr, MatchBool, None, Some, slice_get};
-ghost use Rattle.tree_shape.specs.NodeData.{IsInFences, IsInner, InOrder, pairs_of, slot_for};
+ghost use Rattle.std.specs.Prelude.{List, IfOk, IfErr, MatchBool, None, Some};
+ghost use Rattle.tree_shape.specs.NodeData.{IsInFences, IsInner, InOrder};
 ghost use Rattle.tree_shape.specs.declared.limits.TheConstants.{HIGHEST_LEVEL};
 ghost use Rattle.tree_shape.specs.declared.pair.Pair.{Pair};
 ghost use Rattle.tree_shape.specs.Lawful.{IsFilled, IsOrdered};

@@ -1,7 +1,5 @@
-use Rattle.std.proofs.Common.{◌≡◌, ◌-◌, ◌∙◌, ◌∷◌, List, length, ap, arith, refl, subst}
-use Rattle.word_rule.specs.declared.log.Holding.{Holding}
+use Rattle.std.proofs.Common.{◌-◌, ◌∙◌, length, ap, arith, refl, subst}
 use Rattle.btree_change.specs.Kept.{HoldsPath}
-use Rattle.btree_change.specs.Releases.{Spends}
 use Rattle.btree_change.proofs.KeptPaths.{kept_gone, kept_may, kept_within, none_kept}
 use Rattle.btree_change.proofs.Spending.{more_spent, steps_after}
 use Rattle.btree_change.proofs.path.let_go_of_path.Goals as goal

@@ -7,11 +7,11 @@ use Rattle.btree_change.specs.Loads.{FoundNoRoom, KeepsLoads}
 use Rattle.node_store.specs.Locking.{FoundBusy}
 use Rattle.btree_change.specs.Roots.{EndsInsertion, GivesUpWhole}
 use Rattle.btree_change.specs.Splits.{HoldsFullAlone, IsRoomForRoot}
-use Rattle.btree_change.proofs.Rooted.{root_low}
 use Rattle.btree_change.proofs.AtRoot.{ends_after, full_alone, full_root, gives_up_after, if_err, if_ok, kept_steps, root_gone, root_kept, root_lowest, root_stand, root_stands}
 use Rattle.btree_change.proofs.Loading.{found_after, found_still}
 use Rattle.btree_change.proofs.NoRoom.{if_full, no_room_after, no_room_now, no_room_still}
 use Rattle.btree_change.proofs.Releasing.{lowest_may}
+use Rattle.btree_change.proofs.Rooted.{root_low}
 use Rattle.btree_change.proofs.Spending.{due_after, own_same, spends_same, surplus_steps}
 use Rattle.btree_change.proofs.root.at_full_root.Goals as goal
 

@@ -1,8 +1,8 @@
-use Rattle.std.proofs.Common.{◌≡◌, ◌+◌, ◌-◌, ◌∷◌, ◌<◌, ◌≤◌, [], subst, sym, drop, arith, length, ap, ◌∙◌}
+use Rattle.std.proofs.Common.{◌+◌, ◌∷◌, ◌<◌, [], subst, sym, drop, arith, length, ap, ◌∙◌}
 use Rattle.word_rule.specs.declared.log.Holdings.{Holdings}
 use Rattle.btree_change.specs.declared.path.KeptNode.{KeptNode}
-use Rattle.btree_change.specs.Kept.{HoldsPath, LeavesBelow}
-use Rattle.btree_change.specs.Stands.{HasSplit, HoldsPair, HoldsStep, kept_above, kept_node, releases_from}
+use Rattle.btree_change.specs.Kept.{HoldsPath}
+use Rattle.btree_change.specs.Stands.{HasSplit, HoldsPair, HoldsStep, kept_above, kept_node}
 use Rattle.btree_change.proofs.Going.{gives_up_all, goes_below, split_here, split_path, split_reaches, step_held}
 use Rattle.btree_change.proofs.Loading.{found_between, found_still}
 use Rattle.btree_change.proofs.Spending.{spends_same, steps_after, surplus_steps}

@@ -1,4 +1,4 @@
-use Rattle.std.proofs.Common.{◌+◌, [], ◌∷◌, arith, length, refl, ◌∙◌}
+use Rattle.std.proofs.Common.{◌+◌, [], arith, length, refl, ◌∙◌}
 use Rattle.btree_change.specs.Stands.{kept_above}
 use Rattle.btree_change.proofs.KeptPaths.{kept_gone, kept_may, kept_within}
 use Rattle.btree_change.proofs.Spending.{steps_after, surplus_steps}

@@ -1,4 +1,4 @@
-use Rattle.std.proofs.Common.{◌≡◌, ◌∙◌, length, refl, ap, subst, arith}
+use Rattle.std.proofs.Common.{◌≡◌, ◌∙◌, length, ap, subst, arith}
 use Rattle.tree_shape.specs.NodeData.{pairs_of, slot_for}
 use Rattle.node_store.specs.Outlines.{IsCountOf}
 use Rattle.node_store.proofs.Outlined.{inner_of, known}

@@ -1,9 +1,8 @@
-use Rattle.std.proofs.Common.{◌≡◌, ◌+◌, ◌-◌, ◌≤◌, Option, Some, [], ap, arith, drop, length, refl, subst, sym, ◌∷◌, ◌∙◌}
+use Rattle.std.proofs.Common.{◌+◌, ◌-◌, ◌≤◌, Option, Some, [], ap, arith, drop, length, refl, subst, sym, ◌∷◌, ◌∙◌}
 use Rattle.word_rule.specs.CallerData.{CallerData}
 use Rattle.word_rule.specs.declared.log.Holdings.{Holdings}
 use Rattle.node_store.proofs.Outlined.{loads_hold}
-use Rattle.btree_change.specs.Kept.{HoldsPath, LeavesBelow}
-use Rattle.btree_change.specs.Paths.{StepsOnNodes}
+use Rattle.btree_change.specs.Kept.{HoldsPath}
 use Rattle.btree_change.specs.declared.stand.Beyond.{Beyond}
 use Rattle.btree_change.specs.Stands.{IsReach, StandsOnWay, kept_above, kept_node}
 use Rattle.btree_change.proofs.Descending.{steps_then}

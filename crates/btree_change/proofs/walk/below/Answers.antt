@@ -1,4 +1,4 @@
-use Rattle.std.proofs.Common.{◌≡◌, ◌+◌, ◌-◌, true, arith, ◌∙◌}
+use Rattle.std.proofs.Common.{◌≡◌, ◌-◌, true, arith, ◌∙◌}
 use Rattle.std.proofs.lemmas.Result.{err_from_is_err_and}
 use Rattle.node_store.specs.Locking.{FoundBusy}
 use Rattle.btree_change.specs.Insertion.{IfFull}

@@ -1,7 +1,6 @@
-use Rattle.std.proofs.Common.{◌≡◌, ◌+◌, ◌*◌, Some, None, true, arith, length, subst, sym}
-use Rattle.btree_change.specs.Insertion.{IfFull}
+use Rattle.std.proofs.Common.{◌≡◌, ◌+◌, true, arith, length, subst}
 use Rattle.btree_change.specs.Roots.{EndsInsertion, GivesUpWhole}
-use Rattle.btree_change.specs.Stands.{HasCause, StandsOnWay, kept_above, releases_from}
+use Rattle.btree_change.specs.Stands.{StandsOnWay, kept_above, releases_from}
 use Rattle.btree_change.proofs.AtRoot.{ends_after, gives_up_after, if_err, if_ok}
 use Rattle.btree_change.proofs.Spending.{spends_all}
 use Rattle.btree_change.proofs.walk.in_free_leaf.Goals as goal

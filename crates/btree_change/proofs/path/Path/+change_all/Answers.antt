@@ -1,4 +1,4 @@
-use Rattle.std.proofs.Common.{◌<◌, length, map, subst, sym}
+use Rattle.std.proofs.Common.{◌<◌, length, subst, sym}
 use Rattle.std.proofs.lemmas.List.{length-map}
 use Rattle.btree_change.specs.Kept.{as_changed}
 use Rattle.btree_change.proofs.path.Path.+change_all.Goals as goal
