@@ -5,6 +5,8 @@
 #[cfg(test)]
 mod insertions;
 #[cfg(test)]
+mod many_writers;
+#[cfg(test)]
 mod readers;
 #[cfg(test)]
 mod rounds;

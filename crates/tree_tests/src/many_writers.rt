@@ -1,0 +1,374 @@
+//! Threads that register and remove ranges side by side: each on its own part of the addresses, or
+//! all on one, and with so few nodes that none is free at times.
+ghost use Rattle.std.specs.Prelude.{◌≡◌, ◌<◌, ◌≤◌, ◌+◌, ◌*◌};
+ghost use Rattle.word_rule.specs.Callers.{IsIdle};
+
+use crate::tree_rounds::range;
+use reg_model::{Found, Inserted, Removed};
+use registry_core::Registry;
+use std::alloc::Global;
+use std::sync::Wait;
+use std::test::Fail;
+use std::thread::{Threads, join};
+use word_rule::Caller;
+
+// How many ranges there are.
+const RANGES: u32 = 2_000;
+
+// How often a thread goes over its ranges: they come the first time, go the second time, and so on.
+const PASSES: u32 = 5;
+
+// How many updates all threads of a test ask for.
+const UPDATES: u32 = 10_000;
+
+// The ranges of a thread: so many from the first on.
+#[derive(Clone, Copy)]
+struct Part {
+    first: u32,
+    ranges: u32,
+}
+
+#[derive(Clone, Copy)]
+enum Change {
+    Comes,
+    Goes,
+}
+
+// A change of a range that was accepted, with its number.
+#[derive(Clone, Copy)]
+struct Step {
+    range: u32,
+    change: Change,
+    number: u32,
+}
+
+// Asks for a change of a range: its number, where it was accepted.
+fn change_range<R: Wait>(
+    rt: &R,
+    registry: &Registry,
+    me: &mut Caller,
+    number: u32,
+    change: Change,
+) -> Option<u32>
+    requires table { me.old.table ≡ registry.now.table }
+    requires idle { IsIdle me.old.log }
+    requires small { number < RANGES }
+    requires payloads { RANGES ≤ registry.now.terms.payloads }
+    ensures table { me.new.table ≡ me.old.table }
+    ensures idle { IsIdle me.new.log }
+{
+    let member = range(number)?;
+    match change {
+        Change::Comes => match registry.register(rt, me, member) {
+            Inserted::Done { number } => Some(number),
+            _ => None,
+        },
+        Change::Goes => match registry.deregister(rt, me, member.span.first()) {
+            Removed::Done { number, .. } => Some(number),
+            _ => None,
+        },
+    }
+}
+
+// The updates of one thread: it goes over its part again and again, in an order that is scattered.
+// Those that were accepted.
+fn write_part<R: Wait>(
+    rt: &R,
+    alloc: Global,
+    registry: &Registry,
+    caller: Caller,
+    part: Part,
+) -> Option<Vec<Step>>
+    requires table { caller.table ≡ registry.now.table }
+    requires idle { IsIdle caller.log }
+    requires part { (0 < part.ranges) × (part.first + part.ranges ≤ RANGES) }
+    requires payloads { RANGES ≤ registry.now.terms.payloads }
+{
+    let mut me = caller;
+    let mut steps = Vec::new(alloc);
+    for turn in 0..PASSES * part.ranges {
+        let own = part.first + turn * 7_919 % part.ranges;
+        let change = if turn / part.ranges % 2 == 0 {
+            Change::Comes
+        } else {
+            Change::Goes
+        };
+        if let Some(number) = change_range(rt, registry, &mut me, own, change) {
+            let step = Step {
+                range: own,
+                change,
+                number,
+            };
+            if steps.push(step).is_err() {
+                return None;
+            }
+        }
+    }
+    Some(steps)
+}
+
+// Two threads write side by side.
+fn two_write<R: Threads + Wait + Sync>(
+    rt: &R,
+    alloc: Global,
+    registry: &Registry,
+    callers: (Caller, Caller),
+    parts: (Part, Part),
+) -> (Option<Vec<Step>>, Option<Vec<Step>>)
+    requires tables { (callers.0.table ≡ registry.now.table)
+        × (callers.1.table ≡ registry.now.table) }
+    requires idle { IsIdle callers.0.log × IsIdle callers.1.log }
+    requires left { (0 < parts.0.ranges) × (parts.0.first + parts.0.ranges ≤ RANGES) }
+    requires right { (0 < parts.1.ranges) × (parts.1.first + parts.1.ranges ≤ RANGES) }
+    requires payloads { RANGES ≤ registry.now.terms.payloads }
+{
+    let (a, b) = callers;
+    let (low, high) = parts;
+    join(
+        rt,
+        || -> Option<Vec<Step>>
+            requires { (a.table ≡ registry.now.table) × IsIdle a.log × (0 < low.ranges)
+                × (low.first + low.ranges ≤ RANGES) × (RANGES ≤ registry.now.terms.payloads) }
+        { write_part(rt, alloc, registry, a, low) },
+        || -> Option<Vec<Step>>
+            requires { (b.table ≡ registry.now.table) × IsIdle b.log × (0 < high.ranges)
+                × (high.first + high.ranges ≤ RANGES) × (RANGES ≤ registry.now.terms.payloads) }
+        { write_part(rt, alloc, registry, b, high) },
+    )
+}
+
+// Four do, each part so far from the one before.
+fn four_write<R: Threads + Wait + Sync>(
+    rt: &R,
+    alloc: Global,
+    registry: &Registry,
+    callers: ((Caller, Caller), (Caller, Caller)),
+    apart: u32,
+) -> (
+    (Option<Vec<Step>>, Option<Vec<Step>>),
+    (Option<Vec<Step>>, Option<Vec<Step>>),
+)
+    requires low_tables { (callers.0.0.table ≡ registry.now.table)
+        × (callers.0.1.table ≡ registry.now.table) }
+    requires high_tables { (callers.1.0.table ≡ registry.now.table)
+        × (callers.1.1.table ≡ registry.now.table) }
+    requires low_idle { IsIdle callers.0.0.log × IsIdle callers.0.1.log }
+    requires high_idle { IsIdle callers.1.0.log × IsIdle callers.1.1.log }
+    requires near { apart ≤ 500 }
+    requires payloads { RANGES ≤ registry.now.terms.payloads }
+{
+    let (low, high) = callers;
+    join(
+        rt,
+        || -> (Option<Vec<Step>>, Option<Vec<Step>>)
+            requires { (low.0.table ≡ registry.now.table) × (low.1.table ≡ registry.now.table)
+                × IsIdle low.0.log × IsIdle low.1.log × (apart ≤ 500)
+                × (RANGES ≤ registry.now.terms.payloads) }
+        { two_write(rt, alloc, registry, low, (quarter(0), quarter(apart))) },
+        || -> (Option<Vec<Step>>, Option<Vec<Step>>)
+            requires { (high.0.table ≡ registry.now.table) × (high.1.table ≡ registry.now.table)
+                × IsIdle high.0.log × IsIdle high.1.log × (apart ≤ 500)
+                × (RANGES ≤ registry.now.terms.payloads) }
+        {
+            two_write(
+                rt,
+                alloc,
+                registry,
+                high,
+                (quarter(2 * apart), quarter(3 * apart)),
+            )
+        },
+    )
+}
+
+// A quarter of the ranges.
+fn quarter(first: u32) -> Part
+    ensures { result ≡ record { first = first; ranges = 500 } }
+{
+    Part { first, ranges: 500 }
+}
+
+// The changes of all threads by their numbers, none where two have the same, or one is above the
+// stamp.
+fn by_number(
+    alloc: Global,
+    parts: &[Vec<Step>],
+    stamp: u32,
+) -> Result<Option<Vec<Option<Step>>>, Fail> {
+    let mut steps = Vec::new(alloc);
+    for _ in 0..stamp {
+        steps.push(None::<Step>)?;
+    }
+    for part in parts {
+        for step in part {
+            match steps.get_mut((step.number as usize).saturating_sub(1)) {
+                Some(free) if free.is_none() => *free = Some(*step),
+                _ => return Ok(None),
+            }
+        }
+    }
+    Ok(Some(steps))
+}
+
+// Which ranges are there after these changes: each comes where it wasn't there, and goes where it
+// was.
+fn there_after(alloc: Global, steps: &[Option<Step>]) -> Result<Option<Vec<bool>>, Fail> {
+    let mut there = Vec::new(alloc);
+    for _ in 0..RANGES {
+        there.push(false)?;
+    }
+    for step in steps {
+        let Some(step) = step else {
+            return Ok(None);
+        };
+        let comes = matches!(step.change, Change::Comes);
+        match there.get_mut(step.range as usize) {
+            Some(is) if *is != comes => *is = comes,
+            _ => return Ok(None),
+        }
+    }
+    Ok(Some(there))
+}
+
+// The stamp of a query at an address.
+fn stamp_at<R: Wait>(rt: &R, registry: &Registry, me: &mut Caller, pc: u64) -> u32
+    requires table { me.old.table ≡ registry.now.table }
+    requires idle { IsIdle me.old.log }
+    ensures table { me.new.table ≡ me.old.table }
+    ensures idle { IsIdle me.new.log }
+{
+    let place = registry.find(rt, me, pc);
+    match place.registered {
+        Found::Hit { stamp, .. } => stamp,
+        Found::Miss { stamp } => stamp,
+    }
+}
+
+// Whether each range is found at this stamp exactly where it is there.
+fn are_found<R: Wait>(
+    rt: &R,
+    registry: &Registry,
+    me: &mut Caller,
+    there: &[bool],
+    stamp: u32,
+) -> bool
+    requires table { me.old.table ≡ registry.now.table }
+    requires idle { IsIdle me.old.log }
+{
+    for own in 0..RANGES {
+        let (Some(member), Some(is)) = (range(own), there.get(own as usize)) else {
+            return false;
+        };
+        let place = registry.find(rt, me, member.span.first());
+        let right = match place.registered {
+            Found::Hit { member, stamp: at } => { *is && Some(member) == range(own) && at == stamp }
+            Found::Miss { stamp: at } => !*is && at == stamp,
+        };
+        if !right {
+            return false;
+        }
+    }
+    true
+}
+
+// How many updates of all threads were accepted, where they stand in one order, and each range is
+// found as they left it.
+fn accepted<R: Wait>(
+    rt: &R,
+    alloc: Global,
+    registry: &Registry,
+    me: &mut Caller,
+    parts: &[Vec<Step>],
+) -> Result<Option<u32>, Fail>
+    requires table { me.old.table ≡ registry.now.table }
+    requires idle { IsIdle me.old.log }
+{
+    let stamp = stamp_at(rt, registry, me, 0);
+    let Some(steps) = by_number(alloc, parts, stamp)? else {
+        return Ok(None);
+    };
+    let Some(there) = there_after(alloc, &steps)? else {
+        return Ok(None);
+    };
+    Ok(if are_found(rt, registry, me, &there, stamp) {
+        Some(stamp)
+    } else {
+        None
+    })
+}
+
+// What two threads come to that begin so far from one another.
+fn two_threads<R: Threads + Wait + Sync>(
+    rt: &R,
+    alloc: Global,
+    nodes: u32,
+    apart: u32,
+) -> Result<Option<u32>, Fail>
+    requires nodes { (4 ≤ nodes) × (nodes ≤ 16384) }
+    requires near { apart ≤ 1000 }
+{
+    let (registry, mut me) = Registry::new(alloc, nodes, 1, RANGES, Vec::new(alloc))?;
+    let a = registry.words().split(alloc, &mut me, UPDATES)?;
+    let b = registry.words().split(alloc, &mut me, UPDATES)?;
+    let low = Part {
+        first: 0,
+        ranges: 1_000,
+    };
+    let high = Part {
+        first: apart,
+        ranges: 1_000,
+    };
+    let written = two_write(rt, alloc, &registry, (a, b), (low, high));
+    let (Some(one), Some(two)) = (written.0, written.1) else {
+        return Ok(None);
+    };
+    let parts = vec![in alloc; one, two]?;
+    accepted(rt, alloc, &registry, &mut me, &parts)
+}
+
+// The same of four.
+fn four_threads<R: Threads + Wait + Sync>(
+    rt: &R,
+    alloc: Global,
+    nodes: u32,
+    apart: u32,
+) -> Result<Option<u32>, Fail>
+    requires nodes { (4 ≤ nodes) × (nodes ≤ 16384) }
+    requires near { apart ≤ 500 }
+{
+    let (registry, mut me) = Registry::new(alloc, nodes, 1, RANGES, Vec::new(alloc))?;
+    let a = registry.words().split(alloc, &mut me, UPDATES)?;
+    let b = registry.words().split(alloc, &mut me, UPDATES)?;
+    let c = registry.words().split(alloc, &mut me, UPDATES)?;
+    let d = registry.words().split(alloc, &mut me, UPDATES)?;
+    let (low, high) = four_write(rt, alloc, &registry, ((a, b), (c, d)), apart);
+    let (Some(one), Some(two), Some(three), Some(four)) = (low.0, low.1, high.0, high.1) else {
+        return Ok(None);
+    };
+    let parts = vec![in alloc; one, two, three, four]?;
+    accepted(rt, alloc, &registry, &mut me, &parts)
+}
+
+#[test]
+fn threads_on_parts_of_their_own(rt: HostRuntime) -> Result<(), Fail> {
+    let alloc = rt.alloc();
+    assert!(rt; two_threads(&rt, alloc, 4_096, 1_000)? == Some(UPDATES));
+    assert!(rt; four_threads(&rt, alloc, 4_096, 500)? == Some(UPDATES));
+    Ok(())
+}
+
+#[test]
+fn threads_on_one_part(rt: HostRuntime) -> Result<(), Fail> {
+    let alloc = rt.alloc();
+    assert!(rt; two_threads(&rt, alloc, 4_096, 0)?.is_some());
+    assert!(rt; four_threads(&rt, alloc, 4_096, 0)?.is_some());
+    Ok(())
+}
+
+#[test]
+fn threads_with_few_nodes(rt: HostRuntime) -> Result<(), Fail> {
+    let alloc = rt.alloc();
+    assert!(rt; two_threads(&rt, alloc, 64, 1_000)?.is_some());
+    assert!(rt; four_threads(&rt, alloc, 64, 0)?.is_some());
+    Ok(())
+}
