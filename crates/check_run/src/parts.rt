@@ -15,7 +15,7 @@ pub fn script_length(bytes: &[u8]) -> usize
     let mut rest = bytes;
     while let Some((line, after)) = next_line(rest) {
         rest = after;
-        if line == b"end" {
+        if line == b"end".as_slice() {
             return bytes.len() - rest.len();
         }
     }
