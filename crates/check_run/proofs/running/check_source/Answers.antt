@@ -18,12 +18,12 @@ returns-then-len-gt-CHECK_LIMIT-clause-ends g c =
 pub returns-then-len-gt-CHECK_LIMIT-clause-writes : goal.returns-then-len-gt-CHECK_LIMIT-clause-writes
 returns-then-len-gt-CHECK_LIMIT-clause-writes g c = λ other. c.conclude.ensures.sound (λ says. other (check_write_told c.conclude.result says))
 
-pub check_input-requires-short : goal.check_input-requires-short
-check_input-requires-short g c =
+pub check_input-requires-clause-short : goal.check_input-requires-clause-short
+check_input-requires-clause-short g c =
     let short : length c.in-Ok.bytes.items ≤ CHECK_LIMIT = (let count = c.len.ensures in let below = c.if-len-gt-CHECK_LIMIT.false in omega (arith, c.in-Ok.bytes.ok.0)) in
     rw (c.deref.ensures.value) short
 
-pub returns-else-len-gt-CHECK_LIMIT-clause-ends : goal.returns-else-len-gt-CHECK_LIMIT-clause-ends
-returns-else-len-gt-CHECK_LIMIT-clause-ends g c =
+pub returns-clause-ends : goal.returns-clause-ends
+returns-clause-ends g c =
     let within : vec_len c.in-Ok.bytes ≤ CHECK_LIMIT = (let count = c.len.ensures in let below = c.if-len-gt-CHECK_LIMIT.false in omega arith) in
     c.check_input.ensures.ends _ _ _ (rw (c.deref.ensures.value) (c.in-Ok.ensures.all within))
