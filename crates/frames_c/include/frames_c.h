@@ -250,6 +250,16 @@ enum frames_step {
 uint64_t frames_c_step(frames_section section, frames_memory memory, frames_frame *frame,
                        frames_section *back, frames_memory *memory_back) FRAMES_C_NONNULL;
 
+/* The same by bytes that the caller lends, from an address on, in place of recorded memory: nothing
+ * is copied. `missing` is then an address of which they don't have all eight bytes. Nobody writes
+ * them while the call runs: a thread lends of its own stack what stands above the call's own frame
+ * alone (a signal's handler from the stack pointer on that the signal interrupted), and another
+ * thread's while that one is stopped. What the call writes (`frame`, `back`) doesn't lie in them, as
+ * a local variable of the caller may. */
+uint64_t frames_c_step_lent(frames_section section, uint64_t address, const uint8_t *stack,
+                            size_t length, frames_frame *frame, frames_section *back)
+    FRAMES_C_NONNULL;
+
 /* ---- exceptions ------------------------------------------------------------------------------ */
 
 /* What becomes of an exception at an address, by a function's table of call sites (LSDA), in the
@@ -323,6 +333,11 @@ bool frames_c_row_table_row(frames_row_table table, uint64_t pc, frames_row *out
 uint64_t frames_c_row_table_step(frames_row_table table, frames_memory memory, frames_frame *frame,
                                  frames_row_table *back, frames_memory *memory_back)
     FRAMES_C_NONNULL;
+
+/* What frames_c_step_lent by the section makes of a frame. */
+uint64_t frames_c_row_table_step_lent(frames_row_table table, uint64_t address,
+                                      const uint8_t *stack, size_t length, frames_frame *frame,
+                                      frames_row_table *back) FRAMES_C_NONNULL;
 
 #ifdef __cplusplus
 }

@@ -33,8 +33,8 @@ pub use row_handle::RowTableHandle;
 pub use row_share::{RowsOfSection, TableShare};
 pub use row_tables::{
     frames_c_row_table, frames_c_row_table_free, frames_c_row_table_row, frames_c_row_table_share,
-    frames_c_row_table_step,
+    frames_c_row_table_step, frames_c_row_table_step_lent,
 };
 pub use share::{LoadedSection, SectionShare};
-pub use step::{FramesFrame, frames_c_step};
+pub use step::{FramesFrame, frames_c_step, frames_c_step_lent};
 pub use table::{FramesEntry, frames_c_search, frames_c_table};

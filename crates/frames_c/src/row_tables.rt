@@ -1,6 +1,6 @@
 //! Row tables: they are made, shared and freed, and tell rows and steps.
 
-ghost use Rattle.std.specs.Prelude.{◌≡◌, ◌⊎◌, true, false, IfOk, IfErr, IfSome};
+ghost use Rattle.std.specs.Prelude.{◌≡◌, ◌⊎◌, true, false, IfOk, IfErr, IfSome, [], ◌∷◌};
 ghost use Rattle.row_table.specs.Tables.{HasTooManyRows};
 ghost use Rattle.unwind_step.specs.Backtrace.{fde_in};
 ghost use Rattle.frames_c.specs.Held.{IsHeld, IsVacant, section_of_rows};
@@ -16,6 +16,7 @@ use crate::row_handle::RowTableHandle;
 use crate::row_share::{RowsOfSection, TableShare};
 use crate::share::SectionShare;
 use crate::step::{FramesFrame, step_by};
+use frame_expr::Lent;
 use row_table::TableFault;
 use std::alloc::Global;
 
@@ -155,8 +156,34 @@ pub extern "C" fn frames_c_row_table_step(
 {
     let share = table.open(alloc);
     let recorded = memory.open(alloc);
-    let outcome = step_by(&share.rows(), &recorded, frame);
+    let outcome = step_by(&share.rows(), &*recorded, frame);
     *memory_back = MemoryHandle::of(recorded);
+    *back = RowTableHandle::of(share);
+    outcome
+}
+
+/// Makes of a frame the one before it, as `frames_c_step_lent` by the section does.
+#[unsafe(no_mangle)]
+pub extern "C" fn frames_c_row_table_step_lent(
+    alloc: Global,
+    table: RowTableHandle,
+    address: u64,
+    stack: &[u8],
+    frame: &mut FramesFrame,
+    back: &mut RowTableHandle,
+) -> u64
+    requires held { IsHeld table.held }
+    requires back { IsVacant back.old.held }
+    ensures back { back.new.held ≡ table.held }
+    ensures step { AnswersStep (section_of_rows table.held)
+        (record { address = address; bytes = stack.now } ∷ []) frame.old result frame.new }
+{
+    let share = table.open(alloc);
+    let lent = Lent {
+        address,
+        bytes: stack,
+    };
+    let outcome = step_by(&share.rows(), &lent, frame);
     *back = RowTableHandle::of(share);
     outcome
 }

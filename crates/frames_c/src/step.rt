@@ -1,6 +1,6 @@
 //! One frame of a stack from another.
 
-ghost use Rattle.std.specs.Prelude.{◌≡◌};
+ghost use Rattle.std.specs.Prelude.{◌≡◌, [], ◌∷◌};
 ghost use Rattle.frames_c.specs.Held.{IsHeld, IsVacant, held_section};
 ghost use Rattle.frames_c.specs.Recorded.{IsRecorded, HasNone, recorded_in};
 ghost use Rattle.frames_c.specs.FrameSteps.{frame_look, outcome_told, frame_after, AnswersStep};
@@ -8,7 +8,7 @@ ghost use Rattle.frames_c.specs.FrameSteps.{frame_look, outcome_told, frame_afte
 use crate::handle::SectionHandle;
 use crate::memory::MemoryHandle;
 use crate::share::LoadedSection;
-use frame_expr::{Memory, Regs};
+use frame_expr::{Lent, Regs, WordSource};
 use std::alloc::Global;
 use unwind_step::{RowSource, Stepped, step, step_at};
 
@@ -59,8 +59,8 @@ impl FramesFrame {
 }
 
 /// Makes of a frame the one before it.
-fn step_in(section: &LoadedSection, memory: &Memory, frame: &mut FramesFrame) -> u64
-    ensures { AnswersStep section.now.section memory.now frame.old result frame.new }
+fn step_in<M: WordSource>(section: &LoadedSection, memory: &M, frame: &mut FramesFrame) -> u64
+    ensures { AnswersStep section.now.section (M.regions memory.now) frame.old result frame.new }
 {
     let look = frame.look();
     match section.fde_at(look) {
@@ -76,8 +76,13 @@ fn step_in(section: &LoadedSection, memory: &Memory, frame: &mut FramesFrame) ->
 }
 
 /// Makes of a frame the one before it, by what tells the rows of a section.
-pub(crate) fn step_by<S: RowSource>(source: &S, memory: &Memory, frame: &mut FramesFrame) -> u64
-    ensures { AnswersStep (S.section source.now) memory.now frame.old result frame.new }
+pub(crate) fn step_by<S: RowSource, M: WordSource>(
+    source: &S,
+    memory: &M,
+    frame: &mut FramesFrame,
+) -> u64
+    ensures { AnswersStep (S.section source.now) (M.regions memory.now) frame.old result
+        frame.new }
 {
     let regs = Regs {
         columns: frame.columns,
@@ -111,8 +116,35 @@ pub extern "C" fn frames_c_step(
 {
     let share = section.open(alloc);
     let recorded = memory.open(alloc);
-    let outcome = step_in(share.loaded(), &recorded, frame);
+    let outcome = step_in(share.loaded(), &*recorded, frame);
     *memory_back = MemoryHandle::of(recorded);
+    *back = SectionHandle::of(share);
+    outcome
+}
+
+/// Makes of a frame the one before it, as `frames_c_step` does, by the bytes of a stack that are
+/// lent from an address on. Nothing is copied.
+#[unsafe(no_mangle)]
+pub extern "C" fn frames_c_step_lent(
+    alloc: Global,
+    section: SectionHandle,
+    address: u64,
+    stack: &[u8],
+    frame: &mut FramesFrame,
+    back: &mut SectionHandle,
+) -> u64
+    requires held { IsHeld section.held }
+    requires back { IsVacant back.old.held }
+    ensures back { back.new.held ≡ section.held }
+    ensures step { AnswersStep (held_section section.held)
+        (record { address = address; bytes = stack.now } ∷ []) frame.old result frame.new }
+{
+    let share = section.open(alloc);
+    let lent = Lent {
+        address,
+        bytes: stack,
+    };
+    let outcome = step_in(share.loaded(), &lent, frame);
     *back = SectionHandle::of(share);
     outcome
 }

@@ -1,0 +1,32 @@
+-- Modules of code, and what comes of a frame by the module of its address.
+use Rattle.std.specs.Prelude.{◌≡◌, ℕ, ◌+◌, List, Bool, Option, Some, None, nat_le, nat_lt, ◌&&◌}
+use Rattle.std.specs.List.{find}
+use Rattle.frame_expr.specs.Regions.{RegionData}
+use Rattle.frame_parse.specs.Sections.{SectionData, first_cover}
+use Rattle.unwind_step.specs.Sources.{IsStepIn}
+use Rattle.unwind_step.specs.declared.next.FoundStep.{FoundStep}
+use Rattle.stack_walk.specs.declared.modules.ModuleStep.{ModuleStep}
+use Rattle.stack_walk.specs.declared.modules.ModuleStep.TheVariants.{NoModule, NoFde, Found}
+
+-- code from an address on, and the section that tells its frames
+pub record ModuleData : Type 0 where
+  pub first : ℕ
+  pub size : ℕ
+  pub section : SectionData
+
+abbrev pub has_code_at : ℕ → ModuleData → Bool
+has_code_at pc m = nat_le m.first pc && nat_lt pc (m.first + m.size)
+
+-- the module of an address
+unfoldable pub module_at : ℕ → List ModuleData → Option ModuleData
+module_at pc ms = find (has_code_at pc) ms
+
+-- what comes of a frame's registers by the module of the address at which they are looked up
+abbrev pub IsModuleStep
+    : List ModuleData → ℕ → List ℕ → List RegionData → ModuleStep → Type 0
+IsModuleStep ms look old memory NoModule = module_at look ms ≡ None
+IsModuleStep ms look old memory NoFde =
+    (m : ModuleData) × (module_at look ms ≡ Some m) × (first_cover look m.section.fdes ≡ None)
+IsModuleStep ms look old memory (Found step) =
+    (m : ModuleData) × (module_at look ms ≡ Some m)
+    × IsStepIn m.section look old memory step.outcome step.signal

@@ -1,0 +1,11 @@
+//! Walks along a stack in one call: from a frame to its callers, over modules of code of which each
+//! has a section. A walk takes no memory, and goes on where it ended for want of room.
+#![tactic(auto)]
+
+mod modules;
+mod shown;
+mod walking;
+
+pub use modules::{ModuleList, ModuleStep};
+pub use shown::{ShownFrame, WalkEnd, WalkLine};
+pub use walking::{Walked, walk};
