@@ -4,7 +4,6 @@ use Rattle.std.specs.List.{find}
 use Rattle.frame_expr.specs.Regions.{RegionData}
 use Rattle.frame_parse.specs.Sections.{SectionData, first_cover}
 use Rattle.unwind_step.specs.Sources.{IsStepIn}
-use Rattle.unwind_step.specs.declared.next.FoundStep.{FoundStep}
 use Rattle.stack_walk.specs.declared.modules.ModuleStep.{ModuleStep}
 use Rattle.stack_walk.specs.declared.modules.ModuleStep.TheVariants.{NoModule, NoFde, Found}
 
