@@ -83,9 +83,6 @@ relocked t n level low before after later l e = record {
 pub read_locked : (t : Terms) (n level low : ℕ) (shape : NodeData) (before : Holdings) (k k' : CallerData) → (l : IsLocked t n level low before k.log.holdings) → ReadsHeld n k k' shape → l.new.settled ≡ shape
 read_locked t n level low shape before k k' l reads = reads_spelled n l.new.settled shape l.new k k' (ap (held_of n) l.held ∙ found_head n l.new before.held l.node) l.fresh.live.spells reads
 
-pub may_read_locked : (t : Terms) (n level low : ℕ) (before : Holdings) (k : CallerData) → IsLocked t n level low before k.log.holdings → IsSomeAnd (held_of n k.log.holdings.held) (λ z. IsSome (spelled z.words))
-may_read_locked t n level low before k l = may_read_found n l.new.settled l.new k (ap (held_of n) l.held ∙ found_head n l.new before.held l.node) l.fresh.live.spells
-
 -- its first child is named, and isn't held yet
 module _ (t : Terms) (n level : ℕ) (before after : Holdings) (c : NamesChild t n level before) (l : IsLocked t n level c.frame.low before after) (tree : KnowsTree after) (above : 0 < level) where
   all_marked : AllByRecursion (λ (h : Holding). IsSome h.mark) (l.new ∷ before.held)
