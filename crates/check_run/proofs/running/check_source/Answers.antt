@@ -1,6 +1,6 @@
-use Rattle.std.proofs.Common.{◌≡◌, ◌<◌, ◌≤◌, length, vec_len, refl, sym, ◌∙◌, arith}
+use Rattle.std.proofs.Common.{◌<◌, ◌≤◌, length, vec_len, refl, arith}
 use Rattle.run_ports.proofs.Endings.{ends_concluded}
-use Rattle.run_ports.proofs.Pieces.{Hands-longer, IfSome-same}
+use Rattle.run_ports.proofs.Pieces.{Hands-longer}
 use Rattle.check_run.specs.CheckOutcome.{IsDueFor}
 use Rattle.check_run.specs.CheckStatuses.{check_ending_of}
 use Rattle.check_run.specs.declared.running.TheConstants.{CHECK_LIMIT}

@@ -1,4 +1,4 @@
-use Rattle.std.proofs.Common.{◌≡◌, ◌≢◌, [], map, refl, sym, ◌∙◌}
+use Rattle.std.proofs.Common.{◌≡◌, [], map, refl, sym, ◌∙◌}
 use Rattle.std.specs.String.{string_bytes}
 use Rattle.run_ports.proofs.Endings.{ends_concluded}
 use Rattle.check_run.specs.CheckOutcome.{IsCheckDue}
