@@ -249,6 +249,27 @@ static int node_counts(void) {
   return 0;
 }
 
+/* A reader of a client and one of a reader, which look up as their makers do. */
+static int readers(registry_client *client) {
+  registry_reader first = {0}, second = {0};
+  registry_place theirs, place;
+  registry_found found, one;
+  CHECK(registry_c_reader(*client, &first, client) && first.at != NULL);
+  CHECK(registry_c_reader_again(first, &second, &first) && second.at != NULL);
+  registry_c_find(*client, 0x1010, &theirs, client);
+  registry_c_reader_find(first, 0x1010, &place, &first);
+  CHECK(is_place(place, theirs.kind, theirs.registered, theirs.loaded, theirs.member));
+  registry_c_try_loaded(*client, 0x902f, &one, client);
+  registry_c_reader_try_loaded(second, 0x902f, &found, &second);
+  CHECK(is_found(found, REGISTRY_HIT, one.stamp, fixed[1]));
+  registry_c_try_registered(*client, 0x902f, &one, client);
+  registry_c_reader_try_registered(second, 0x902f, &found, &second);
+  CHECK(is_found(found, REGISTRY_MISS, one.stamp, no_member));
+  uint32_t seen = registry_c_seen(*client, client);
+  CHECK(registry_c_reader_drop(first) == seen && registry_c_reader_drop(second) == seen);
+  return 0;
+}
+
 /* One that is closed beside another isn't alone. */
 static int closes(registry_client client) {
   registry_client other = {0};
@@ -270,6 +291,7 @@ int main(void) {
   if (loads(&client) || registrations(&client) || places(&client)) return 1;
   if (cached_places(&client) || members(&client)) return 1;
   CHECK(heap_calls() == 0);
+  if (readers(&client)) return 1;
   if (splits(&client) || spent(&client) || other_registries(&client)) return 1;
   if (closes(client) || node_counts()) return 1;
   printf("all answers as worked out\n");

@@ -105,6 +105,23 @@ static enum outcome close(void) {
   return DONE;
 }
 
+/* Whoever makes a reader goes on, and one that is left frees the registry. */
+static enum outcome make_readers(void) {
+  registry_client client = {0};
+  registry_reader first = {0}, second = {0};
+  uint32_t seen = 99;
+  CHECK(registry_c_new(&limits, fixed, 2, &client) == REGISTRY_NEW);
+  refuse();
+  bool has_first = registry_c_reader(client, &first, &client);
+  bool has_both = has_first && registry_c_reader_again(first, &second, &first);
+  refuse_no_more();
+  CHECK(has_first == (first.at != NULL) && has_both == (second.at != NULL));
+  CHECK(registry_c_close(client, &seen) && seen == 0);
+  if (has_both) CHECK(registry_c_reader_drop(second) == 0);
+  if (has_first) CHECK(registry_c_reader_drop(first) == 0);
+  return has_both ? DONE : REFUSED;
+}
+
 /* How many allocations were refused in turn. */
 static unsigned refused;
 
@@ -118,7 +135,7 @@ static enum outcome each_refused(enum outcome (*call)(void)) {
 }
 
 int main(void) {
-  enum outcome (*const calls[])(void) = {make, split, join, close};
+  enum outcome (*const calls[])(void) = {make, split, join, make_readers, close};
   for (size_t i = 0; i < sizeof calls / sizeof *calls; i++) CHECK(each_refused(calls[i]) == DONE);
   printf("registry_want: %u allocations refused, all told\n", refused);
   return 0;

@@ -9,7 +9,7 @@
  *
  *   - What a call writes (`out`, `back`, `other_back`, `answer`, `found`, `place`, `seen`) is
  *     writable, aligned, and apart from all else that the call is given. What it holds before
- *     doesn't matter, but for a client: that holds nothing.
+ *     doesn't matter, but for a client or a reader: that holds nothing.
  *   - What a call reads (`limits`, `fixed`, `member`) nobody writes while the call runs. An array
  *     of length 0 has an address too, which isn't null.
  *   - A client is one pointer. C owns it from the call that wrote it until it is joined or closed.
@@ -23,8 +23,10 @@
  *     threads with a client each don't meet: no call waits. A client goes from one thread to
  *     another in order: by a lock, or by a thread's start or join.
  *   - Clients that are joined are of one registry, or the names of their registries differ.
+ *   - A reader is a pointer too, and all that is said of a client's is true of a reader's: until
+ *     registry_c_reader_drop C owns it, and one call at a time is given it.
  *   - malloc, realloc and free are those of the program, and don't fail but by NULL. Only the calls
- *     that make, split, join and close call them.
+ *     that make, split, join, close and drop call them.
  *
  * Updates have numbers, 1, 2, 3 and so on, in the order in which they were accepted, by whichever
  * client. A stamp is such a number too: an answer with stamp 7 is right of the ranges after the
@@ -50,6 +52,13 @@
  * name behind, a few words with the client that it was split off from; and no other client is alone
  * from then on, however many are joined.
  *
+ * Readers. A reader looks up as a client does, and owes nothing: no client waits for it, it counts in
+ * no bound, and a client that is alone stays so beside readers. It may be dropped at any time, in any
+ * order, by any thread, also after all clients were closed; the registry is freed with the last of
+ * either. So a thread that only looks up drops its reader as it ends, or leaves it to another thread.
+ * One that is never dropped keeps the registry's memory, and nothing else. What a reader is told
+ * never goes back, nor below what its maker had been told. It costs one small allocation.
+ *
  * In a signal handler: registry_c_left, registry_c_seen, the lookups and the updates take no memory
  * and wait for nobody, each step is one atomic access of a word. Give the handler a client of its
  * own, which no call that it may interrupt was given. An update may then be BUSY for as long as the
@@ -63,6 +72,9 @@
  * In the forked child of a process with threads: the same calls, and no other. Where a thread was
  * within an update when the process was forked, its locks stay taken in the child: updates are BUSY
  * and lookups that pass there AGAIN, however often they are tried.
+ *
+ * Of a reader too: in a handler, and in a forked child, look up by one that was made before, which
+ * no call that the handler interrupts was given. To make or drop one takes or frees memory.
  */
 #ifndef REGISTRY_C_H
 #define REGISTRY_C_H
@@ -145,7 +157,7 @@ enum registry_join {
 uint64_t registry_c_join(registry_client client, registry_client other, registry_client *back,
                          registry_client *other_back) REGISTRY_C_NONNULL;
 
-/* Frees a client, and the registry with its last one. `seen` is how many updates it had seen. True:
+/* Frees a client, and the registry with the last of its clients and readers. `seen` is how many updates it had seen. True:
  * every other client was joined into it, and then these are all that were ever accepted. */
 bool registry_c_close(registry_client client, uint32_t *seen) REGISTRY_C_NONNULL;
 
@@ -204,6 +216,37 @@ void registry_c_find(registry_client client, uint64_t pc, registry_place *place,
  * addresses are loaded ones, or updates come as often as lookups, registry_c_find is faster. */
 void registry_c_find_cached(registry_client client, uint64_t pc, registry_place *place,
                             registry_client *back) REGISTRY_C_NONNULL;
+
+/* ---- readers --------------------------------------------------------------------------------- */
+
+/* A reader of a registry, or nothing: {0}. */
+typedef struct {
+  void *at;
+} registry_reader;
+
+/* Makes a reader that has seen what a client has. True: `out` has it. False: memory ran out. */
+bool registry_c_reader(registry_client client, registry_reader *out,
+                       registry_client *back) REGISTRY_C_NONNULL;
+
+/* Makes another reader, which has seen what one has. True: `out` has it. False: memory ran out. */
+bool registry_c_reader_again(registry_reader reader, registry_reader *out,
+                             registry_reader *back) REGISTRY_C_NONNULL;
+
+/* Frees a reader, and the registry with the last of its clients and readers. How many updates it
+ * had seen. */
+uint32_t registry_c_reader_drop(registry_reader reader);
+
+/* As registry_c_try_registered, by a reader. */
+void registry_c_reader_try_registered(registry_reader reader, uint64_t pc, registry_found *found,
+                                      registry_reader *back) REGISTRY_C_NONNULL;
+
+/* As registry_c_try_loaded, by a reader. */
+void registry_c_reader_try_loaded(registry_reader reader, uint64_t pc, registry_found *found,
+                                  registry_reader *back) REGISTRY_C_NONNULL;
+
+/* As registry_c_find, by a reader. */
+void registry_c_reader_find(registry_reader reader, uint64_t pc, registry_place *place,
+                            registry_reader *back) REGISTRY_C_NONNULL;
 
 /* ---- updates --------------------------------------------------------------------------------- */
 

@@ -46,12 +46,11 @@ pub record IsClient (c : ClientData) : Type 0 where
 abbrev pub LeadsToClient : Option ClientData → Type 0
 LeadsToClient held = (c : ClientData) × (held ≡ Some c)
 
-abbrev pub LeadsNowhere : Option ClientData → Type 0
+abbrev pub LeadsNowhere : {D : Type 0} → Option D → Type 0
 LeadsNowhere held = held ≡ None
 
--- A handle that led to a client leads to it again, and this was made of the client.
-abbrev pub Makes : (ClientData → ClientData → Type 0) → Option ClientData → Option ClientData
-    → Type 0
+-- A handle that led to a client, or to a reader, leads to it again, and this was made of it.
+abbrev pub Makes : {D : Type 0} → (D → D → Type 0) → Option D → Option D → Type 0
 Makes step (Some c) (Some c') = step c c'
 Makes step _ _ = ⊥
 

@@ -61,15 +61,19 @@ AsksLoadedBy by.Caches = AsksLoadedCached
 
 -- The registered half was asked once, and where that misses the loader's, once. The one that isn't
 -- answered is the last one asked.
-abbrev pub FindsOnce : LookupBy → ℕ → ClientData → ClientData → Result Place Again → Type 0
-FindsOnce how pc c c' (Ok place) = IsPlace place × elim place.loaded [
-  | None ↦ AsksRegisteredBy how pc c c' (Ok place.registered)
-  | Some found ↦ (mid : ClientData) × (AsksRegisteredBy how pc c mid (Ok place.registered)
-      × AsksLoadedBy how pc mid c' (Ok found))
+abbrev pub FindsByHalves : {D : Type 0} → (ℕ → D → D → Result Found Again → Type 0)
+    → (ℕ → D → D → Result Found Again → Type 0) → ℕ → D → D → Result Place Again → Type 0
+FindsByHalves {D} registered loaded pc c c' (Ok place) = IsPlace place × elim place.loaded [
+  | None ↦ registered pc c c' (Ok place.registered)
+  | Some found ↦ (mid : D) × (registered pc c mid (Ok place.registered)
+      × loaded pc mid c' (Ok found))
 ]
-FindsOnce how pc c c' (Err again) = AsksRegisteredBy how pc c c' (Err again)
-    ⊎ ((mid : ClientData) × (stamp : ℕ) × (AsksRegisteredBy how pc c mid (Ok (Miss stamp))
-    × AsksLoadedBy how pc mid c' (Err again)))
+FindsByHalves {D} registered loaded pc c c' (Err again) = registered pc c c' (Err again)
+    ⊎ ((mid : D) × (stamp : ℕ) × (registered pc c mid (Ok (Miss stamp))
+    × loaded pc mid c' (Err again)))
+
+abbrev pub FindsOnce : LookupBy → ℕ → ClientData → ClientData → Result Place Again → Type 0
+FindsOnce how = FindsByHalves (AsksRegisteredBy how) (AsksLoadedBy how)
 
 -- the kinds of answers of one half
 abbrev pub MISS : ℕ
@@ -119,7 +123,7 @@ place_told (Err again) =
     record { kind = FIND_AGAIN; registered = 0; loaded = 0; member = no_member }
 
 -- A lookup was made, which is told so.
-abbrev pub TellsFind : {A T : Type 0} → (ℕ → ClientData → ClientData → Result A Again → Type 0)
-    → (Result A Again → T) → ℕ → T → ClientData → ClientData → Type 0
-TellsFind {A} step told pc answer c c' =
+abbrev pub TellsFind : {D A T : Type 0} → (ℕ → D → D → Result A Again → Type 0)
+    → (Result A Again → T) → ℕ → T → D → D → Type 0
+TellsFind {D} {A} step told pc answer c c' =
     (result : Result A Again) × (step pc c c' result × (answer ≡ told result))

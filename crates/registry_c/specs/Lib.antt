@@ -3,6 +3,7 @@ pub mod Clients
 pub mod Finds
 pub mod Limits
 pub mod Members
+pub mod Readers
 pub mod Splits
 pub mod Tries
 pub mod Updates

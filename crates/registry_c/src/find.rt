@@ -54,7 +54,7 @@ const LOADED: u32 = 2;
 const FIND_AGAIN: u32 = 3;
 
 impl RegistryFound {
-    fn of(answer: Result<Found, Again>) -> RegistryFound
+    pub(crate) fn of(answer: Result<Found, Again>) -> RegistryFound
         ensures { result ≡ found_told answer }
     {
         match answer {
@@ -104,7 +104,7 @@ impl RegistryPlace {
         }
     }
 
-    fn of(answer: Result<Place, Again>) -> RegistryPlace
+    pub(crate) fn of(answer: Result<Place, Again>) -> RegistryPlace
         ensures { result ≡ place_told answer }
     {
         let Ok(place) = answer else {

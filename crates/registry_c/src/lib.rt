@@ -12,6 +12,9 @@ mod find;
 mod handle;
 mod limits;
 mod member;
+mod reader;
+mod reader_handle;
+mod readers;
 mod splits;
 mod updates;
 
@@ -28,4 +31,10 @@ pub use find::{
 pub use handle::ClientHandle;
 pub use limits::RegistryLimits;
 pub use member::RegistryMember;
+pub use reader::RegistryReader;
+pub use reader_handle::ReaderHandle;
+pub use readers::{
+    registry_c_reader, registry_c_reader_again, registry_c_reader_drop, registry_c_reader_find,
+    registry_c_reader_try_loaded, registry_c_reader_try_registered,
+};
 pub use updates::{registry_c_deregister, registry_c_load, registry_c_register, registry_c_unload};

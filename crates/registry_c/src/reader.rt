@@ -1,0 +1,113 @@
+//! What the handle of a reader leads to: the registry that it shares with the clients, and one that
+//! only looks up. No client waits for it.
+
+ghost use Rattle.std.specs.Prelude.{◌≡◌, IfOk, length};
+ghost use Rattle.registry_c.specs.Readers.{ReaderAsksLoaded, ReaderAsksRegistered, ReaderFinds};
+ghost use Rattle.registry_c.specs.Readers.{reader_beside};
+
+use crate::client::Client;
+use reg_model::{Again, Found, NoMemory, Place};
+use registry_core::Registry;
+use std::alloc::Global;
+use std::marker::Model;
+use std::sync::Arc;
+use word_rule::Reader;
+
+/// A reader of a registry: one thread at a time looks up by it.
+#[derive(Drop)]
+pub struct RegistryReader {
+    registry: Arc<Registry, Global>,
+    me: Reader,
+}
+
+impl Model for RegistryReader {
+    ghost use Rattle.std.specs.Prelude.{◌≡◌};
+    ghost use Rattle.std.specs.Arc.{arc_value};
+    ghost use Rattle.registry_c.specs.Readers.{ReaderData};
+
+    ghost Value = { ReaderData };
+
+    ghost view = { λ r. record { words = arc_value r.registry; me = r.me } };
+
+    ghost invariant = { λ r. r.me.table ≡ (arc_value r.registry).table };
+}
+
+impl Client {
+    /// A reader that has seen what the client has.
+    pub(crate) fn reader(&mut self, alloc: Global) -> Result<Box<RegistryReader, Global>, NoMemory>
+        ensures same { self.new ≡ self.old }
+        ensures reader { IfOk result
+            (λ reader. reader.value ≡ reader_beside self.old.words self.old.me) }
+    {
+        let Ok(registry) = Arc::try_clone(&self.registry) else {
+            return Err(NoMemory);
+        };
+        let me = self.registry.reader_of(&mut self.me);
+        match Box::new(alloc, RegistryReader { registry, me }) {
+            Ok(reader) => Ok(reader),
+            Err(_) => Err(NoMemory),
+        }
+    }
+}
+
+impl RegistryReader {
+    /// Another reader, which has seen what this one has.
+    pub(crate) fn another(&mut self, alloc: Global) -> Result<Box<RegistryReader, Global>, NoMemory>
+        ensures same { self.new ≡ self.old }
+        ensures reader { IfOk result
+            (λ reader. reader.value ≡ reader_beside self.old.words self.old.me) }
+    {
+        let Ok(registry) = Arc::try_clone(&self.registry) else {
+            return Err(NoMemory);
+        };
+        let me = self.registry.another_reader(&mut self.me);
+        match Box::new(alloc, RegistryReader { registry, me }) {
+            Ok(reader) => Ok(reader),
+            Err(_) => Err(NoMemory),
+        }
+    }
+
+    /// How many updates it has seen.
+    pub(crate) fn seen(&self) -> u32
+        ensures { result ≡ length self.now.me.log.past }
+    {
+        self.me.seen()
+    }
+
+    /// Asks the registered half once.
+    pub(crate) fn try_registered(&mut self, pc: u64) -> Result<Found, Again>
+        ensures { ReaderAsksRegistered pc self.old self.new result }
+    {
+        self.registry.try_registered(&mut self.me, pc)
+    }
+
+    /// Asks the loader's half once.
+    pub(crate) fn try_loaded(&mut self, pc: u64) -> Result<Found, Again>
+        ensures { ReaderAsksLoaded pc self.old self.new result }
+    {
+        self.registry.try_loaded(&mut self.me, pc)
+    }
+
+    /// Asks the registered half once, and where that misses the loader's.
+    pub(crate) fn find(&mut self, pc: u64) -> Result<Place, Again>
+        ensures { ReaderFinds pc self.old self.new result }
+    {
+        let registered = match self.try_registered(pc) {
+            Ok(registered) => registered,
+            Err(again) => return Err(again),
+        };
+        match registered {
+            Found::Hit { .. } => Ok(Place {
+                registered,
+                loaded: None,
+            }),
+            Found::Miss { .. } => match self.try_loaded(pc) {
+                Ok(loaded) => Ok(Place {
+                    registered,
+                    loaded: Some(loaded),
+                }),
+                Err(again) => Err(again),
+            },
+        }
+    }
+}
