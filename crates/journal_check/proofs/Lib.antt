@@ -10,3 +10,4 @@ pub mod Numbers
 pub mod Strict
 pub mod Passing
 pub mod TextVerdicts
+pub mod ToldLines

@@ -1,7 +1,11 @@
 //! Laws of the definitions. Each is the contract of a function that does nothing.
 
-ghost use Rattle.std.specs.Prelude.{◌≡◌, ℕ, ◌↔◌, List, All};
+ghost use Rattle.std.specs.Prelude.{◌≡◌, ℕ, ◌+◌, ◌↔◌, List, length, All};
 ghost use Rattle.std.specs.List.{AllZip};
+ghost use Rattle.reg_model.specs.SpanData.{SpanData};
+ghost use Rattle.event_script.specs.Fields.{pieces};
+ghost use Rattle.event_script.specs.Text.{answer_lines, journal_text};
+ghost use Rattle.event_script.specs.declared.journal.Answer.{Answer};
 ghost use Rattle.event_script.specs.ScriptData.{ScriptData, IsRunnable};
 ghost use Rattle.event_script.specs.JournalData.{JournalData};
 ghost use Rattle.event_script.specs.Lawful.{thread_receipts, in_one, AreInRounds};
@@ -29,6 +33,15 @@ pub fn all_receipts_are_told()
     ensures { (script : ScriptData) (journal : JournalData)
         → told_receipts (account_of script journal).told
         ≡ in_one (thread_receipts script.images journal) }
+{}
+
+/// Each event is told on as many lines as its text has, and the last line is the text's: after it
+/// comes nothing.
+pub fn told_lines_are_those_of_the_text()
+    ensures each { (images : List SpanData) (answer : Answer)
+        → length (receipt_lines images answer) ≡ length (answer_lines answer) }
+    ensures last { (script : ScriptData) (journal : JournalData)
+        → (account_of script journal).last + 1 ≡ length (pieces 10 (journal_text journal)) }
 {}
 
 /// No stamp or number is against its round exactly where all lie between the updates of the rounds
