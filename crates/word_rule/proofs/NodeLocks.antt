@@ -1,5 +1,5 @@
 -- The lock of a node keeps the rule.
-use Rattle.std.proofs.Common.{◌≡◌, ◌≢◌, ℕ, zero, suc, ◌+◌, ◌*◌, ◌/◌, ◌%◌, ◌^◌, ◌<◌, ◌≤◌, List, [], ◌∷◌, get_or, set, length-set, sym, refl, ap, ◌∙◌, subst, inl, inr, ⊎_elim, arith, ◌==◌, false, IsTrue, Some, None, IfSome, IsSome, eq-eqb, ne_eqb, append-nil}
+use Rattle.std.proofs.Common.{◌≡◌, ◌≢◌, ℕ, zero, suc, ◌+◌, ◌*◌, ◌/◌, ◌%◌, ◌^◌, ◌<◌, ◌≤◌, List, [], ◌∷◌, get_or, set, length-set, sym, refl, ap, ◌∙◌, subst, inl, inr, ⊎_elim, arith, ◌==◌, false, IsTrue, Option, Some, None, IfSome, IsSome, eq-eqb, ne_eqb, append-nil}
 use Rattle.std.proofs.lemmas.Option.{none-some}
 use Rattle.std.proofs.lemmas.List.Sums.{sum_by-cons}
 use Rattle.std.specs.List.{AllByRecursion, count_by}
@@ -7,6 +7,7 @@ use mathlib.Core.Option.{some}
 use native.Mathlib.Decide.{ℕ_discrete}
 use lib.ListN.{get_elem?}
 use Rattle.atomic_table.proofs.Lists.{set_here}
+use Rattle.tree_shape.specs.declared.node.Frame.{Frame}
 use Rattle.tree_shape.specs.Numbers.{times, once}
 use Rattle.word_rule.specs.declared.log.Role.TheVariants as role
 use Rattle.word_rule.specs.declared.log.Terms.{Terms}
@@ -17,7 +18,7 @@ use Rattle.word_rule.specs.Memory.{NodeWords, Memory, memory_of, updated, node_c
 use Rattle.word_rule.specs.Spelling.{SpellsNode}
 use Rattle.word_rule.specs.Held.{held_of}
 use Rattle.word_rule.specs.Logs.{is_nameless, load_of, after_load, own_list}
-use Rattle.word_rule.specs.Steps.{mark_at_lock, after_node_lock}
+use Rattle.word_rule.specs.Steps.{after_marked_lock}
 use Rattle.word_rule.specs.Callers.{total, IsLockedAt}
 use Rattle.word_rule.specs.Nodes.{Shadow, NodesHold, HoldsNode, HoldingsHold, HeldBy, IsOpen, IsPlaced}
 use Rattle.word_rule.specs.Observations.{SightHolds, IsFullCount, HadMembers, WasFull}
@@ -78,7 +79,7 @@ module _ (t : Terms) (slots id : ℕ) (me : Seated) (caller : me.0.role ≡ role
       (λ alone. still_after_load s.words me.0 w (load_of me.0 (4 + 36 * n) found) refl refl refl (r.alone id me.0 here alone))
 
   module _ (n seen : ℕ) (inside : n < t.nodes) (s : Sit) (r : Holds s) (at : get_elem? s.views id ≡ some me.0) (hit : (memory_of t s.words).nodes.versions n ≡ seen) (even : seen % 2 ≡ 0)
-      (marks : IfSome (mark_at_lock n (r.memory.shadow.settled n) me.0.holdings.held) (λ f. IsTrue (r.memory.shadow.live n) × IsPlaced (r.memory.shadow.settled n) f)) where
+      (mark : Option Frame) (marks : IfSome mark (λ f. IsTrue (r.memory.shadow.live n) × IsPlaced (r.memory.shadow.settled n) f)) where
     abbrev words : NodeWords
     words = (memory_of t s.words).nodes
 
@@ -92,7 +93,7 @@ module _ (t : Terms) (slots id : ℕ) (me : Seated) (caller : me.0.role ≡ role
     shadow' = record r.memory.shadow { holder = updated r.memory.shadow.holder n (Some id); stored = updated r.memory.shadow.stored n false }
 
     abbrev w : Log
-    w = after_node_lock n seen (r.memory.shadow.settled n) ((memory_of t s.words).nodes.contents n) me.0
+    w = after_marked_lock mark n seen (r.memory.shadow.settled n) ((memory_of t s.words).nodes.contents n) me.0
 
     open_before : r.memory.shadow.holder n ≡ None
     open_before = even_is_open t (memory_of t s.words).nodes s.views r.memory.history r.memory.shadow r.memory.nodes n (ap (λ k. k % 2) hit ∙ even)
@@ -121,7 +122,7 @@ module _ (t : Terms) (slots id : ℕ) (me : Seated) (caller : me.0.role ≡ role
     }
 
     abbrev lock : Holding
-    lock = record { node = n; version = seen; settled = r.memory.shadow.settled n; words = (memory_of t s.words).nodes.contents n; stored = false; mark = mark_at_lock n (r.memory.shadow.settled n) me.0.holdings.held }
+    lock = record { node = n; version = seen; settled = r.memory.shadow.settled n; words = (memory_of t s.words).nodes.contents n; stored = false; mark = mark }
 
     new_lock : HoldsNode t words' shadow' id lock
     new_lock = record {
@@ -136,7 +137,7 @@ module _ (t : Terms) (slots id : ℕ) (me : Seated) (caller : me.0.role ≡ role
       unmarked = λ _ _. was_open.1;
     }
 
-    mine : HoldingsHold t words' shadow' id (after_node_lock n seen (r.memory.shadow.settled n) ((memory_of t s.words).nodes.contents n) me.0).holdings
+    mine : HoldingsHold t words' shadow' id (after_marked_lock mark n seen (r.memory.shadow.settled n) ((memory_of t s.words).nodes.contents n) me.0).holdings
     mine = let h = r.memory.nodes.holdings id me.0 at in record {
       each = (new_lock, all_map (HoldsNode t (memory_of t s.words).nodes r.memory.shadow id) (HoldsNode t words' shadow' id) (same_lock id) me.0.holdings.held h.each);
       once = λ k. let c = sum_by-cons (λ (g : Holding). once (g.node == k)) lock me.0.holdings.held in once_with k (ℕ_discrete n k) c (h.once k);

@@ -1,5 +1,5 @@
 -- Steps on the lock of any node: it is taken, is found taken, is marked as slept on, or is let go with the version that it had.
-use Rattle.std.proofs.Common.{◌≡◌, ℕ, zero, suc, ◌+◌, ◌-◌, ◌*◌, ◌%◌, ◌^◌, ◌<◌, ◌⊎◌, List, [], ◌∷◌, length, get_or, set, sym, refl, ap, ◌∙◌, subst, inl, inr, ⊎_elim, arith, ◌==◌, MatchBool, Bool, false, IsTrue, bit_or, Option, Some, None, IfSome, eq-eqb, ne_eqb}
+use Rattle.std.proofs.Common.{◌≡◌, ℕ, zero, suc, ◌+◌, ◌-◌, ◌*◌, ◌%◌, ◌^◌, ◌<◌, ◌⊎◌, List, [], ◌∷◌, length, get_or, set, sym, refl, ap, ◌∙◌, subst, inl, inr, ⊎_elim, arith, ◌==◌, MatchBool, Bool, true, false, IsTrue, if◌then◌else◌, bit_or, Option, Some, None, IfSome, eq-eqb, ne_eqb}
 use Rattle.std.proofs.lemmas.Nat.{or_disjoint}
 use Rattle.std.specs.Int.Bits.{or_add_and}
 use lib.Bits.{and_mask}
@@ -27,20 +27,24 @@ use Rattle.word_rule.specs.Memory.{NodeWords, memory_of, updated}
 use Rattle.word_rule.specs.Spelling.{SpellsNode}
 use Rattle.word_rule.specs.Held.{held_of}
 use Rattle.word_rule.specs.Logs.{is_gone, is_nameless, after_load, after_write}
-use Rattle.word_rule.specs.Steps.{place_in, place_by, first_mark, place_by_held, mark_at_lock, after_node_lock}
+use Rattle.word_rule.specs.Steps.{place_in, place_by, first_mark, place_by_held, mark_at_lock, mark_at_version, after_node_lock, after_seen_lock}
+use Rattle.word_rule.specs.Sights.{place_at, place_of, sight_of}
+use Rattle.word_rule.specs.Observations.{AreOfNode, SightHolds}
+use Rattle.word_rule.specs.declared.log.NodeSight.{NodeSight}
 use Rattle.word_rule.specs.Callers.{IsLockedAt}
 use Rattle.word_rule.specs.Nodes.{HoldsNode, HoldingsHold, IsOpen, IsPlaced}
-use Rattle.word_rule.specs.NodeTells.{IsLiveNode, IsTakenNode}
+use Rattle.word_rule.specs.NodeTells.{IsLiveNode, IsSeenNode, IsTakenNode}
 use Rattle.word_rule.specs.TableInvariant.{TableInvariant}
-use Rattle.word_rule.specs.Plays.{Seated, locks_node, grabs_node, marks}
+use Rattle.word_rule.specs.Plays.{Seated, locks_node, locks_seen, grabs_node, marks}
 use Rattle.word_rule.proofs.Each.{all_map}
 use Rattle.word_rule.proofs.Memories.{load_version_at, content_length, by_same}
+use Rattle.word_rule.proofs.Spells.{eqb_true}
 use Rattle.word_rule.proofs.Standing.{even_is_open, held_by}
 use Rattle.word_rule.proofs.Frames.{Sit}
 use Rattle.word_rule.proofs.NodesFrame.{holder_stays}
 use Rattle.word_rule.proofs.HeadPlays.{RootLaw}
 use Rattle.word_rule.proofs.NodeLocks.{updated_here, updated_other, refused, locked, four, bounded}
-use Rattle.word_rule.proofs.NodeVersions.{ChildrenLaw, is_live_node}
+use Rattle.word_rule.proofs.NodeVersions.{ChildrenLaw, found_sight, is_live_node}
 use Rattle.word_rule.proofs.VersionSteps.{stepped_version, words', shadow'}
 
 -- the child that a list of branches names has its place
@@ -90,6 +94,43 @@ module _ (t : Terms) (slots id : ℕ) (me : Seated) (caller : me.0.role ≡ role
         go (yes e) named_there = rw (eq-eqb n 0 e) (ap r.memory.shadow.live e ∙ root r.memory.shadow.settled r.memory.shadow.live r.memory.nodes.lawful.tree, (refl, refl, refl))
         go (no ne) named_there = rw (ne_eqb n 0 ne) named_there
 
+    -- a live sight that has the node's version marks it, since it stands
+    by_sight : (n seen : ℕ) → (memory_of t s.words).nodes.versions n ≡ seen → IfSome (place_at seen (sight_of n me.0.sights.nodes)) (λ f. IsTrue (r.memory.shadow.live n) × IsPlaced (r.memory.shadow.settled n) f)
+    by_sight n seen hit = go (sight_of n me.0.sights.nodes) refl
+      where
+        at_version : (c : NodeSight) → SightHolds t (memory_of t s.words).nodes r.memory.history r.memory.shadow c → c.node ≡ n → (b : Bool) → (c.version == seen) ≡ b → IfSome (if b then place_of c else None) (λ f. IsTrue (r.memory.shadow.live n) × IsPlaced (r.memory.shadow.settled n) f)
+        at_version c h e false test = tt
+        at_version c h e true test = subst (λ k. IfSome (place_of c) (λ f. IsTrue (r.memory.shadow.live k) × IsPlaced (r.memory.shadow.settled k) f)) e (h.marked (inl (ap (memory_of t s.words).nodes.versions e ∙ (hit ∙ sym (eqb_true c.version seen test)))))
+
+        go : (o : Option NodeSight) → sight_of n me.0.sights.nodes ≡ o → IfSome (place_at seen o) (λ f. IsTrue (r.memory.shadow.live n) × IsPlaced (r.memory.shadow.settled n) f)
+        go None e = tt
+        go (Some c) e =
+            let is = found_sight t (memory_of t s.words).nodes r.memory.history r.memory.shadow n me.0.sights.nodes c (r.memory.observations id me.0 at).sights e in
+            at_version c is.0 is.1 (c.version == seen) refl
+
+    marks_seen : (n seen : ℕ) → (memory_of t s.words).nodes.versions n ≡ seen → IfSome (mark_at_version n seen (r.memory.shadow.settled n) me.0) (λ f. IsTrue (r.memory.shadow.live n) × IsPlaced (r.memory.shadow.settled n) f)
+    marks_seen n seen hit = go (mark_at_lock n (r.memory.shadow.settled n) me.0.holdings.held) (marks_live n) (by_sight n seen hit)
+      where
+        go : (o : Option Frame) → IfSome o (λ f. IsTrue (r.memory.shadow.live n) × IsPlaced (r.memory.shadow.settled n) f) → IfSome (place_at seen (sight_of n me.0.sights.nodes)) (λ f. IsTrue (r.memory.shadow.live n) × IsPlaced (r.memory.shadow.settled n) f)
+            → IfSome (first_mark o (place_at seen (sight_of n me.0.sights.nodes))) (λ f. IsTrue (r.memory.shadow.live n) × IsPlaced (r.memory.shadow.settled n) f)
+        go None held seen_there = seen_there
+        go (Some f) held seen_there = held
+
+    -- its words are those that were loaded in such a sight
+    words_seen : (n seen : ℕ) → (memory_of t s.words).nodes.versions n ≡ seen → IfSome (sight_of n me.0.sights.nodes) (λ c. c.version ≡ seen → AreOfNode ((memory_of t s.words).nodes.contents n) c.words)
+    words_seen n seen hit = go (sight_of n me.0.sights.nodes) refl
+      where
+        go : (o : Option NodeSight) → sight_of n me.0.sights.nodes ≡ o → IfSome o (λ c. c.version ≡ seen → AreOfNode ((memory_of t s.words).nodes.contents n) c.words)
+        go None e = tt
+        go (Some c) e same =
+            let is = found_sight t (memory_of t s.words).nodes r.memory.history r.memory.shadow n me.0.sights.nodes c (r.memory.observations id me.0 at).sights e in
+            subst (λ k. AreOfNode ((memory_of t s.words).nodes.contents k) c.words) is.1 (is.0.loaded (inl (ap (memory_of t s.words).nodes.versions is.1 ∙ (hit ∙ sym same))))
+
+    -- what is marked is live at its place, as a log is told it
+    each_live : (n : ℕ) (o : Option Frame) → IfSome o (λ f. IsTrue (r.memory.shadow.live n) × IsPlaced (r.memory.shadow.settled n) f) → IfSome o (IsLiveNode t n (r.memory.shadow.settled n))
+    each_live n None told = tt
+    each_live n (Some f) told = is_live_node t (memory_of t s.words).nodes s.views r.memory.history r.memory.shadow r.memory.nodes children n f told.0 told.1
+
     taken : (n seen : ℕ) → n < t.nodes → (memory_of t s.words).nodes.versions n ≡ seen → seen % 2 ≡ 0 → IsTakenNode n me.0 ((memory_of t s.words).nodes.contents n) (r.memory.shadow.settled n)
     taken n seen inside hit even =
         let terms : me.0.terms ≡ t = (r.memory.callers.each id me.0 at).terms (ap is_gone caller) in
@@ -99,16 +140,20 @@ module _ (t : Terms) (slots id : ℕ) (me : Seated) (caller : me.0.role ≡ role
           new = not_held (held_of n me.0.holdings.held) refl free;
           wide = content_length t s.words r.wide n inside;
           spells = spells;
-          live = subst (λ k. IfSome (mark_at_lock n (r.memory.shadow.settled n) me.0.holdings.held) (IsLiveNode k n (r.memory.shadow.settled n))) (sym terms) (each_live (mark_at_lock n (r.memory.shadow.settled n) me.0.holdings.held) (marks_live n));
+          live = subst (λ k. IfSome (mark_at_lock n (r.memory.shadow.settled n) me.0.holdings.held) (IsLiveNode k n (r.memory.shadow.settled n))) (sym terms) (each_live n (mark_at_lock n (r.memory.shadow.settled n) me.0.holdings.held) (marks_live n));
         }
       where
         not_held : (o : Option Holding) → held_of n me.0.holdings.held ≡ o → r.memory.shadow.holder n ≡ None → held_of n me.0.holdings.held ≡ None
         not_held None e free = e
         not_held (Some h) e free = let l = held_by t (memory_of t s.words).nodes s.views r.memory.history r.memory.shadow r.memory.nodes id me.0 n h at e in absurd (none-some id (sym free ∙ (ap r.memory.shadow.holder (sym l.1) ∙ l.0.is_holder)))
 
-        each_live : (o : Option Frame) → IfSome o (λ f. IsTrue (r.memory.shadow.live n) × IsPlaced (r.memory.shadow.settled n) f) → IfSome o (IsLiveNode t n (r.memory.shadow.settled n))
-        each_live None told = tt
-        each_live (Some f) told = is_live_node t (memory_of t s.words).nodes s.views r.memory.history r.memory.shadow r.memory.nodes children n f told.0 told.1
+    seen_node : (n seen : ℕ) → n < t.nodes → (memory_of t s.words).nodes.versions n ≡ seen → seen % 2 ≡ 0 → IsSeenNode n seen me.0 ((memory_of t s.words).nodes.contents n) (r.memory.shadow.settled n)
+    seen_node n seen inside hit even =
+        let terms : me.0.terms ≡ t = (r.memory.callers.each id me.0 at).terms (ap is_gone caller) in record {
+          taken = taken n seen inside hit even;
+          live = subst (λ k. IfSome (mark_at_version n seen (r.memory.shadow.settled n) me.0) (IsLiveNode k n (r.memory.shadow.settled n))) (sym terms) (each_live n (mark_at_version n seen (r.memory.shadow.settled n) me.0) (marks_seen n seen hit));
+          loaded = words_seen n seen hit;
+        }
 
   pub locks_any : ChildrenLaw → RootLaw → (n seen : ℕ) → seen % 2 ≡ 0 → n < t.nodes → Allows Holds slots id me (4 + 36 * n) (λ k. either (k == seen) (seen + 1) k) (locks_node n (step slots (4 + 36 * n) seen (seen + 1) none) me)
   locks_any children root n seen even inside s r deep at small =
@@ -122,10 +167,10 @@ module _ (t : Terms) (slots id : ℕ) (me : Seated) (caller : me.0.role ≡ role
         after_node_lock n seen (r.memory.shadow.settled n) ((memory_of t s.words).nodes.contents n) me.0,
         keeps,
         tt,
-        locked t slots id me caller n seen inside s r at hit even live,
+        locked t slots id me caller n seen inside s r at hit even (mark_at_lock n (r.memory.shadow.settled n) me.0.holdings.held) live,
         (
-          four t slots id me caller n seen inside s r at hit even live,
-          bounded t slots id me caller n seen inside s r at hit even live,
+          four t slots id me caller n seen inside s r at hit even (mark_at_lock n (r.memory.shadow.settled n) me.0.holdings.held) live,
+          bounded t slots id me caller n seen inside s r at hit even (mark_at_lock n (r.memory.shadow.settled n) me.0.holdings.held) live,
           (r.memory.shadow.settled n, (memory_of t s.words).nodes.contents n, (taken children root s r at n seen inside hit even, refl)),
         ),
       ))
@@ -137,6 +182,35 @@ module _ (t : Terms) (slots id : ℕ) (me : Seated) (caller : me.0.role ≡ role
       subst (λ p. Allows Holds slots id me p (λ x. either (x == seen) (bit_or seen 1) x) (locks_node k (step slots p seen (bit_or seen 1) none) me)) (sym is)
       (subst (λ j. Allows Holds slots id me (4 + 36 * n) (λ x. either (x == seen) (bit_or seen 1) x) (locks_node j (step slots (4 + 36 * n) seen (bit_or seen 1) none) me)) (sym node)
       (subst (λ z. Allows Holds slots id me (4 + 36 * n) (λ x. either (x == seen) z x) (locks_node n (step slots (4 + 36 * n) seen z none) me)) (sym (or_disjoint seen 1 (and_mask seen 1 ∙ even))) (locks_any children root n seen even inside)))
+
+  -- the same by sight
+  locks_seen_any : ChildrenLaw → RootLaw → (n seen : ℕ) → seen % 2 ≡ 0 → n < t.nodes → Allows Holds slots id me (4 + 36 * n) (λ k. either (k == seen) (seen + 1) k) (locks_seen n (step slots (4 + 36 * n) seen (seen + 1) none) me)
+  locks_seen_any children root n seen even inside s r deep at small =
+      let k : ℕ = get_or s.words (4 + 36 * n) 0 in
+      by_same k seen (λ b. (w : Log) × (a : Act (Unit {0})) × Valid s.homes me.1 a × Holds (stepped s (4 + 36 * n) (either b (seen + 1) k) id me.1 w a) × MatchBool b
+      ((seen % 4 ≡ 0) × (seen < 2 ^ 63) × ((settled : NodeData) × (words : List ℕ) × (IsSeenNode n seen me.0 words settled × ◌≡◌ {A = Seated} (w, carried_after me.1 a) (after_seen_lock n seen settled words me.0, me.1))))
+      (◌≡◌ {A = Seated} (w, carried_after me.1 a) (after_load (4 + 36 * n) k me.0, me.1)))
+      (λ is.
+      let hit : (memory_of t s.words).nodes.versions n ≡ seen = load_version_at t s.words n inside ∙ is in
+      let live = marks_seen children root s r at n seen hit in (
+        after_seen_lock n seen (r.memory.shadow.settled n) ((memory_of t s.words).nodes.contents n) me.0,
+        keeps,
+        tt,
+        locked t slots id me caller n seen inside s r at hit even (mark_at_version n seen (r.memory.shadow.settled n) me.0) live,
+        (
+          four t slots id me caller n seen inside s r at hit even (mark_at_version n seen (r.memory.shadow.settled n) me.0) live,
+          bounded t slots id me caller n seen inside s r at hit even (mark_at_version n seen (r.memory.shadow.settled n) me.0) live,
+          (r.memory.shadow.settled n, (memory_of t s.words).nodes.contents n, (seen_node children root s r at n seen inside hit even, refl)),
+        ),
+      ))
+      (λ miss. (after_load (4 + 36 * n) k me.0, keeps, tt, refused t slots id me caller s r n at, refl))
+
+  -- as the code has it: the bit is set by `|`
+  pub locks_seen_by_bit : ChildrenLaw → RootLaw → (n k place seen : ℕ) → k ≡ n → place ≡ 4 + 36 * n → seen % 2 ≡ 0 → n < t.nodes → Allows Holds slots id me place (λ x. either (x == seen) (bit_or seen 1) x) (locks_seen k (step slots place seen (bit_or seen 1) none) me)
+  locks_seen_by_bit children root n k place seen node is even inside =
+      subst (λ p. Allows Holds slots id me p (λ x. either (x == seen) (bit_or seen 1) x) (locks_seen k (step slots p seen (bit_or seen 1) none) me)) (sym is)
+      (subst (λ j. Allows Holds slots id me (4 + 36 * n) (λ x. either (x == seen) (bit_or seen 1) x) (locks_seen j (step slots (4 + 36 * n) seen (bit_or seen 1) none) me)) (sym node)
+      (subst (λ z. Allows Holds slots id me (4 + 36 * n) (λ x. either (x == seen) z x) (locks_seen n (step slots (4 + 36 * n) seen z none) me)) (sym (or_disjoint seen 1 (and_mask seen 1 ∙ even))) (locks_seen_any children root n seen even inside)))
 
   -- bit 0 is set in one step, whatever the word was
   module _ (children : ChildrenLaw) (root : RootLaw) (n : ℕ) (inside : n < t.nodes) where

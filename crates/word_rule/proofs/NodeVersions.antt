@@ -233,7 +233,7 @@ module _ (t : Terms) (words : NodeWords) (views : List Log) (history : List Upda
       go true rest = (all.0, rest)
       go false rest = rest
 
-  found_sight : (n : ℕ) (cs : List NodeSight) (s : NodeSight) → AllByRecursion (SightHolds t words history shadow) cs → sight_of n cs ≡ Some s → SightHolds t words history shadow s × (s.node ≡ n)
+  pub found_sight : (n : ℕ) (cs : List NodeSight) (s : NodeSight) → AllByRecursion (SightHolds t words history shadow) cs → sight_of n cs ≡ Some s → SightHolds t words history shadow s × (s.node ≡ n)
   found_sight n [] s all e = absurd (none-some s e)
   found_sight n (c ∷ cs) s all e = go (ℕ_discrete c.node n) (found_sight n cs s all.1)
     where

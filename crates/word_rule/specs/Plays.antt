@@ -12,15 +12,15 @@ use Rattle.word_rule.specs.Places.{ALLOWANCE, CREDIT, lower, node_place}
 use Rattle.word_rule.specs.Sights.{after_node_begin, after_node_version, after_node_load}
 use Rattle.word_rule.specs.Sights.{after_copy_load}
 use Rattle.word_rule.specs.Steps.{after_node_lock, after_head_load, after_copy_store, AfterPublish}
-use Rattle.word_rule.specs.Steps.{IsHeldWord, after_pop, after_push}
+use Rattle.word_rule.specs.Steps.{IsHeldWord, after_pop, after_push, after_seen_lock}
 use Rattle.word_rule.specs.Commits.{AfterCommit}
 use Rattle.word_rule.specs.Steps.{after_node_release, after_node_release_same, after_node_store}
 use Rattle.word_rule.specs.declared.log.Terms.{Terms}
 use Rattle.word_rule.specs.Clock.{AfterClock}
 use Rattle.word_rule.specs.TreeRefusals.{AppendsRefusal}
 use Rattle.word_rule.specs.Held.{held_of}
-use Rattle.word_rule.specs.NodeTells.{AloneTells, HeldTells, HolderTells, IsTakenNode, OutTells}
-use Rattle.word_rule.specs.NodeTells.{KnowsTree, SightTells}
+use Rattle.word_rule.specs.NodeTells.{AloneTells, HeldTells, HolderTells, IsSeenNode}
+use Rattle.word_rule.specs.NodeTells.{IsTakenNode, KnowsTree, OutTells, SightTells}
 use Rattle.word_rule.specs.Logs.{is_nameless, reader_log, IsTaken, after_load, after_loader_lock}
 use Rattle.word_rule.specs.Logs.{after_loader_release, after_loader_release_same, after_write}
 use Rattle.word_rule.specs.Callers.{IsLockedAt, IsAlone, IsWhole}
@@ -132,6 +132,20 @@ TakesNode n version me me' =
 abbrev pub locks_node : ℕ → Stepped → Seated → ℕ → Seated → Type 0
 locks_node n st me found me' =
     MatchBool (found == st.first) (TakesNode n st.first me me') (me'
+    ≡ (after_load (node_place n) found me.0, me.1))
+
+-- a node was taken by sight, at the version seen
+abbrev pub TakesSeen : ℕ → ℕ → Seated → Seated → Type 0
+TakesSeen n version me me' =
+    (version % 4 ≡ 0) × (version < 2 ^ 63)
+    × ((settled : NodeData) × (words : List ℕ)
+    × (IsSeenNode n version me.0 words settled
+    × (me' ≡ (after_seen_lock n version settled words me.0, me.1))))
+
+-- the same exchange, by which a sight may mark the node
+abbrev pub locks_seen : ℕ → Stepped → Seated → ℕ → Seated → Type 0
+locks_seen n st me found me' =
+    MatchBool (found == st.first) (TakesSeen n st.first me me') (me'
     ≡ (after_load (node_place n) found me.0, me.1))
 
 -- bit 0 of a node's version word was set: the node is held at the version found, or was taken

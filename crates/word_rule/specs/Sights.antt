@@ -44,6 +44,11 @@ abbrev pub place_of : NodeSight → Option Frame
 place_of s = if s.node == 0 then option_map
     (λ level. record { level = level; low = 0; high = TOP }) (loaded_word 2 s.words) else s.mark
 
+-- the same where the sight has this version
+abbrev pub place_at : ℕ → Option NodeSight → Option Frame
+place_at version None = None
+place_at version (Some s) = if s.version == version then place_of s else None
+
 -- The place that a parent's sight gives to its i-th child: it needs the child's separator, and the
 -- one before or else the parent's low fence.
 abbrev pub low_of : Frame → ℕ → List LoadedWord → Option ℕ

@@ -29,7 +29,7 @@ use Rattle.word_rule.specs.Held.{held_of, edited, without_lock, all_but, marked_
 use Rattle.word_rule.specs.Exchange.{Differs, is_lawful, settle}
 use Rattle.tree_shape.specs.Numbers.{is_among}
 use Rattle.word_rule.specs.Logs.{after_load, after_write, after_spending}
-use Rattle.word_rule.specs.Sights.{with_receipts}
+use Rattle.word_rule.specs.Sights.{place_at, sight_of, with_receipts}
 use Rattle.word_rule.specs.declared.log.Terms.{Terms}
 use Rattle.word_rule.specs.Callers.{IsOfTerms, start}
 use Rattle.word_rule.specs.Copies.{ListsAll, ListsMembers, Publishes}
@@ -56,9 +56,9 @@ mark_at_lock n settled held =
     if n == 0 then Some record { level = settled.level; low = settled.low; high = settled.high }
     else place_by_held n held
 
--- A node was locked at a version, while it had this settled content and these words.
-abbrev pub after_node_lock : ℕ → ℕ → NodeData → List ℕ → Log → Log
-after_node_lock n version settled words v = record (after_write v) {
+-- A node was locked at a version with this mark, while it had this settled content and these words.
+abbrev pub after_marked_lock : Option Frame → ℕ → ℕ → NodeData → List ℕ → Log → Log
+after_marked_lock mark n version settled words v = record (after_write v) {
   holdings = record v.holdings {
     held = record {
       node = n;
@@ -66,10 +66,26 @@ after_node_lock n version settled words v = record (after_write v) {
       settled = settled;
       words = words;
       stored = false;
-      mark = mark_at_lock n settled v.holdings.held;
+      mark = mark;
     } ∷ v.holdings.held;
   };
 }
+
+-- a node was locked at a version: what is held marks it
+abbrev pub after_node_lock : ℕ → ℕ → NodeData → List ℕ → Log → Log
+after_node_lock n version settled words v =
+    after_marked_lock (mark_at_lock n settled v.holdings.held) n version settled words v
+
+-- The mark of a node that was locked by sight: what is held marks it, or else a live sight of it
+-- that has the version at which it was locked.
+abbrev pub mark_at_version : ℕ → ℕ → NodeData → Log → Option Frame
+mark_at_version n version settled v =
+    first_mark (mark_at_lock n settled v.holdings.held)
+    (place_at version (sight_of n v.sights.nodes))
+
+abbrev pub after_seen_lock : ℕ → ℕ → NodeData → List ℕ → Log → Log
+after_seen_lock n version settled words v =
+    after_marked_lock (mark_at_version n version settled v) n version settled words v
 
 -- A node under whose lock nothing was stored was let go with the version at which it was locked.
 abbrev pub after_node_release_same : ℕ → Log → Log

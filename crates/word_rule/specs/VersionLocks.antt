@@ -14,9 +14,9 @@ use Rattle.word_rule.specs.Held.{held_of}
 use Rattle.word_rule.specs.Logs.{IsTaken, after_load, after_loader_lock}
 use Rattle.word_rule.specs.Logs.{after_loader_release, after_loader_release_same}
 use Rattle.word_rule.specs.Steps.{MayRelease, after_node_lock, after_node_release}
-use Rattle.word_rule.specs.Steps.{after_node_release_same}
+use Rattle.word_rule.specs.Steps.{after_node_release_same, after_seen_lock}
 use Rattle.word_rule.specs.Sights.{after_node_version}
-use Rattle.word_rule.specs.NodeTells.{AloneTells, IsTakenNode, SightTells}
+use Rattle.word_rule.specs.NodeTells.{AloneTells, IsSeenNode, IsTakenNode, SightTells}
 
 -- a lock that there is: the loader's, or that of a node
 abbrev pub IsLock : Terms → LockId → Type 0
@@ -53,6 +53,12 @@ abbrev pub NodeTaken : ℕ → ℕ → CallerData → CallerData → Type 0
 NodeTaken n version k k' = (settled : NodeData) × (words : List ℕ)
     × (IsTakenNode n k.log words settled
     × (k' ≡ record k { log = after_node_lock n version settled words k.log }))
+
+-- a node was locked by sight, at the version seen
+abbrev pub NodeSeen : ℕ → ℕ → CallerData → CallerData → Type 0
+NodeSeen n version k k' = (settled : NodeData) × (words : List ℕ)
+    × (IsSeenNode n version k.log words settled
+    × (k' ≡ record k { log = after_seen_lock n version settled words k.log }))
 
 -- a lock was taken at a version
 abbrev pub IsLockTaken : LockId → ℕ → CallerData → CallerData → Type 0

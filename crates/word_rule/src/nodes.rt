@@ -8,18 +8,18 @@ ghost use Rattle.word_rule.specs.Logs.{after_load, is_gone};
 ghost use Rattle.word_rule.specs.NodeTells.{AloneTells, HeldTells, HolderTells, KnowsTree};
 ghost use Rattle.word_rule.specs.NodeTells.{OutTells, SightTells};
 ghost use Rattle.word_rule.specs.Places.{node_place};
-ghost use Rattle.word_rule.specs.Plays.{TakesNode};
+ghost use Rattle.word_rule.specs.Plays.{TakesNode, TakesSeen};
 ghost use Rattle.word_rule.specs.Sights.{after_node_begin, after_node_load, after_node_version};
 ghost use Rattle.word_rule.specs.Steps.{MayRelease, MayStore, after_node_release};
 ghost use Rattle.word_rule.specs.Steps.{after_node_release_same, after_node_store};
-ghost use Rattle.word_rule.specs.VersionLocks.{NodeTaken};
+ghost use Rattle.word_rule.specs.VersionLocks.{NodeSeen, NodeTaken};
 
 use crate::caller::Caller;
 use crate::log::{Ask, Log, Role};
 use crate::places::{LOCKED, VERSION};
 use crate::rule::{
-    AtNode, BeginsSight, GrabsNode, LoadsNode, LoadsVersion, LocksNode, PeeksNode, ReleasesNode,
-    ReleasesSameNode, StoresNode,
+    AtNode, BeginsSight, GrabsNode, LoadsNode, LoadsVersion, LocksNode, LocksSeen, PeeksNode,
+    ReleasesNode, ReleasesSameNode, StoresNode,
 };
 use crate::words::Words;
 use atomic_table::Seat;
@@ -181,6 +181,41 @@ impl Words {
             × (me.new ≡ record me.old { log = after_load (node_place node) found me.old.log })) }
     {
         let found = self.try_node_for::<Brand>(&mut me.seat, node, seen);
+        if found != seen {
+            return Err(found);
+        }
+        Ok(())
+    }
+
+    fn lock_seen_for<N: AtNode>(&self, seat: &mut Seat<(), Log>, node: u32, seen: u64) -> u64
+        requires table { seat.old.table_id ≡ self.now.table }
+        requires about { N.node ≡ node }
+        requires inside { node < self.now.terms.nodes }
+        requires unlocked { seen % 2 ≡ 0 }
+        requires caller { seat.old.me.0.role ≡ Role.Caller }
+        ensures same { (seat.new.table_id ≡ seat.old.table_id) × (seat.new.id ≡ seat.old.id) }
+        ensures log { MatchBool (result == seen) (TakesSeen N.node seen seat.old.me seat.new.me)
+            (seat.new.me ≡ (after_load (node_place N.node) result seat.old.me.0, seat.old.me.1)) }
+    {
+        laws::children();
+        self.table
+            .shared
+            .compare_exchange::<LocksSeen<N>>(seat, place_of(node), seen, seen | LOCKED)
+    }
+
+    /// Locks a node by sight, in one step, at the version seen, which was not locked. Where the
+    /// caller's sight of it is live and has that version, the node is live at the sight's place,
+    /// and what was loaded of it are its words. Else answers the word found.
+    pub fn lock_seen(&self, me: &mut Caller, node: u32, seen: u64) -> Result<(), u64>
+        requires table { me.old.table ≡ self.now.table }
+        requires inside { node < self.now.terms.nodes }
+        requires unlocked { seen % 2 ≡ 0 }
+        ensures ok { IfOk result (λ _. NodeSeen node seen me.old me.new) }
+        ensures err { IfErr result
+            (λ found. (found ≢ seen)
+            × (me.new ≡ record me.old { log = after_load (node_place node) found me.old.log })) }
+    {
+        let found = self.lock_seen_for::<Brand>(&mut me.seat, node, seen);
         if found != seen {
             return Err(found);
         }

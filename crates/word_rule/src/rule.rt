@@ -208,6 +208,16 @@ impl<N: AtNode> Play<(), Log> for LocksNode<N> {
     ghost then = { locks_node N.node };
 }
 
+pub(crate) struct LocksSeen<N> {
+    node: PhantomData<N>,
+}
+
+impl<N: AtNode> Play<(), Log> for LocksSeen<N> {
+    ghost use Rattle.word_rule.specs.Plays.{locks_seen};
+
+    ghost then = { locks_seen N.node };
+}
+
 pub(crate) struct GrabsNode<N> {
     node: PhantomData<N>,
 }
