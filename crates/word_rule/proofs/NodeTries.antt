@@ -105,7 +105,7 @@ module _ (t : Terms) (slots id : ℕ) (me : Seated) (caller : me.0.role ≡ role
         go : (o : Option NodeSight) → sight_of n me.0.sights.nodes ≡ o → IfSome (place_at seen o) (λ f. IsTrue (r.memory.shadow.live n) × IsPlaced (r.memory.shadow.settled n) f)
         go None e = tt
         go (Some c) e =
-            let is = found_sight t (memory_of t s.words).nodes r.memory.history r.memory.shadow n me.0.sights.nodes c (r.memory.observations id me.0 at).sights e in
+            let is = found_sight t (memory_of t s.words).nodes s.views r.memory.history r.memory.shadow r.memory.nodes children n me.0.sights.nodes c (r.memory.observations id me.0 at).sights e in
             at_version c is.0 is.1 (c.version == seen) refl
 
     marks_seen : (n seen : ℕ) → (memory_of t s.words).nodes.versions n ≡ seen → IfSome (mark_at_version n seen (r.memory.shadow.settled n) me.0) (λ f. IsTrue (r.memory.shadow.live n) × IsPlaced (r.memory.shadow.settled n) f)
@@ -122,9 +122,9 @@ module _ (t : Terms) (slots id : ℕ) (me : Seated) (caller : me.0.role ≡ role
       where
         go : (o : Option NodeSight) → sight_of n me.0.sights.nodes ≡ o → IfSome o (λ c. c.version ≡ seen → AreOfNode ((memory_of t s.words).nodes.contents n) c.words)
         go None e = tt
-        go (Some c) e same =
-            let is = found_sight t (memory_of t s.words).nodes r.memory.history r.memory.shadow n me.0.sights.nodes c (r.memory.observations id me.0 at).sights e in
-            subst (λ k. AreOfNode ((memory_of t s.words).nodes.contents k) c.words) is.1 (is.0.loaded (inl (ap (memory_of t s.words).nodes.versions is.1 ∙ (hit ∙ sym same))))
+        go (Some c) e =
+            let is = found_sight t (memory_of t s.words).nodes s.views r.memory.history r.memory.shadow r.memory.nodes children n me.0.sights.nodes c (r.memory.observations id me.0 at).sights e in
+            λ same. subst (λ k. AreOfNode ((memory_of t s.words).nodes.contents k) c.words) is.1 (is.0.loaded (inl (ap (memory_of t s.words).nodes.versions is.1 ∙ (hit ∙ sym same))))
 
     -- what is marked is live at its place, as a log is told it
     each_live : (n : ℕ) (o : Option Frame) → IfSome o (λ f. IsTrue (r.memory.shadow.live n) × IsPlaced (r.memory.shadow.settled n) f) → IfSome o (IsLiveNode t n (r.memory.shadow.settled n))
@@ -151,7 +151,7 @@ module _ (t : Terms) (slots id : ℕ) (me : Seated) (caller : me.0.role ≡ role
     seen_node n seen inside hit even =
         let terms : me.0.terms ≡ t = (r.memory.callers.each id me.0 at).terms (ap is_gone caller) in record {
           taken = taken n seen inside hit even;
-          live = subst (λ k. IfSome (mark_at_version n seen (r.memory.shadow.settled n) me.0) (IsLiveNode k n (r.memory.shadow.settled n))) (sym terms) (each_live n (mark_at_version n seen (r.memory.shadow.settled n) me.0) (marks_seen n seen hit));
+          live = subst (λ k. IfSome (place_at seen (sight_of n me.0.sights.nodes)) (IsLiveNode k n (r.memory.shadow.settled n))) (sym terms) (each_live n (place_at seen (sight_of n me.0.sights.nodes)) (by_sight n seen hit));
           loaded = words_seen n seen hit;
         }
 

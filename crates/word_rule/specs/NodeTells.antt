@@ -20,8 +20,8 @@ use Rattle.word_rule.specs.Spelling.{node_word, SpellsNode}
 use Rattle.word_rule.specs.Held.{held_of}
 use Rattle.word_rule.specs.Logs.{turns}
 use Rattle.word_rule.specs.Callers.{IsAlone, start}
-use Rattle.word_rule.specs.Sights.{sight_of, place_of}
-use Rattle.word_rule.specs.Steps.{mark_at_lock, mark_at_version}
+use Rattle.word_rule.specs.Sights.{place_at, place_of, sight_of}
+use Rattle.word_rule.specs.Steps.{mark_at_lock}
 use Rattle.word_rule.specs.Nodes.{IsPlaced}
 use Rattle.word_rule.specs.Observations.{AreInside, AreOfNode}
 
@@ -102,10 +102,10 @@ pub record IsTakenNode (n : ℕ) (v : Log) (words : List ℕ) (settled : NodeDat
   pub spells : SpellsNode words settled
   pub live : IfSome (mark_at_lock n settled v.holdings.held) (IsLiveNode v.terms n settled)
 
--- What the lock of a node by sight tells beside. Where its sight has the version at which it was
--- locked, its words are those that were loaded; and where that sight is live, it is live there.
-pub record IsSeenNode (n version : ℕ) (v : Log) (words : List ℕ) (settled : NodeData) : Type 0 where
+-- What the lock of a node by sight tells beside. Where its sight has the version seen, its words
+-- are those that were loaded in it; and where that sight is live, so is the node, at that place.
+pub record IsSeenNode (n seen : ℕ) (v : Log) (words : List ℕ) (settled : NodeData) : Type 0 where
   pub taken : IsTakenNode n v words settled
-  pub live : IfSome (mark_at_version n version settled v) (IsLiveNode v.terms n settled)
-  pub loaded : IfSome (sight_of n v.sights.nodes) (λ s. s.version ≡ version
+  pub loaded : IfSome (sight_of n v.sights.nodes) (λ s. s.version ≡ seen
       → AreOfNode words s.words)
+  pub live : IfSome (place_at seen (sight_of n v.sights.nodes)) (IsLiveNode v.terms n settled)
