@@ -1,5 +1,5 @@
 -- What is told stands on as many lines as its text has.
-use Rattle.std.proofs.Common.{◌≡◌, ℕ, ◌+◌, List, [], ◌∷◌, ◌++◌, length, map, length-append, refl, sym, ◌∙◌, ap, arith}
+use Rattle.std.proofs.Common.{◌≡◌, ℕ, ◌+◌, List, [], ◌∷◌, ◌++◌, length, map, length-append, refl, ap, arith}
 use Rattle.std.specs.List.{sum_by, count_by}
 use Rattle.std.proofs.lemmas.List.{length-map}
 use Rattle.std.proofs.lemmas.List.Sums.{sum_by-append, sum_by-cons}
@@ -16,7 +16,7 @@ use Rattle.event_script.specs.declared.journal.Answer.TheVariants.{Register, Der
 use Rattle.journal_reader.specs.JournalLines.{event_lines, journal_lines, line_at, numbered_lines, round_lines, thread_lines, updates_line}
 use Rattle.journal_reader.proofs.TextLines.{journal_pieces}
 use Rattle.journal_check.specs.Passing.{text_lines}
-use Rattle.journal_check.specs.Telling.{TellingData, account_of, is_update, next_line, receipt_lines, tell_answer, tell_line, tell_receipt, tell_rounds, tell_thread, told_after}
+use Rattle.journal_check.specs.Telling.{TellingData, account_of, is_update, receipt_lines, tell_answer, tell_line, tell_receipt, tell_rounds, tell_thread, told_after}
 use Rattle.journal_check.specs.TextFlaws.{answers_of, joined}
 use Rattle.journal_check.specs.declared.teller.Bounds.{Bounds}
 
