@@ -1,8 +1,6 @@
-//! Tests of the checker of journals: its reader, its judge, and the whole. Nothing stands on it.
+//! Tests of the checker of journals: its reader, and its judge. Nothing stands on it.
 #![tactic(auto)]
 
-#[cfg(test)]
-mod checked_texts;
 #[cfg(test)]
 mod departing_texts;
 #[cfg(test)]
