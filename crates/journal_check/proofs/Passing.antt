@@ -15,7 +15,7 @@ use Rattle.unwind_step.specs.Backtrace.{TraceData, Unfolds}
 use Rattle.trace_check.specs.Departures.{IsDeparture}
 use Rattle.trace_check.proofs.Departing.{departs_once}
 use Rattle.receipt_check.proofs.Halves.{All-front, All-back}
-use Rattle.journal_check.specs.TextFlaws.{DepartsOn, DepartsFirst, answers_of, joined}
+use Rattle.journal_check.specs.TextFlaws.{DepartsOn, DepartsFirst, answers_of, flattened}
 use Rattle.journal_check.specs.Passing.{IsPassed, text_lines}
 use Rattle.journal_check.specs.declared.traces.Stopped.{Stopped}
 use Rattle.journal_check.specs.declared.traces.Stopped.TheVariants.{Departs, NoMemory}
@@ -171,19 +171,19 @@ module _ (script : ScriptData) where
 -- ---- all in the order of the text, and by round and thread
 
 module _ {X : Type 0} (P : X → Type 0) where
-  pub all_joined : (lists : List (List X)) → All (All P) lists → All P (joined lists)
+  pub all_joined : (lists : List (List X)) → All (All P) lists → All P (flattened lists)
   all_joined [] all = All-nil P
-  all_joined (xs ∷ lists) all = All-append P xs (joined lists) (All-head (All P) xs lists all) (all_joined lists (All-tail (All P) xs lists all))
+  all_joined (xs ∷ lists) all = All-append P xs (flattened lists) (All-head (All P) xs lists all) (all_joined lists (All-tail (All P) xs lists all))
 
-  pub all_parted : (lists : List (List X)) → All P (joined lists) → All (All P) lists
+  pub all_parted : (lists : List (List X)) → All P (flattened lists) → All (All P) lists
   all_parted [] all = All-nil (All P)
-  all_parted (xs ∷ lists) all = All-cons (All P) xs lists (All-front P xs (joined lists) all) (all_parted lists (All-back P xs (joined lists) all))
+  all_parted (xs ∷ lists) all = All-cons (All P) xs lists (All-front P xs (flattened lists) all) (all_parted lists (All-back P xs (flattened lists) all))
 
 module _ (P : Answer → Type 0) where
   pub all_answers : (rounds : List (List (List Answer))) → All (All (All P)) rounds → All P (answers_of rounds)
   all_answers [] all = All-nil P
-  all_answers (round ∷ rounds) all = All-append P (joined round) (answers_of rounds) (all_joined P round (All-head (All (All P)) round rounds all)) (all_answers rounds (All-tail (All (All P)) round rounds all))
+  all_answers (round ∷ rounds) all = All-append P (flattened round) (answers_of rounds) (all_joined P round (All-head (All (All P)) round rounds all)) (all_answers rounds (All-tail (All (All P)) round rounds all))
 
   pub all_by_round : (rounds : List (List (List Answer))) → All P (answers_of rounds) → All (All (All P)) rounds
   all_by_round [] all = All-nil (All (All P))
-  all_by_round (round ∷ rounds) all = All-cons (All (All P)) round rounds (all_parted P round (All-front P (joined round) (answers_of rounds) all)) (all_by_round rounds (All-back P (joined round) (answers_of rounds) all))
+  all_by_round (round ∷ rounds) all = All-cons (All (All P)) round rounds (all_parted P round (All-front P (flattened round) (answers_of rounds) all)) (all_by_round rounds (All-back P (flattened round) (answers_of rounds) all))

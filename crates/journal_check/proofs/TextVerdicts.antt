@@ -10,7 +10,7 @@ use Rattle.journal_reader.proofs.ToldAnswers.{told_answered, told_sized}
 use Rattle.reg_model.specs.declared.answer.NoMemory.{NoMemory}
 use Rattle.receipt_check.specs.Flaws.{IsFlawless}
 use Rattle.journal_check.specs.Telling.{account_of}
-use Rattle.journal_check.specs.TextFlaws.{IsLawfulText, IsFirstFlaw, IsVerdictOn, CountsIn, answers_of, text_flaw}
+use Rattle.journal_check.specs.TextFlaws.{IsLawfulText, IsFirstFlaw, IsVerdictOn, CountsOfTold, answers_of, text_flaw}
 use Rattle.journal_check.specs.declared.verdict.Flaw.{Flaw}
 use Rattle.journal_check.specs.declared.verdict.Verdict.{Verdict}
 use Rattle.journal_check.specs.declared.verdict.Verdict.TheVariants.{Lawful, Line}
@@ -20,12 +20,12 @@ use Rattle.journal_check.proofs.Verdicts.{no_verdict, same_verdict}
 use Rattle.journal_check.proofs.Passing.{first_once, none_departs, all_answers, all_by_round}
 
 module _ (script : ScriptData) where
-  nothing_counts : (journal : JournalData) (line : ℕ) (which : Flaw) → IsLawfulJournal script journal → CountsIn script journal line which → ⊥
+  nothing_counts : (journal : JournalData) (line : ℕ) (which : Flaw) → IsLawfulJournal script journal → CountsOfTold script journal line which → ⊥
   nothing_counts journal line which lawful (inl (found, is, first)) = no_verdict (account_of script journal) line found (flawless script journal lawful) first
   nothing_counts journal line which lawful (inr (is, free, departs)) =
       none_departs script (answers_of journal.rounds) 1 line (all_answers (IsUnfolded script.sections script.snapshots) journal.rounds lawful.unfolded) departs
 
-  one_counts : (journal : JournalData) (line other : ℕ) (which another : Flaw) → CountsIn script journal line which → CountsIn script journal other another → (line ≡ other) × (which ≡ another)
+  one_counts : (journal : JournalData) (line other : ℕ) (which another : Flaw) → CountsOfTold script journal line which → CountsOfTold script journal other another → (line ≡ other) × (which ≡ another)
   one_counts journal line other which another (inl (found, is, first)) (inl (also, as_well, second)) =
       let same = same_verdict (account_of script journal) line other found also first second in
       (same.0, is ∙ ap text_flaw same.1 ∙ sym as_well)
@@ -47,7 +47,7 @@ module _ (script : ScriptData) where
     never_both updates line which lawful (inl (is, form)) = never_told_and_bad script text lawful.journal line (tells updates lawful) form
     never_both updates line which lawful (inr (journal, told, counts)) =
         let same = one_journal script text journal lawful.journal run told (tells updates lawful) in
-        nothing_counts lawful.journal line which lawful.lawful (subst (λ (j : JournalData). CountsIn script j line which) same counts)
+        nothing_counts lawful.journal line which lawful.lawful (subst (λ (j : JournalData). CountsOfTold script j line which) same counts)
 
     one_flaw : (line other : ℕ) (which another : Flaw) → IsFirstFlaw script text line which → IsFirstFlaw script text other another → (line ≡ other) × (which ≡ another)
     one_flaw line other which another (inl (is, form)) (inl (as_well, form')) = (one_line script text line other form form', is ∙ sym as_well)
@@ -55,7 +55,7 @@ module _ (script : ScriptData) where
     one_flaw line other which another (inr (journal, told, counts)) (inl (is, form)) = absurd (never_told_and_bad script text journal other told form)
     one_flaw line other which another (inr (journal, told, counts)) (inr (journal', told', counts')) =
         let same = one_journal script text journal' journal run told' told in
-        one_counts journal line other which another counts (subst (λ (j : JournalData). CountsIn script j other another) same counts')
+        one_counts journal line other which another counts (subst (λ (j : JournalData). CountsOfTold script j other another) same counts')
 
     pub one_verdict_on : (one other : Verdict) → IsVerdictOn script text one → IsVerdictOn script text other → one ≡ other
     one_verdict_on (Lawful updates) (Lawful others) is as_well = ap Lawful (same_count updates others is as_well)

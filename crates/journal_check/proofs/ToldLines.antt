@@ -10,19 +10,16 @@ use Rattle.unwind_step.specs.declared.backtrace.FrameLine.{FrameLine}
 use Rattle.event_script.specs.Fields.{pieces}
 use Rattle.event_script.specs.JournalData.{JournalData}
 use Rattle.event_script.specs.ScriptData.{ScriptData}
-use Rattle.event_script.specs.Text.{answer_lines, end_line, frame_lines, journal_text}
+use Rattle.event_script.specs.Text.{answer_lines, journal_text}
 use Rattle.event_script.specs.declared.journal.Answer.{Answer}
 use Rattle.event_script.specs.declared.journal.Answer.TheVariants.{Register, Deregister, Load, Unload, Find, Unwind}
+use Rattle.event_script.proofs.TraceLines.{trace_count}
 use Rattle.journal_reader.specs.JournalLines.{event_lines, journal_lines, line_at, numbered_lines, round_lines, thread_lines, updates_line}
 use Rattle.journal_reader.proofs.TextLines.{journal_pieces}
 use Rattle.journal_check.specs.Passing.{text_lines}
 use Rattle.journal_check.specs.Telling.{TellingData, account_of, is_update, receipt_lines, tell_answer, tell_line, tell_receipt, tell_rounds, tell_thread, told_after}
-use Rattle.journal_check.specs.TextFlaws.{answers_of, joined}
+use Rattle.journal_check.specs.TextFlaws.{answers_of, flattened}
 use Rattle.journal_check.specs.declared.teller.Bounds.{Bounds}
-
-frames_count : (number : ℕ) (frames : List FrameLine) → length (frame_lines number frames) ≡ length frames
-frames_count number [] = refl
-frames_count number (line ∷ frames) = (let rest = frames_count (number + 1) frames in omega arith)
 
 pub lines_each : (images : List SpanData) (answer : Answer) → length (receipt_lines images answer) ≡ length (answer_lines answer)
 lines_each images (Register image answer) = refl
@@ -33,8 +30,7 @@ lines_each images (Find pc place) = refl
 lines_each images (Unwind snapshot trace) =
     let left = length-append (map (λ (line : FrameLine). receipts_of_place line.look line.place) trace.frames) ([] ∷ []) in
     let kept = length-map trace.frames (λ (line : FrameLine). receipts_of_place line.look line.place) in
-    let right = length-append (frame_lines 0 trace.frames) (end_line trace.end ∷ []) in
-    let frames = frames_count 0 trace.frames in
+    let right = trace_count trace in
     omega arith
 
 -- ---- as they are told
@@ -66,12 +62,12 @@ module _ (images : List SpanData) where
       let more = lines_more answer answers in
       omega arith
 
-  after_threads : (bounds : Bounds) (t : TellingData) (threads : List (List Answer)) → (told_after (tell_thread images bounds) t threads).line ≡ t.line + text_lines (joined threads)
+  after_threads : (bounds : Bounds) (t : TellingData) (threads : List (List Answer)) → (told_after (tell_thread images bounds) t threads).line ≡ t.line + text_lines (flattened threads)
   after_threads bounds t [] = omega arith
   after_threads bounds t (answers ∷ threads) =
       let rest = after_threads bounds (tell_thread images bounds t answers) threads in
       let here = after_answers bounds (record { told = t.told; line = t.line; seen = 0 }) answers in
-      let both = lines_both answers (joined threads) in
+      let both = lines_both answers (flattened threads) in
       omega arith
 
   after_rounds : (callers done : ℕ) (t : TellingData) (rounds : List (List (List Answer))) → (tell_rounds images callers done t rounds).line ≡ t.line + text_lines (answers_of rounds)
@@ -81,7 +77,7 @@ module _ (images : List SpanData) where
       let bounds : Bounds = record { before = done; after = after; callers = callers + length round } in
       let rest = after_rounds (callers + length round) after (told_after (tell_thread images bounds) t round) rounds in
       let here = after_threads bounds t round in
-      let both = lines_both (joined round) (answers_of rounds) in
+      let both = lines_both (flattened round) (answers_of rounds) in
       omega arith
 
 -- ---- as they stand in the text
@@ -95,13 +91,13 @@ thread_count round thread number (answer ∷ answers) =
     let more = lines_more answer answers in
     omega arith
 
-round_count : (round number : ℕ) (threads : List (List Answer)) → length (numbered_lines (thread_lines round) number threads) ≡ text_lines (joined threads)
+round_count : (round number : ℕ) (threads : List (List Answer)) → length (numbered_lines (thread_lines round) number threads) ≡ text_lines (flattened threads)
 round_count round number [] = refl
 round_count round number (answers ∷ threads) =
     let rest = round_count round (number + 1) threads in
     let both = length-append (thread_lines round number answers) (numbered_lines (thread_lines round) (number + 1) threads) in
     let here = thread_count round number 1 answers in
-    let more = lines_both answers (joined threads) in
+    let more = lines_both answers (flattened threads) in
     omega arith
 
 rounds_count : (number : ℕ) (rounds : List (List (List Answer))) → length (numbered_lines round_lines number rounds) ≡ text_lines (answers_of rounds)
@@ -110,7 +106,7 @@ rounds_count number (round ∷ rounds) =
     let rest = rounds_count (number + 1) rounds in
     let both = length-append (round_lines number round) (numbered_lines round_lines (number + 1) rounds) in
     let here = round_count number 1 round in
-    let more = lines_both (joined round) (answers_of rounds) in
+    let more = lines_both (flattened round) (answers_of rounds) in
     omega arith
 
 pub last_line_is : (script : ScriptData) (journal : JournalData) → (account_of script journal).last + 1 ≡ length (pieces 10 (journal_text journal))

@@ -49,12 +49,12 @@ DepartsFirst script (answer ∷ answers) first line =
     × DepartsFirst script answers (first + length (answer_lines answer)) line)
 
 -- lists one after another
-abbrev pub joined : {X : Type 0} → List (List X) → List X
-joined lists = flat_map (λ xs. xs) lists
+abbrev pub flattened : {X : Type 0} → List (List X) → List X
+flattened lists = flat_map (λ xs. xs) lists
 
 -- the answers of all rounds, in the order of the text
 abbrev pub answers_of : List (List (List Answer)) → List Answer
-answers_of rounds = flat_map (λ round. joined round) rounds
+answers_of rounds = flat_map (λ round. flattened round) rounds
 
 -- the first backtrace of a journal that doesn't unfold leaves the rules at this line
 abbrev pub IsTraceFlaw : ScriptData → JournalData → ℕ → Type 0
@@ -73,8 +73,8 @@ text_flaw receipt_flaw.Round = flaw.Round
 
 -- Of a journal that is told this flaw counts, and this is its line: the one that counts of its
 -- receipts, and where nothing is wrong with these, that of its backtraces.
-abbrev pub CountsIn : ScriptData → JournalData → ℕ → Flaw → Type 0
-CountsIn script journal line which =
+abbrev pub CountsOfTold : ScriptData → JournalData → ℕ → Flaw → Type 0
+CountsOfTold script journal line which =
     ((found : receipts.Flaw) × (which ≡ text_flaw found)
     × CountsFirst (account_of script journal) line found)
     ⊎ ((which ≡ flaw.Trace) × IsFlawless (account_of script journal)
@@ -86,7 +86,7 @@ abbrev pub IsFirstFlaw : ScriptData → List ℕ → ℕ → Flaw → Type 0
 IsFirstFlaw script text line which =
     ((which ≡ flaw.Form) × FormFlaw script text line)
     ⊎ ((journal : JournalData) × TellsJournal script text journal
-    × CountsIn script journal line which)
+    × CountsOfTold script journal line which)
 
 -- the verdict is right
 abbrev pub IsVerdictOn : ScriptData → List ℕ → Verdict → Type 0

@@ -2,7 +2,7 @@
 
 ghost use Rattle.std.specs.Prelude.{◌≡◌, ◌+◌, [], ◌∷◌, All, IfOk, OnErr, MatchOption, map, Err};
 ghost use Rattle.event_script.specs.Lawful.{IsUnfolded};
-ghost use Rattle.journal_check.specs.TextFlaws.{IsTraceFlaw, answers_of, joined};
+ghost use Rattle.journal_check.specs.TextFlaws.{IsTraceFlaw, answers_of, flattened};
 ghost use Rattle.journal_check.specs.Passing.{IsPassed};
 ghost use Rattle.journal_check.specs.declared.traces.Stopped.TheVariants as stopped;
 
@@ -62,7 +62,7 @@ fn pass_thread(script: &Script, line: u64, answers: &[Answer]) -> Result<u64, St
 
 /// The line after those of a round.
 fn pass_round(script: &Script, line: u64, round: &[Vec<Answer>]) -> Result<u64, Stopped>
-    ensures { IsPassed script.now (joined (map (λ thread. thread.items) round.now)) line result }
+    ensures { IsPassed script.now (flattened (map (λ thread. thread.items) round.now)) line result }
 {
     let mut next = line;
     for thread in round {

@@ -1,7 +1,7 @@
 -- What is told answers the script's events, has the sizes of a program's, and can be printed.
 use Rattle.std.proofs.Common.{ℕ, List, [], ◌∷◌, Option, Some, None, IfSome, All, refl}
 use Rattle.std.specs.List.{AllByRecursion, AllZip}
-use Rattle.std.proofs.lemmas.List.Elements.{All-cons, All-nil}
+use Rattle.std.proofs.lemmas.List.Elements.{All-cons, All-from_recursion, All-nil}
 use Rattle.reg_model.specs.SpanData.{SpanData}
 use Rattle.reg_model.specs.Receipt.{IsPlace}
 use Rattle.reg_model.specs.declared.answer.Found.{Found}
@@ -116,11 +116,11 @@ module _ (images : List SpanData) where
 
 -- ---- lists
 
-zip_weaker : {X Y : Type 0} (P Q : X → Y → Type 0) → ((x : X) (y : Y) → P x y → Q x y) → (xs : List X) (ys : List Y) → AllZip P xs ys → AllZip Q xs ys
-zip_weaker P Q so [] [] all = tt
-zip_weaker P Q so [] (y ∷ ys) all = absurd all
-zip_weaker P Q so (x ∷ xs) [] all = absurd all
-zip_weaker P Q so (x ∷ xs) (y ∷ ys) all = (so x y all.0, zip_weaker P Q so xs ys all.1)
+zip_weaker : {X Y : Type 0} (xs : List X) (ys : List Y) (P Q : X → Y → Type 0) → ((x : X) (y : Y) → P x y → Q x y) → AllZip P xs ys → AllZip Q xs ys
+zip_weaker [] [] P Q so all = tt
+zip_weaker [] (y ∷ ys) P Q so all = absurd all
+zip_weaker (x ∷ xs) [] P Q so all = absurd all
+zip_weaker (x ∷ xs) (y ∷ ys) P Q so all = (so x y all.0, zip_weaker xs ys P Q so all.1)
 
 zip_second : {X Y : Type 0} (P : X → Y → Type 0) (Q : Y → Type 0) → ((x : X) (y : Y) → P x y → Q y) → (xs : List X) (ys : List Y) → AllZip P xs ys → AllByRecursion Q ys
 zip_second P Q so [] [] all = tt
@@ -128,20 +128,14 @@ zip_second P Q so [] (y ∷ ys) all = absurd all
 zip_second P Q so (x ∷ xs) [] all = absurd all
 zip_second P Q so (x ∷ xs) (y ∷ ys) all = (so x y all.0, zip_second P Q so xs ys all.1)
 
-zip_all : {X Y : Type 0} (P : X → Y → Type 0) (Q : Y → Type 0) → ((x : X) (y : Y) → P x y → Q y) → (xs : List X) (ys : List Y) → AllZip P xs ys → All Q ys
-zip_all P Q so [] [] all = All-nil Q
-zip_all P Q so [] (y ∷ ys) all = absurd all
-zip_all P Q so (x ∷ xs) [] all = absurd all
-zip_all P Q so (x ∷ xs) (y ∷ ys) all = All-cons Q y ys (so x y all.0) (zip_all P Q so xs ys all.1)
-
 module _ (script : ScriptData) (journal : JournalData) (told : IsToldJournal script journal) where
   abbrev Told : Event → Answer → Type 0
   Told = IsToldAnswer script.images
 
   pub told_answered : AllZip (AllZip (AllZip AnswersEvent)) script.rounds journal.rounds
   told_answered =
-      zip_weaker (AllZip (AllZip Told)) (AllZip (AllZip AnswersEvent))
-      (zip_weaker (AllZip Told) (AllZip AnswersEvent) (zip_weaker Told AnswersEvent (answers_event script.images))) script.rounds journal.rounds told.answered
+      zip_weaker script.rounds journal.rounds (AllZip (AllZip Told)) (AllZip (AllZip AnswersEvent))
+      (λ threads answers. zip_weaker threads answers (AllZip Told) (AllZip AnswersEvent) (λ events answers. zip_weaker events answers Told AnswersEvent (answers_event script.images))) told.answered
 
   pub told_sized : IsSized journal
   told_sized = record {
@@ -150,7 +144,11 @@ module _ (script : ScriptData) (journal : JournalData) (told : IsToldJournal scr
     updates = told.updates;
   }
 
+  thread_prints : (events : List Event) (answers : List Answer) → AllZip Told events answers → All IsPrintable answers
+  thread_prints events answers all = All-from_recursion IsPrintable answers (zip_second Told IsPrintable (answer_prints script.images) events answers all)
+
+  round_prints : (threads : List (List Event)) (answers : List (List Answer)) → AllZip (AllZip Told) threads answers → All (All IsPrintable) answers
+  round_prints threads answers all = All-from_recursion (All IsPrintable) answers (zip_second (AllZip Told) (All IsPrintable) thread_prints threads answers all)
+
   pub told_prints : All (All (All IsPrintable)) journal.rounds
-  told_prints =
-      zip_all (AllZip (AllZip Told)) (All (All IsPrintable))
-      (zip_all (AllZip Told) (All IsPrintable) (zip_all Told IsPrintable (answer_prints script.images))) script.rounds journal.rounds told.answered
+  told_prints = All-from_recursion (All (All IsPrintable)) journal.rounds (zip_second (AllZip (AllZip Told)) (All (All IsPrintable)) round_prints script.rounds journal.rounds told.answered)
