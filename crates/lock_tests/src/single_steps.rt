@@ -153,3 +153,17 @@ fn a_sight_begins_anew(rt: HostRuntime) -> Result<(), Fail> {
     assert!(rt; words.begin_sight(&mut a, 0) == 0);
     Ok(())
 }
+
+#[test]
+fn a_lock_of_the_root_by_its_sight(rt: HostRuntime) -> Result<(), Fail> {
+    let alloc = rt.alloc();
+    let (words, mut a) = Words::new(alloc, 4, 1, 1, Vec::new(alloc))?;
+    let _nodes = words.nodes();
+    assert!(rt; words.begin_sight(&mut a, 0) == 0);
+    assert!(rt; words.lock_seen(&mut a, 0, 4) == Err(0));
+    let Ok(()) = words.lock_seen(&mut a, 0, 0) else {
+        panic!(rt; "nobody has the root")
+    };
+    assert!(rt; words.release_same(&mut a, LockId::Node { node: 0 }) == 1);
+    Ok(())
+}
