@@ -1,5 +1,5 @@
 //! Readers: each way to make one, and sixteen beside two writers.
-ghost use Rattle.std.specs.Prelude.{◌≡◌, ◌≤◌};
+ghost use Rattle.std.specs.Prelude.{◌≡◌, ◌<◌, ◌≤◌};
 ghost use Rattle.word_rule.specs.Callers.{IsIdle};
 
 use crate::tree_rounds::{
@@ -11,9 +11,23 @@ use std::alloc::Global;
 use std::sync::Wait;
 use std::test::Fail;
 use std::thread::{Threads, join, map_indices};
-use word_rule::Caller;
+use word_rule::{Caller, Reader};
 
 const READERS: usize = 16;
+
+// Looks at the base of a range.
+fn look_at<R: Wait>(rt: &R, registry: &Registry, me: &mut Reader, number: u32) -> Option<Event>
+    requires table { me.old.table ≡ registry.now.table }
+    requires small { number < ALL }
+    ensures { me.new.table ≡ me.old.table }
+{
+    let pc = range(number)?.span.first();
+    let found = registry.find(rt, me, pc).registered;
+    Some(Event::Looked {
+        range: number,
+        found,
+    })
+}
 
 // Looks at the bases of ranges, by a reader of its own. What it was told.
 fn read_along<R: Wait>(
@@ -22,18 +36,13 @@ fn read_along<R: Wait>(
     registry: &Registry,
     reader: u32,
 ) -> Option<Vec<Event>>
-    requires { reader ≤ 16 }
+    requires { reader < 16 }
 {
     let mut me = registry.reader();
     let mut events = Vec::new(alloc);
     for turn in 0..EACH {
         let number = (turn * 3_343 + reader) % ALL;
-        let pc = range(number)?.span.first();
-        let found = registry.find(rt, &mut me, pc).registered;
-        let looked = Event::Looked {
-            range: number,
-            found,
-        };
+        let looked = look_at(rt, registry, &mut me, number)?;
         if events.push(looked).is_err() {
             return None;
         }
@@ -73,7 +82,7 @@ fn read_side_by_side<R: Threads + Wait + Sync>(
     registry: &Registry,
 ) -> Option<Vec<Option<Vec<Event>>>> {
     let read = &|reader: usize| -> Option<Vec<Event>>
-        requires { reader ≤ 15 }
+        requires { reader < 16 }
     { read_along(rt, alloc, registry, reader as u32) };
     map_indices(rt, alloc, READERS, read).ok()
 }
