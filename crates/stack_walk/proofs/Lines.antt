@@ -5,18 +5,18 @@ use Rattle.std.proofs.lemmas.List.{append_assoc, drop-drop, drop-set-lt, map-app
 use Rattle.frame_expr.specs.Regions.{RegionData}
 use Rattle.unwind_step.specs.declared.frame.Frame.{Frame}
 use Rattle.stack_walk.specs.Modules.{ModuleData}
-use Rattle.stack_walk.specs.StackWalks.{EndsWalk, StepsTo, Walks, shown_as}
+use Rattle.stack_walk.specs.StackWalks.{EndsWalk, StepsTo, WalksStack, shown_as}
 use Rattle.stack_walk.specs.declared.shown.ShownFrame.{ShownFrame}
 use Rattle.stack_walk.specs.declared.shown.WalkEnd.{WalkEnd}
 
 -- what walks on from a frame walks, with these lines before, from the first one
 abbrev pub LeadsOn : List ModuleData → List RegionData → Frame → List ShownFrame → Frame → Type 0
 LeadsOn ms memory first before f =
-    (ls : List ShownFrame) (end : WalkEnd) (stands : Frame) → Walks ms memory f ls end stands → Walks ms memory first (before ++ ls) end stands
+    (ls : List ShownFrame) (end : WalkEnd) (stands : Frame) → WalksStack ms memory f ls end stands → WalksStack ms memory first (before ++ ls) end stands
 
 -- a walk from a frame goes on from the one before
 one_frame_more : (ms : List ModuleData) (memory : List RegionData) (f next : Frame) (l : ShownFrame) (ls : List ShownFrame) (end : WalkEnd) (stands : Frame)
-    → l ≡ shown_as f → StepsTo ms memory f next → Walks ms memory next ls end stands → Walks ms memory f (l ∷ ls) end stands
+    → l ≡ shown_as f → StepsTo ms memory f next → WalksStack ms memory next ls end stands → WalksStack ms memory f (l ∷ ls) end stands
 one_frame_more ms memory f next l [] end stands is steps walks = absurd walks
 one_frame_more ms memory f next l (k ∷ ls) end stands is steps walks = (is, (next, steps, walks))
 
@@ -39,10 +39,10 @@ leads_on shown ms memory first f next lines count x some is steps before = λ ls
     let on = before (shown x ∷ ls) end stands (one_frame_more ms memory f next (shown x) ls end stands is steps walks) in
     let parts : map shown (take (count + 1) (set lines count x)) ++ ls ≡ map shown (take count lines) ++ shown x ∷ ls =
     ap (λ (xs : List ShownFrame). xs ++ ls) (shown_more shown lines count x some) ∙ append_assoc (map shown (take count lines)) (shown x ∷ []) ls in
-    subst (λ (xs : List ShownFrame). Walks ms memory first xs end stands) (sym parts) on
+    subst (λ (xs : List ShownFrame). WalksStack ms memory first xs end stands) (sym parts) on
 
 pub ends_there : {L : Type 0} (shown : L → ShownFrame) (ms : List ModuleData) (memory : List RegionData) (first f stands : Frame) (lines : List L) (count : ℕ) (x : L) (end : WalkEnd)
     → count < length lines → shown x ≡ shown_as f → EndsWalk ms memory f end stands → LeadsOn ms memory first (map shown (take count lines)) f
-    → Walks ms memory first (map shown (take (count + 1) (set lines count x))) end stands
+    → WalksStack ms memory first (map shown (take (count + 1) (set lines count x))) end stands
 ends_there shown ms memory first f stands lines count x end some is ends before =
-    subst (λ (xs : List ShownFrame). Walks ms memory first xs end stands) (sym (shown_more shown lines count x some)) (before (shown x ∷ []) end stands (is, ends))
+    subst (λ (xs : List ShownFrame). WalksStack ms memory first xs end stands) (sym (shown_more shown lines count x some)) (before (shown x ∷ []) end stands (is, ends))

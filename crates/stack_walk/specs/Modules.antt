@@ -1,9 +1,12 @@
 -- Modules of code, and what comes of a frame by the module of its address.
-use Rattle.std.specs.Prelude.{◌≡◌, ℕ, ◌+◌, List, Bool, Option, Some, None, nat_le, nat_lt, ◌&&◌}
+use Rattle.std.specs.Prelude.{◌≡◌, ℕ, ◌+◌, ◌<◌, ◌≤◌, List, [], ◌∷◌, Bool, Option, Some, None}
+use Rattle.std.specs.Prelude.{nat_le, nat_lt, ◌&&◌}
 use Rattle.std.specs.List.{find}
 use Rattle.frame_expr.specs.Regions.{RegionData}
 use Rattle.frame_parse.specs.Sections.{SectionData, first_cover}
 use Rattle.unwind_step.specs.Sources.{IsStepIn}
+use Rattle.stack_walk.specs.declared.list.ModuleFault.{ModuleFault}
+use Rattle.stack_walk.specs.declared.list.ModuleFault.TheVariants.{NotAbove, NoMemory}
 use Rattle.stack_walk.specs.declared.modules.ModuleStep.{ModuleStep}
 use Rattle.stack_walk.specs.declared.modules.ModuleStep.TheVariants.{NoModule, NoFde, Found}
 
@@ -13,8 +16,28 @@ pub record ModuleData : Type 0 where
   pub size : ℕ
   pub section : SectionData
 
+-- the first address after a module
+abbrev pub module_end : ModuleData → ℕ
+module_end m = m.first + m.size
+
+-- the first address after all modules, where they ascend
+abbrev pub modules_end : List ModuleData → ℕ
+modules_end [] = 0
+modules_end (m ∷ []) = module_end m
+modules_end (m ∷ n ∷ ms) = modules_end (n ∷ ms)
+
+-- the modules stand at this address or above, each after the one before
+abbrev pub AreModulesFrom : ℕ → List ModuleData → Type 0
+AreModulesFrom low [] = Unit {0}
+AreModulesFrom low (m ∷ ms) = (low ≤ m.first) × AreModulesFrom (module_end m) ms
+
+-- why a module isn't added: the first cause, and want of memory only where there is none
+abbrev pub IsModuleFault : List ModuleData → ℕ → ModuleFault → Type 0
+IsModuleFault ms first NotAbove = first < modules_end ms
+IsModuleFault ms first NoMemory = modules_end ms ≤ first
+
 abbrev pub has_code_at : ℕ → ModuleData → Bool
-has_code_at pc m = nat_le m.first pc && nat_lt pc (m.first + m.size)
+has_code_at pc m = nat_le m.first pc && nat_lt pc (module_end m)
 
 -- the module of an address
 unfoldable pub module_at : ℕ → List ModuleData → Option ModuleData

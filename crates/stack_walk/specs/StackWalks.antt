@@ -55,10 +55,10 @@ EndsWalk ms memory f Room stands = StepsTo ms memory f stands
 
 -- A walk from a frame has these lines, of which each shows its frame and each further frame is the
 -- one before; it ends so with the last of them.
-abbrev pub Walks
+abbrev pub WalksStack
     : List ModuleData → List RegionData → Frame → List ShownFrame → WalkEnd → Frame → Type 0
-Walks ms memory f [] end stands = ⊥
-Walks ms memory f (l ∷ []) end stands = (l ≡ shown_as f) × EndsWalk ms memory f end stands
-Walks ms memory f (l ∷ k ∷ ls) end stands =
+WalksStack ms memory f [] end stands = ⊥
+WalksStack ms memory f (l ∷ []) end stands = (l ≡ shown_as f) × EndsWalk ms memory f end stands
+WalksStack ms memory f (l ∷ k ∷ ls) end stands =
     (l ≡ shown_as f)
-    × ((next : Frame) × StepsTo ms memory f next × Walks ms memory next (k ∷ ls) end stands)
+    × ((next : Frame) × StepsTo ms memory f next × WalksStack ms memory next (k ∷ ls) end stands)

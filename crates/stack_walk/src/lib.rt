@@ -2,10 +2,13 @@
 //! has a section. A walk takes no memory, and goes on where it ended for want of room.
 #![tactic(auto)]
 
+pub mod laws;
+mod list;
 mod modules;
 mod shown;
 mod walking;
 
+pub use list::{ModuleFault, Modules, StepSource};
 pub use modules::{ModuleList, ModuleStep};
 pub use shown::{ShownFrame, WalkEnd, WalkLine};
 pub use walking::{Walked, walk};

@@ -1,7 +1,7 @@
 //! Walks from a frame to its callers.
 
 ghost use Rattle.std.specs.Prelude.{◌≡◌, ◌<◌, ◌≤◌, IfOk, IfErr, length, map, take, drop};
-ghost use Rattle.stack_walk.specs.StackWalks.{EndsWalk, StepsTo, Walks, shown_as};
+ghost use Rattle.stack_walk.specs.StackWalks.{EndsWalk, StepsTo, WalksStack, shown_as};
 
 use crate::modules::{ModuleList, ModuleStep};
 use crate::shown::{ShownFrame, WalkEnd, WalkLine};
@@ -61,7 +61,7 @@ pub fn walk<N: ModuleList, M: WordSource, L: WalkLine>(
     lines: &mut [L],
 ) -> Walked
     requires { 0 < length lines.old }
-    ensures walks { Walks (N.modules modules.now) (M.regions memory.now) frame.old
+    ensures walks { WalksStack (N.modules modules.now) (M.regions memory.now) frame.old
         (map L.shown (take result.count lines.new)) result.end frame.new }
     ensures count { result.count ≤ length lines.old }
     ensures others { drop result.count lines.new ≡ drop result.count lines.old }

@@ -1,0 +1,177 @@
+//! Modules in ascending order, of which that of an address is found by halving.
+
+ghost use Rattle.std.specs.Prelude.{◌≡◌, ◌≤◌, ◌++◌, ◌∷◌, [], OnOk, OnErr, IfErr, IfSome};
+ghost use Rattle.std.specs.Prelude.{MatchOption, MatchBool, None, ◌<◌};
+ghost use Rattle.std.specs.Option.{option_map};
+ghost use Rattle.frame_parse.specs.Sections.{SectionData, first_cover};
+ghost use Rattle.unwind_step.specs.Sources.{IsStepIn};
+ghost use Rattle.stack_walk.specs.Modules.{AreModulesFrom, IsModuleFault, has_code_at, module_at};
+ghost use Rattle.stack_walk.specs.Modules.{modules_end, module_end};
+
+use crate::modules::{ModuleList, ModuleStep};
+use frame_expr::{Regs, WordSource};
+use std::alloc::{AllocFailed, Global};
+use std::marker::Model;
+use unwind_step::FoundStep;
+
+/// What tells what comes of the frames in a section.
+pub trait StepSource {
+    /// The section whose frames it tells.
+    ghost section: { Self → SectionData };
+
+    /// What comes of registers that are looked up at an address. None where no FDE covers it.
+    fn step_at<M: WordSource>(&self, look: u64, regs: &Regs, memory: &M) -> Option<FoundStep>
+        ensures { MatchOption result (first_cover look (section self.now).fdes ≡ None)
+            (λ found. IsStepIn (section self.now) look regs.now.columns (M.regions memory.now)
+            found.outcome found.signal) };
+}
+
+/// Why a module isn't added.
+#[derive(Clone, Copy, Debug, PartialEq, Eq)]
+pub enum ModuleFault {
+    /// It isn't above the module before.
+    NotAbove,
+    /// Memory ran out, which says nothing of the module.
+    NoMemory,
+}
+
+impl<T: Drop> From<AllocFailed<T>> for ModuleFault {
+    ghost use Rattle.stack_walk.specs.declared.list.ModuleFault.TheVariants.{NoMemory};
+
+    ghost from_gives = { λ _ e. e ≡ NoMemory };
+
+    fn from(_e: AllocFailed<T>) -> ModuleFault {
+        ModuleFault::NoMemory
+    }
+}
+
+/// Code from an address on, and what tells its frames.
+#[derive(Drop)]
+struct Module<T: StepSource> {
+    first: u64,
+    size: u64,
+    source: T,
+}
+
+impl<T: StepSource> Model for Module<T> {
+    ghost use Rattle.stack_walk.specs.Modules.{ModuleData};
+
+    ghost Value = { ModuleData };
+
+    ghost view = { λ m. record {
+      first = m.first;
+      size = m.size;
+      section = T.section m.source;
+    } };
+}
+
+impl<T: StepSource> Module<T> {
+    fn has_code_at(&self, pc: u64) -> bool
+        ensures { result ≡ has_code_at pc self.now }
+    {
+        self.first <= pc && pc - self.first < self.size
+    }
+
+    /// Whether all its addresses are below this one.
+    fn ends_before(&self, first: u64) -> bool
+        ensures { MatchBool result (module_end self.now ≤ first) (first < module_end self.now) }
+    {
+        self.first <= first && first - self.first >= self.size
+    }
+}
+
+/// Modules of which each stands above the one before.
+#[derive(Drop)]
+pub struct Modules<T: StepSource> {
+    list: Vec<Module<T>>,
+}
+
+impl<T: StepSource> Model for Modules<T> {
+    ghost use Rattle.std.specs.Prelude.{List};
+    ghost use Rattle.stack_walk.specs.Modules.{AreModulesFrom, ModuleData};
+
+    ghost Value = { List ModuleData };
+
+    ghost view = { λ m. m.list.items };
+
+    ghost invariant = { λ m. AreModulesFrom 0 m.list.items };
+}
+
+impl<T: StepSource + Drop> Modules<T> {
+    /// No modules. It takes no memory.
+    pub fn new(alloc: Global) -> Modules<T>
+        ensures { result ≡ [] }
+    {
+        Modules {
+            list: Vec::new(alloc),
+        }
+    }
+
+    /// Adds a module above all that are there.
+    pub fn add(&mut self, first: u64, size: u64, source: T) -> Result<(), ModuleFault>
+        ensures ok { OnOk result (self.new
+            ≡ self.old ++ record { first = first; size = size; section = T.section source } ∷ []) }
+        ensures above { OnOk result (modules_end self.old ≤ first) }
+        ensures refused { OnErr result (self.new ≡ self.old) }
+        ensures fault { IfErr result (IsModuleFault self.old first) }
+    {
+        if !end_before(&self.list, first) {
+            return Err(ModuleFault::NotAbove);
+        }
+        self.list.push(Module {
+            first,
+            size,
+            source,
+        })?;
+        Ok(())
+    }
+}
+
+/// Whether all modules end before an address.
+fn end_before<T: StepSource>(modules: &[Module<T>], first: u64) -> bool
+    ensures { MatchBool result (modules_end modules.now ≤ first)
+        (first < modules_end modules.now) }
+{
+    match modules.last() {
+        None => true,
+        Some(module) => module.ends_before(first),
+    }
+}
+
+/// The module of an address. The modules ascend, so half of those that are left are passed by at a
+/// time.
+fn module_of<T: StepSource>(modules: &[Module<T>], pc: u64) -> Option<&Module<T>>
+    requires { AreModulesFrom 0 modules.now }
+    ensures { option_map (λ m. m.now) result ≡ module_at pc modules.now }
+{
+    let mut left = modules;
+    while left.len() > 1 {
+        let (low, high) = left.split_at(left.len() / 2);
+        let first = &high[0];
+        left = if first.first <= pc { high } else { low };
+    }
+    match left {
+        [] => None,
+        [module, ..] => {
+            if module.has_code_at(pc) {
+                Some(module)
+            } else {
+                None
+            }
+        }
+    }
+}
+
+impl<T: StepSource> ModuleList for Modules<T> {
+    ghost modules = { λ m. m };
+
+    fn step<M: WordSource>(&self, look: u64, regs: &Regs, memory: &M) -> ModuleStep {
+        let Some(module) = module_of(&self.list, look) else {
+            return ModuleStep::NoModule;
+        };
+        match module.source.step_at(look, regs, memory) {
+            None => ModuleStep::NoFde,
+            Some(step) => ModuleStep::Found { step },
+        }
+    }
+}
