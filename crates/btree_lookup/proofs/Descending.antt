@@ -14,8 +14,8 @@ use Rattle.word_rule.specs.NodeTells.{AloneTells}
 use Rattle.word_rule.specs.Places.{node_place}
 use Rattle.word_rule.specs.Sights.{after_node_begin, after_node_version, mark_child, or_mark, place_of, place_under, sight_begun, sight_of, sights_after_begin, sights_after_version, without_sight}
 use Rattle.btree_lookup.specs.Loads.{loaded_at}
-use Rattle.btree_lookup.specs.Tries.{EndsAgain}
-use Rattle.btree_lookup.specs.Visits.{Sees, SeesChild, Way}
+use Rattle.btree_lookup.specs.Tries.{EndsOnWay}
+use Rattle.btree_lookup.specs.Visits.{IsInSight, Sees, SeesChild, Way}
 use Rattle.btree_lookup.specs.Ways.{AreLed}
 use Rattle.btree_lookup.specs.declared.visit.Visit.{Visit}
 use Rattle.btree_lookup.proofs.Loading.{come_in_order, last_loaded, led_more, looked, sight_loaded, sights_then, still_led, version_led, version_loaded}
@@ -30,7 +30,7 @@ mark_keeps parent s = go (s.node == parent.node)
     go true = refl
     go false = refl
 
-module _ (t : Terms) (pc : ℕ) (k : CallerData) (visit : Visit) (child : ℕ) (k1 : CallerData) (c : SeesChild t pc k visit child k1) (inside : child < t.nodes) (version : ℕ) (k2 : CallerData)
+module _ (t : Terms) (pc : ℕ) (k : CallerData) (visit : Visit) (counted child : ℕ) (k1 : CallerData) (c : SeesChild t pc k visit counted child k1) (inside : child < t.nodes) (version : ℕ) (k2 : CallerData)
     (begun : k2 ≡ record k1 { log = after_node_begin child version k1.log }) where
   abbrev s : Sees t pc k visit 17 k1
   s = c.sees
@@ -47,7 +47,7 @@ module _ (t : Terms) (pc : ℕ) (k : CallerData) (visit : Visit) (child : ℕ) (
   child_led : AreLed pc [] (s.loaded ++ first ∷ [])
   child_led = led_more pc [] s.loaded first s.led (version_led pc s.loaded child version c.way)
 
-  pub child_locked : version % 2 ≢ 0 → EndsAgain t pc k (Locked (node_place child) version) k2
+  pub child_locked : version % 2 ≢ 0 → EndsOnWay t pc k (Locked (node_place child) version) k2
   child_locked odd =
       let len = length-append s.loaded (first ∷ []) in let few = s.few in
       fails_so t pc k k2 (s.loaded ++ first ∷ []) sights (Locked (node_place child) version) child_begun child_led (let l = c.level in omega (arith, len, few, l)) (child, (inside, refl, omega (arith, odd), last_loaded s.loaded first))
@@ -85,7 +85,7 @@ module _ (t : Terms) (pc : ℕ) (k : CallerData) (visit : Visit) (child : ℕ) (
       count : length loaded ≡ length s.loaded + 2
       count = let a = length-append (s.loaded ++ first ∷ []) (second ∷ []) in let b = length-append s.loaded (first ∷ []) in omega (arith, a, b)
 
-      pub parent_changed : visit.version ≢ found → EndsAgain t pc k (Changed (node_place visit.node) visit.version found) k3
+      pub parent_changed : visit.version ≢ found → EndsOnWay t pc k (Changed (node_place visit.node) visit.version found) k3
       parent_changed other =
           let few = s.few in let c' = count in let l = c.level in
           fails_so t pc k k3 loaded (sights_then visit.node found sights) (Changed (node_place visit.node) visit.version found) parent_looked all_led (omega (arith, few, c', l))
@@ -110,6 +110,25 @@ module _ (t : Terms) (pc : ℕ) (k : CallerData) (visit : Visit) (child : ℕ) (
 
         marked_there : sight_of child (sights_then visit.node found sights).nodes ≡ Some marked
         marked_there = ap (sight_of child) then_nodes ∙ (sight_changed child (mark_child s.sight) (mark_keeps s.sight) sights.nodes ∙ (ap (option_map (mark_child s.sight)) child_there ∙ ap Some marks))
+
+        -- the parent stays in sight
+        parent_kept : sight_of visit.node (sights_then visit.node found sights).nodes ≡ Some s.sight
+        parent_kept = ap (sight_of visit.node) then_nodes ∙ (sight_changed visit.node (mark_child s.sight) (mark_keeps s.sight) sights.nodes ∙ (ap (option_map (mark_child s.sight)) parent_there ∙ ap Some own))
+          where
+            own : mark_child s.sight s.sight ≡ s.sight
+            own = ap (λ b. if b then s.sight else record s.sight { mark = or_mark (place_under s.sight.node s.sight (place_of s.sight)) s.sight.mark }) (eq-eqb s.sight.node s.sight.node refl)
+
+        pub parent_in_sight : IsInSight pc visit counted k3
+        parent_in_sight = record {
+          sight = s.sight;
+          found = ap (λ (z : CallerData). sight_of visit.node z.log.sights.nodes) parent_looked ∙ parent_kept;
+          same = s.same;
+          place = s.place;
+          placed = s.placed;
+          level = s.level;
+          inside = s.inside;
+          counted = c.counted;
+        }
 
         pub child_visited : (level : ℕ) → level + 1 ≡ visit.level → Way t pc k (record { node = child; version = version; level = level }) k3
         child_visited level one = record {

@@ -5,5 +5,6 @@ pub mod Pairs
 pub mod Leaves
 pub mod Visiting
 pub mod Descending
+pub mod SeenLocks
 pub mod Entries
 pub mod Answering

@@ -237,9 +237,10 @@ module _ (t : Terms) (pc : ℕ) (k : CallerData) (visit : Visit) where
           ∙ (named_at slot 0 count (omega arith) slots
           ∙ (ap (λ o. place_between w.sees.place o (loaded_word (7 + 2 * slot) words)) low.1.0 ∙ ap (place_between w.sees.place (Some low.0)) separator_there)))))
 
-      pub child_seen : child ≢ 0 → child ≢ visit.node → SeesChild t pc k visit child k3
+      pub child_seen : child ≢ 0 → child ≢ visit.node → SeesChild t pc k visit count child k3
       child_seen not_root other = record {
         sees = all;
+        counted = count_there;
         other = other;
         below = not_root;
         way = inr (

@@ -23,7 +23,7 @@ use Rattle.word_rule.specs.Places.{TOP, node_place}
 use Rattle.word_rule.specs.Sights.{after_node_begin, after_node_load, after_node_version, sight_begun, sight_of, sights_after_begin, with_word, without_sight}
 use Rattle.word_rule.specs.VersionLocks.{VersionTells}
 use Rattle.btree_lookup.specs.Loads.{after_looks, after_try, load_events, loaded_at, loaded_of}
-use Rattle.btree_lookup.specs.Tries.{EndsAgain}
+use Rattle.btree_lookup.specs.Tries.{EndsOnWay}
 use Rattle.btree_lookup.specs.Visits.{Agrees, Sees, Way}
 use Rattle.btree_lookup.specs.Ways.{AreLed, IsCause}
 use Rattle.btree_lookup.specs.declared.visit.Visit.{Visit}
@@ -56,21 +56,24 @@ as_try : (k : CallerData) (loaded : List LoadedWord) (sights : Sights) → looke
 as_try k loaded sights = λ i. record k { log = record (after_looks loaded sights k.log) { receipts = record k.log.receipts { own = sym (append-nil k.log.receipts.own) i } } }
 
 -- a try that fails by these loads
-pub fails_so : (t : Terms) (pc : ℕ) (k k' : CallerData) (loaded : List LoadedWord) (sights : Sights) (again : Again) → k' ≡ looked loaded sights k → AreLed pc [] loaded → length loaded ≤ 245 → IsCause t loaded again → EndsAgain t pc k again k'
-fails_so t pc k k' loaded sights again is led few cause = record {
-  loaded = loaded;
-  past = k.log.past;
-  sights = sights;
-  begins = ([], append-nil k.log.past);
-  led = led;
-  few = few;
-  answer = cause;
-  log = is ∙ as_try k loaded sights;
-}
+pub fails_so : (t : Terms) (pc : ℕ) (k k' : CallerData) (loaded : List LoadedWord) (sights : Sights) (again : Again) → k' ≡ looked loaded sights k → AreLed pc [] loaded → length loaded ≤ 245 → IsCause t loaded again → EndsOnWay t pc k again k'
+fails_so t pc k k' loaded sights again is led few cause = (
+  record {
+    loaded = loaded;
+    past = k.log.past;
+    sights = sights;
+    begins = ([], append-nil k.log.past);
+    led = led;
+    few = few;
+    answer = cause;
+    log = is ∙ as_try k loaded sights;
+  },
+  ap (λ (z : CallerData). z.log.past) is,
+)
 
 module _ (t : Terms) (pc : ℕ) (k : CallerData) (visit : Visit) (used : ℕ) (k1 : CallerData) (s : Sees t pc k visit used k1) where
   -- the version was found another one
-  pub fails_changed : (k2 : CallerData) (found : ℕ) → used ≤ 14 + 19 * visit.level → k2 ≡ record k1 { log = after_node_version ask.Nothing visit.node found k1.log } → visit.version ≢ found → EndsAgain t pc k (Changed (node_place visit.node) visit.version found) k2
+  pub fails_changed : (k2 : CallerData) (found : ℕ) → used ≤ 14 + 19 * visit.level → k2 ≡ record k1 { log = after_node_version ask.Nothing visit.node found k1.log } → visit.version ≢ found → EndsOnWay t pc k (Changed (node_place visit.node) visit.version found) k2
   fails_changed k2 found small is other =
       let w : LoadedWord = loaded_at (node_place visit.node) found in
       let len = length-append s.loaded (w ∷ []) in let few = s.few in
@@ -110,7 +113,7 @@ module _ (t : Terms) (k : CallerData) (some : 0 < t.nodes) (version : ℕ) (k1 :
   first_led : (pc : ℕ) → AreLed pc [] (first ∷ [])
   first_led pc = (version_led pc [] 0 version (inl refl), tt)
 
-  pub root_locked : (pc : ℕ) → version % 2 ≢ 0 → EndsAgain t pc k (Locked (node_place 0) version) k1
+  pub root_locked : (pc : ℕ) → version % 2 ≢ 0 → EndsOnWay t pc k (Locked (node_place 0) version) k1
   root_locked pc odd = fails_so t pc k k1 (first ∷ []) sights (Locked (node_place 0) version) begun_is (first_led pc) (omega arith) (0, (some, refl, omega (arith, odd), last_loaded [] first))
 
   pub root_unlocked : IsAlone k.log.lineage → k.log.holdings.held ≡ [] → AloneTells 0 version k.log → version % 2 ≡ 0
@@ -165,7 +168,7 @@ module _ (t : Terms) (k : CallerData) (some : 0 < t.nodes) (version : ℕ) (k1 :
     pub root_alone : (found : ℕ) → IsAlone k.log.lineage → AloneTells 0 found k2.log → version ≡ found
     root_alone found alone tells = alone_same t 0 k visit (19 * level) k2 (at_root 0 (19 * level) (omega arith) (omega arith)) found alone tells
 
-    pub root_changed : (k3 : CallerData) (found : ℕ) → 12 < level → k3 ≡ record k2 { log = after_node_version ask.Nothing 0 found k2.log } → VersionTells t (lock.Node 0) found k2.log → (pc : ℕ) → EndsAgain t pc k (Changed (node_place 0) version found) k3
+    pub root_changed : (k3 : CallerData) (found : ℕ) → 12 < level → k3 ≡ record k2 { log = after_node_version ask.Nothing 0 found k2.log } → VersionTells t (lock.Node 0) found k2.log → (pc : ℕ) → EndsOnWay t pc k (Changed (node_place 0) version found) k3
     root_changed k3 found high is tells pc =
         let w : LoadedWord = loaded_at (node_place 0) found in
         let loaded : List LoadedWord = first ∷ loaded_of 0 2 level ∷ [] in

@@ -78,3 +78,7 @@ pub record TriesTree (t : Terms) (pc : ℕ) (k k' : CallerData)
 -- a try that found no answer
 abbrev pub EndsAgain : Terms → ℕ → CallerData → Again → CallerData → Type 0
 EndsAgain t pc k again k' = TriesTree t pc k k' (Err again)
+
+-- the same on the way, before the clock is loaded: no more is seen than before
+abbrev pub EndsOnWay : Terms → ℕ → CallerData → Again → CallerData → Type 0
+EndsOnWay t pc k again k' = EndsAgain t pc k again k' × (k'.log.past ≡ k.log.past)

@@ -1,11 +1,12 @@
 -- A lookup on its way: what its log keeps of the node that it visits, and what the words that it
 -- loaded of the node say, where they are the node's.
 use Rattle.std.specs.Prelude.{◌≡◌, ◌≢◌, ℕ, ◌+◌, ◌*◌, ◌-◌, ◌^◌, ◌<◌, ◌≤◌, ◌⊎◌, List, [], length}
-use Rattle.std.specs.Prelude.{Contains, IfSome, Option, Some, None, option_map}
+use Rattle.std.specs.Prelude.{Contains, IfSome, IsSome, Option, Some, None, option_map, false}
 use Rattle.reg_model.specs.Query.{member_at}
 use Rattle.reg_model.specs.declared.span.Member.{Member}
 use Rattle.tree_shape.specs.NodeData.{NodeData, IsInFences, entries_of}
 use Rattle.tree_shape.specs.declared.node.Frame.{Frame}
+use Rattle.word_rule.specs.declared.log.Holding.{Holding}
 use Rattle.word_rule.specs.declared.log.LoadedWord.{LoadedWord}
 use Rattle.word_rule.specs.declared.log.NodeSight.{NodeSight}
 use Rattle.word_rule.specs.declared.log.Sights.{Sights}
@@ -14,7 +15,7 @@ use Rattle.word_rule.specs.CallerData.{CallerData}
 use Rattle.word_rule.specs.Held.{held_of}
 use Rattle.word_rule.specs.NodeTells.{IsLiveNode}
 use Rattle.word_rule.specs.Observations.{AreOfNode}
-use Rattle.word_rule.specs.Places.{TOP, node_place}
+use Rattle.word_rule.specs.Places.{CONTENT_WORDS, TOP, node_place}
 use Rattle.word_rule.specs.Spelling.{SpellsNode, node_word}
 use Rattle.word_rule.specs.Sights.{loaded_word, place_of, place_under, sight_of}
 use Rattle.btree_lookup.specs.Loads.{after_looks, loaded_at, loaded_of}
@@ -67,6 +68,38 @@ pub record SeesBelow (t : Terms) (pc : ℕ) (k : CallerData) (visit : Visit)
       × Contains sees.loaded (loaded_of visit.node (7 + 2 * slot) s) × (pc ≤ s)))
   pub fresh : (i : ℕ) → loaded_word (6 + 2 * i) sees.sight.words ≡ None
 
+-- its count was loaded, and no separator
+abbrev pub SeesCount : Terms → ℕ → CallerData → Visit → ℕ → CallerData → Type 0
+SeesCount t pc k visit count k' = SeesBelow t pc k visit count 0 0 k'
+
+-- A node is in a caller's sight, which has the visit's version and level, this count, and a place
+-- for the address: so it is held where it is locked at that version.
+pub record IsInSight (pc : ℕ) (visit : Visit) (count : ℕ) (k : CallerData) : Type 0 where
+  pub sight : NodeSight
+  pub found : sight_of visit.node k.log.sights.nodes ≡ Some sight
+  pub same : sight.version ≡ visit.version
+  pub place : Frame
+  pub placed : place_of sight ≡ Some place
+  pub level : place.level ≡ visit.level
+  pub inside : HoldsAddress place pc
+  pub counted : loaded_word 5 sight.words ≡ Some count
+
+-- What is known of the lock of a node that was in sight when it was taken: the node is live with
+-- its settled content, which its words spell; that has the visit's level, and its fences hold the
+-- address; and the words have the count.
+pub record IsLockSeen (t : Terms) (pc : ℕ) (visit : Visit) (count : ℕ) (h : Holding)
+    : Type 0 where
+  pub node : h.node ≡ visit.node
+  pub version : h.version ≡ visit.version
+  pub wide : length h.words ≡ CONTENT_WORDS
+  pub spells : SpellsNode h.words h.settled
+  pub clean : h.stored ≡ false
+  pub marked : IsSome h.mark
+  pub live : IfSome h.mark (IsLiveNode t visit.node h.settled)
+  pub level : h.settled.level ≡ visit.level
+  pub fences : IsInFences pc h.settled
+  pub counted : node_word h.words 5 ≡ count
+
 -- Words of the node that a sight is of: they have each word that was loaded, spell this content,
 -- and where the sight has a place, the node is live there.
 pub record Agrees (t : Terms) (s : NodeSight) (shape : NodeData) : Type 0 where
@@ -77,9 +110,10 @@ pub record Agrees (t : Terms) (s : NodeSight) (shape : NodeData) : Type 0 where
 
 -- the child that the address leads to: where the node's version is found now, the child gets a
 -- place one level down that holds the address
-pub record SeesChild (t : Terms) (pc : ℕ) (k : CallerData) (visit : Visit) (child : ℕ)
+pub record SeesChild (t : Terms) (pc : ℕ) (k : CallerData) (visit : Visit) (count child : ℕ)
     (k' : CallerData) : Type 0 where
   pub sees : Sees t pc k visit 17 k'
+  pub counted : loaded_word 5 sees.sight.words ≡ Some count
   pub other : child ≢ visit.node
   pub below : child ≢ 0
   pub way : IsLed pc sees.loaded child

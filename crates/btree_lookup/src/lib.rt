@@ -15,6 +15,6 @@
 
 mod entry;
 mod lookup;
-mod visit;
+pub mod visit;
 
 pub use lookup::try_find;

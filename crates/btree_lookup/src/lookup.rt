@@ -9,7 +9,7 @@ ghost use Rattle.btree_lookup.specs.Visits.{IsEntry, Way, entry_member};
 use crate::entry::{self, Entry};
 use crate::visit::{self, Visit};
 use reg_model::{Again, Found};
-use word_rule::places::LOWER;
+use word_rule::places::{COUNT, LOWER};
 use word_rule::{Ask, Looker, Words};
 
 /// The answer at a stamp.
@@ -66,7 +66,8 @@ pub fn try_find<L: Looker>(words: &Words, me: &mut L, pc: u64) -> Result<Found, 
 {
     let mut visit = visit::root(words, me)?;
     while visit.level > 0 {
-        visit = visit::descend(words, me, visit, pc)?;
+        let count = me.load_node(words, visit.node, COUNT);
+        visit = visit::descend(words, me, visit, count, pc)?;
     }
     leaf(words, me, visit, pc)
 }

@@ -3,20 +3,21 @@
 //! A sight of each node is begun when its version is first loaded. It is marked live when the
 //! parent's version is found again, since the parent then still named the node. Nothing that was
 //! loaded of a node is trusted before its own version is found again.
-ghost use Rattle.std.specs.Prelude.{◌≡◌, ℕ, ◌+◌, ◌<◌, ◌≤◌, [], IfOk, IfErr, IfSome, IsNone, IsOk};
-ghost use Rattle.std.specs.Prelude.{if◌then◌else◌};
+ghost use Rattle.std.specs.Prelude.{◌≡◌, ◌≢◌, ℕ, ◌+◌, ◌<◌, ◌≤◌, [], IfOk, IfErr, IfSome, IsNone};
+ghost use Rattle.std.specs.Prelude.{IsOk, if◌then◌else◌};
 ghost use Rattle.reg_model.specs.declared.answer.Again.TheVariants.{Changed, Locked};
 ghost use Rattle.word_rule.specs.CallerData.{CallerData};
 ghost use Rattle.word_rule.specs.Callers.{IsAlone};
 ghost use Rattle.word_rule.specs.Places.{TOP, node_place};
-ghost use Rattle.btree_lookup.specs.Tries.{EndsAgain};
-ghost use Rattle.btree_lookup.specs.Visits.{SeesBelow, SeesChild, SeesNone, Way};
+ghost use Rattle.btree_lookup.specs.Tries.{EndsOnWay};
+ghost use Rattle.btree_lookup.specs.Visits.{IsInSight, SeesBelow, SeesChild, SeesCount};
+ghost use Rattle.btree_lookup.specs.Visits.{SeesNone, Way};
 
 use reg_model::Again;
 use std::ops::Range;
 use tree_shape::PAIRS;
 use tree_shape::limits::HIGHEST_LEVEL;
-use word_rule::places::{COUNT, FIRST, LEVEL, PAIR_WORDS};
+use word_rule::places::{FIRST, LEVEL, PAIR_WORDS};
 use word_rule::{Ask, FIRST_NODE, Looker, NODE_WORDS, Words};
 
 /// The first child of an inner node, and its first separator. The next pair stands two words on.
@@ -56,7 +57,7 @@ fn locked(words: &Words, node: u32, seen: u64) -> Again
 }
 
 /// A node's version is another one than that of the visit.
-pub fn changed(words: &Words, visit: Visit, second: u64) -> Again
+pub(crate) fn changed(words: &Words, visit: Visit, second: u64) -> Again
     requires { visit.node < words.now.terms.nodes }
     ensures { result ≡ Changed (node_place visit.node) visit.version second }
 {
@@ -67,7 +68,7 @@ pub fn changed(words: &Words, visit: Visit, second: u64) -> Again
     }
 }
 
-/// The root, where a lookup begins.
+/// The root, where the way down begins.
 pub fn root<L: Looker>(words: &Words, me: &mut L) -> Result<Visit, Again>
     requires table { (L.known me.old).table ≡ words.now.table }
     ensures table { (L.known me.new).table ≡ (L.known me.old).table }
@@ -76,7 +77,7 @@ pub fn root<L: Looker>(words: &Words, me: &mut L) -> Result<Visit, Again>
         → IfOk result (λ visit. Way words.now.terms pc (L.known me.old) visit (L.known me.new)) }
     ensures err { (pc : ℕ)
         → IfErr result
-        (λ again. EndsAgain words.now.terms pc (L.known me.old) again (L.known me.new)) }
+        (λ again. EndsOnWay words.now.terms pc (L.known me.old) again (L.known me.new)) }
     ensures alone { IsAlone (L.known me.old).log.lineage → (L.known me.old).log.holdings.held ≡ []
         → IsOk result }
 {
@@ -100,7 +101,7 @@ pub fn root<L: Looker>(words: &Words, me: &mut L) -> Result<Visit, Again>
 
 /// All of a number where something holds, else 0, without a branch.
 #[inline(always)]
-pub fn where_holds(number: u32, holds: bool) -> u32
+pub(crate) fn where_holds(number: u32, holds: bool) -> u32
     ensures { result ≡ (if holds then number else 0) }
 {
     number * u32::from(holds)
@@ -147,21 +148,22 @@ fn slot_for<L: Looker>(words: &Words, me: &mut L, visit: Visit, pc: u64) -> u32
     below(words, me, visit, pc, HALF..PAIRS as u32)
 }
 
-/// The child of the first pair whose separator is at least the address. None where there is no such
-/// pair, or where it names no other node below the root: then the version has changed.
-fn child_for<L: Looker>(words: &Words, me: &mut L, visit: Visit, pc: u64) -> Option<u32>
+/// The child of the first of so many pairs whose separator is at least the address. None where
+/// there is no such pair, or where it names no other node below the root: then the version has
+/// changed.
+fn child_for<L: Looker>(words: &Words, me: &mut L, visit: Visit, count: u64, pc: u64) -> Option<u32>
     requires table { (L.known me.old).table ≡ words.now.table }
     requires inside { visit.node < words.now.terms.nodes }
     ensures table { (L.known me.new).table ≡ (L.known me.old).table }
     ensures inside { IfSome result (λ child. child < words.now.terms.nodes) }
     ensures child { (k : CallerData) → 0 < visit.level
-        → Way words.now.terms pc k visit (L.known me.old)
-        → IfSome result (λ child. SeesChild words.now.terms pc k visit child (L.known me.new)) }
+        → SeesCount words.now.terms pc k visit count (L.known me.old)
+        → IfSome result
+        (λ child. SeesChild words.now.terms pc k visit count child (L.known me.new)) }
     ensures none { (k : CallerData) → 0 < visit.level
-        → Way words.now.terms pc k visit (L.known me.old)
+        → SeesCount words.now.terms pc k visit count (L.known me.old)
         → IsNone result → SeesNone words.now.terms pc k visit (L.known me.new) }
 {
-    let count = me.load_node(words, visit.node, COUNT);
     if count > PAIRS as u64 {
         return None;
     }
@@ -176,22 +178,32 @@ fn child_for<L: Looker>(words: &Words, me: &mut L, visit: Visit, pc: u64) -> Opt
     Some(child as u32)
 }
 
-/// From a node to the child that the address leads to.
-pub fn descend<L: Looker>(words: &Words, me: &mut L, visit: Visit, pc: u64) -> Result<Visit, Again>
+/// From a node whose count was loaded to the child that the address leads to. The node stays in
+/// sight: where it is locked at the visit's version, it has that count.
+pub fn descend<L: Looker>(
+    words: &Words,
+    me: &mut L,
+    visit: Visit,
+    count: u64,
+    pc: u64,
+) -> Result<Visit, Again>
     requires table { (L.known me.old).table ≡ words.now.table }
     requires inside { visit.node < words.now.terms.nodes }
     requires above { 0 < visit.level }
     ensures table { (L.known me.new).table ≡ (L.known me.old).table }
     ensures inside { IfOk result (λ next. next.node < words.now.terms.nodes) }
     ensures level { IfOk result (λ next. next.level + 1 ≡ visit.level) }
-    ensures ok { (k : CallerData) → Way words.now.terms pc k visit (L.known me.old)
+    ensures ok { (k : CallerData) → SeesCount words.now.terms pc k visit count (L.known me.old)
         → IfOk result (λ next. Way words.now.terms pc k next (L.known me.new)) }
-    ensures err { (k : CallerData) → Way words.now.terms pc k visit (L.known me.old)
-        → IfErr result (λ again. EndsAgain words.now.terms pc k again (L.known me.new)) }
-    ensures alone { (k : CallerData) → Way words.now.terms pc k visit (L.known me.old)
+    ensures kept { (k : CallerData) → SeesCount words.now.terms pc k visit count (L.known me.old)
+        → IfOk result
+        (λ next. (next.node ≢ visit.node) × IsInSight pc visit count (L.known me.new)) }
+    ensures err { (k : CallerData) → SeesCount words.now.terms pc k visit count (L.known me.old)
+        → IfErr result (λ again. EndsOnWay words.now.terms pc k again (L.known me.new)) }
+    ensures alone { (k : CallerData) → SeesCount words.now.terms pc k visit count (L.known me.old)
         → IsAlone k.log.lineage → k.log.holdings.held ≡ [] → IsOk result }
 {
-    let Some(node) = child_for(words, me, visit, pc) else {
+    let Some(node) = child_for(words, me, visit, count, pc) else {
         let second = me.load_version(words, visit.node, Ask::Nothing);
         return Err(changed(words, visit, second));
     };
