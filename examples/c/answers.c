@@ -178,6 +178,67 @@ static int row_tables(void) {
   return 0;
 }
 
+/* The frame at 0x1025 whose caller's address stands at 0x7000. */
+static frames_frame innermost(void) {
+  frames_frame frame = {.at_instruction = 1};
+  frame.columns[6] = 0x7010;
+  frame.columns[7] = 0x7000;
+  frame.columns[16] = 0x1025;
+  return frame;
+}
+
+static int lent(frames_section *section) {
+  const uint8_t stack[32] = {0x20, 0x10};
+  frames_row_table table = {0};
+  CHECK(frames_c_row_table(*section, &table, section) == FRAMES_ROW_TABLE_MADE);
+  frames_frame frame = innermost(), other = innermost();
+  CHECK(frames_c_step_lent(*section, 0x7000, stack, 32, &frame, section) == FRAMES_FRAME);
+  CHECK(frame.columns[16] == 0x1020 && frame.columns[7] == 0x7008 && frame.at_instruction == 0);
+  CHECK(frames_c_row_table_step_lent(table, 0x7000, stack, 32, &other, &table) == FRAMES_FRAME);
+  CHECK(memcmp(&frame, &other, sizeof frame) == 0);
+  CHECK(frames_c_step_lent(*section, 0x7000, stack, 31, &frame, section) == FRAMES_NO_BYTES);
+  CHECK(frame.missing == 0x7018 && frame.columns[16] == 0x1020);
+  CHECK(frames_c_step_lent(*section, 0x7011, stack, 15, &frame, section) == FRAMES_NO_BYTES);
+  CHECK(frame.missing == 0x7010);
+  CHECK(frames_c_row_table_step_lent(table, 0x7000, stack, 0, &other, &table) == FRAMES_NO_BYTES);
+  CHECK(frames_c_row_table_step_lent(table, 0x7010, stack + 16, 16, &other, &table) ==
+        FRAMES_FRAME);
+  CHECK(other.columns[16] == 0 && other.columns[7] == 0x7020);
+  frames_c_row_table_free(table);
+  return 0;
+}
+
+static int walks(frames_section *section) {
+  const uint8_t stack[32] = {0x20, 0x10};
+  frames_section share = {0}, late = {0};
+  frames_row_table table = {0};
+  frames_modules modules = {0};
+  CHECK(frames_c_share(*section, &share, section) && frames_c_share(*section, &late, section));
+  CHECK(frames_c_row_table(*section, &table, section) == FRAMES_ROW_TABLE_MADE);
+  CHECK(frames_c_modules(&modules));
+  CHECK(frames_c_modules_add(modules, 0x1000, 0x20, share, &modules) == FRAMES_MODULE_ADDED);
+  CHECK(frames_c_modules_add(modules, 0x101f, 1, late, &modules) == FRAMES_MODULE_NOT_ABOVE);
+  CHECK(frames_c_modules_add_rows(modules, 0x1020, 0x10, table, &modules) == FRAMES_MODULE_ADDED);
+  frames_line lines[4] = {{0}, {0}, {0}, {9, 9, 9}};
+  size_t count = 9;
+  frames_frame frame = innermost();
+  CHECK(frames_c_walk(modules, 0x7000, stack, 32, &frame, lines, 4, &count, &modules) ==
+        FRAMES_WALK_NO_MODULE);
+  CHECK(count == 3 && lines[0].pc == 0x1025 && lines[0].sp == 0x7000 && lines[3].pc == 9);
+  CHECK(lines[0].at_instruction == 1 && lines[1].at_instruction == 0);
+  CHECK(lines[1].pc == 0x1020 && lines[1].sp == 0x7008 && lines[2].pc == 0);
+  CHECK(lines[2].sp == 0x7020 && frame.columns[16] == 0 && frame.columns[7] == 0x7020);
+  frame = innermost();
+  CHECK(frames_c_walk(modules, 0x7000, stack, 31, &frame, lines, 1, &count, &modules) ==
+        FRAMES_WALK_ROOM);
+  CHECK(count == 1 && frame.columns[16] == 0x1020);
+  CHECK(frames_c_walk(modules, 0x7000, stack, 31, &frame, lines, 4, &count, &modules) ==
+        FRAMES_WALK_NO_BYTES);
+  CHECK(count == 1 && lines[0].pc == 0x1020 && frame.missing == 0x7018);
+  frames_c_modules_free(modules);
+  return 0;
+}
+
 int main(void) {
   frames_refusal refusal;
   frames_section section = {0}, other = {0};
@@ -185,7 +246,7 @@ int main(void) {
   CHECK(frames_c_share(section, &other, &section));
   frames_c_free(section);
   int wrong = fdes(&other) || rows(&other) || frames(&other) || refusals() || headers() ||
-              row_tables();
+              row_tables() || lent(&other) || walks(&other);
   frames_c_free(other);
   if (!wrong) printf("answers: all as worked out\n");
   return wrong;

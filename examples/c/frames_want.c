@@ -116,6 +116,24 @@ static enum outcome share_table(void) {
   return DONE;
 }
 
+static enum outcome list_modules(void) {
+  frames_modules modules = {0};
+  if (!frames_c_modules(&modules)) {
+    CHECK(modules.at == NULL);
+    return REFUSED;
+  }
+  frames_section other = {0};
+  if (!frames_c_share(section, &other, &section)) {
+    frames_c_modules_free(modules);
+    return REFUSED;
+  }
+  uint64_t told = frames_c_modules_add(modules, 0x1000, 0x30, other, &modules);
+  frames_c_modules_free(modules);
+  if (told == FRAMES_MODULE_ADDED) return DONE;
+  CHECK(told == FRAMES_MODULE_NO_MEMORY);
+  return REFUSED;
+}
+
 /* How many allocations of a call were refused in turn. */
 static unsigned refused;
 
@@ -136,8 +154,8 @@ int main(void) {
   frames_refusal refusal;
   CHECK(frames_c_read(0x2000, section_bytes, 84, &refusal, &section));
   CHECK(frames_c_row_table(section, &table, &section) == FRAMES_ROW_TABLE_MADE);
-  enum outcome (*const calls[])(void) = {read_one,   read_both,  share,
-                                         record_one, make_table, share_table};
+  enum outcome (*const calls[])(void) = {read_one,   read_both,   share,       record_one,
+                                         make_table, share_table, list_modules};
   for (size_t i = 0; i < sizeof calls / sizeof *calls; i++) CHECK(each_refused(calls[i]) == DONE);
   frames_c_row_table_free(table);
   frames_c_free(section);

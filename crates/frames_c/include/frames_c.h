@@ -339,6 +339,62 @@ uint64_t frames_c_row_table_step_lent(frames_row_table table, uint64_t address,
                                       const uint8_t *stack, size_t length, frames_frame *frame,
                                       frames_row_table *back) FRAMES_C_NONNULL;
 
+/* ---- walks ----------------------------------------------------------------------------------- */
+
+/* Modules of code, or nothing: {0}. For those who walk whole stacks: each module has addresses, and
+ * a share of the section or of the row table that tells its frames. What is said above of shares of
+ * a section holds of a list of modules. */
+typedef struct {
+  void *at;
+} frames_modules;
+
+/* A list without any module. False: memory ran out. */
+bool frames_c_modules(frames_modules *out) FRAMES_C_NONNULL;
+
+enum frames_module_added {
+  FRAMES_MODULE_ADDED = 0,
+  FRAMES_MODULE_NO_MEMORY = 1, /* memory ran out                                             */
+  FRAMES_MODULE_NOT_ABOVE = 2  /* `first` isn't after all addresses of the module before     */
+};
+
+/* Adds the `size` addresses from `first` on, with a share of their section. The share is the list's
+ * from now on, and is freed where the module isn't added: make another one for other calls. */
+uint64_t frames_c_modules_add(frames_modules modules, uint64_t first, uint64_t size,
+                              frames_section section, frames_modules *back) FRAMES_C_NONNULL;
+
+/* The same with a share of the row table of their section. */
+uint64_t frames_c_modules_add_rows(frames_modules modules, uint64_t first, uint64_t size,
+                                   frames_row_table table, frames_modules *back) FRAMES_C_NONNULL;
+
+/* Frees a list, and the shares in it. */
+void frames_c_modules_free(frames_modules modules);
+
+/* A frame that a walk shows: column 16, column 7, and whether column 16 is the address of its
+ * instruction (1) or one to which a call returns (0). */
+typedef struct {
+  uint64_t pc;
+  uint64_t sp;
+  uint64_t at_instruction;
+} frames_line;
+
+enum frames_walk_end {
+  FRAMES_WALK_ROOM = 0,      /* there is another frame, and no room for its line               */
+  FRAMES_WALK_NO_FDE = 1,    /* no FDE of its module covers the last frame's address           */
+  FRAMES_WALK_NO_ROW = 2,    /* no rule for the CFA, or none for the return address            */
+  FRAMES_WALK_OUTERMOST = 3, /* the return address is undefined: there is none before          */
+  FRAMES_WALK_NO_BYTES = 4,  /* the eight bytes at `missing` aren't among those that were lent */
+  FRAMES_WALK_NO_MODULE = 5  /* no module has the last frame's address                         */
+};
+
+/* Walks from a frame to its callers by bytes that are lent, as frames_c_step_lent steps: the first
+ * `count` lines show this frame and those before it, one after another, and the others are as they
+ * were. `room` is 1 at least. Returns why there are no more. The frame is afterwards the last one
+ * that is shown; where it is FRAMES_WALK_ROOM the next one, so that a walk from it goes on. Nothing
+ * that the call writes lies in the bytes that are lent. */
+uint64_t frames_c_walk(frames_modules modules, uint64_t address, const uint8_t *stack,
+                       size_t length, frames_frame *frame, frames_line *lines, size_t room,
+                       size_t *count, frames_modules *back) FRAMES_C_NONNULL;
+
 #ifdef __cplusplus
 }
 #endif

@@ -8,6 +8,9 @@ use Rattle.frames_c.specs.contracts.handle.SectionHandle as SectionHandle
 use Rattle.frames_c.specs.contracts.row_share.TableShare as TableShare
 use Rattle.frames_c.proofs.row_share.TableShare.TheLaws as table
 use Rattle.frames_c.specs.contracts.row_handle.RowTableHandle as RowTableHandle
+use Rattle.frames_c.specs.contracts.modules.LoadedModules as LoadedModules
+use Rattle.frames_c.proofs.modules.LoadedModules.TheLaws as modules
+use Rattle.frames_c.specs.contracts.modules_handle.ModulesHandle as ModulesHandle
 use Rattle.frame_expr.specs.contracts.memory.Memory as Memory
 use Rattle.frame_expr.proofs.memory.Memory.TheLaws as memory
 use Rattle.frames_c.specs.contracts.memory.MemoryHandle as MemoryHandle
@@ -35,6 +38,23 @@ row_table_handle = record {
   laws = table.the_row_laws;
   name = RowTableHandle.the_type.name;
   row = RowTableHandle.the_row;
+  at = λ h. h.at;
+  held = λ h. h.held;
+  made = λ p x. record { at = p; held = Some x };
+  held_made = λ p x. refl;
+  owned = λ d vs. refl;
+  owned_made = λ p x vs. refl;
+  apart = λ p vs. refl;
+  lasts = λ d. tt;
+  leaves_nothing = λ d w. refl;
+}
+
+abbrev pub modules_handle : HandleType
+modules_handle = record {
+  value = LoadedModules.the_row;
+  laws = modules.the_row_laws;
+  name = ModulesHandle.the_type.name;
+  row = ModulesHandle.the_row;
   at = λ h. h.at;
   held = λ h. h.held;
   made = λ p x. record { at = p; held = Some x };

@@ -10,3 +10,4 @@ pub mod Batches
 pub mod HeaderAnswers
 pub mod RowTables
 pub mod CallSiteTables
+pub mod StackLines

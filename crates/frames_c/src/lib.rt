@@ -6,8 +6,11 @@ mod call_sites;
 mod find;
 mod handle;
 mod header;
+mod lines;
 mod load;
 mod memory;
+mod modules;
+mod modules_handle;
 mod record;
 mod refusal;
 mod row;
@@ -18,14 +21,18 @@ mod share;
 mod step;
 mod table;
 mod told_rows;
+mod walks;
 
 pub use batch::frames_c_rows;
 pub use call_sites::{FramesVerdict, frames_c_verdict};
 pub use find::{FramesFde, frames_c_find};
 pub use handle::SectionHandle;
 pub use header::{FramesHeader, frames_c_read_with_header};
+pub use lines::FramesLine;
 pub use load::{frames_c_count, frames_c_free, frames_c_read, frames_c_share};
 pub use memory::MemoryHandle;
+pub use modules::{LoadedModules, ModuleRows};
+pub use modules_handle::ModulesHandle;
 pub use record::{frames_c_memory, frames_c_memory_free, frames_c_memory_push};
 pub use refusal::FramesRefusal;
 pub use row::{FramesRow, frames_c_row};
@@ -38,3 +45,7 @@ pub use row_tables::{
 pub use share::{LoadedSection, SectionShare};
 pub use step::{FramesFrame, frames_c_step, frames_c_step_lent};
 pub use table::{FramesEntry, frames_c_search, frames_c_table};
+pub use walks::{
+    frames_c_modules, frames_c_modules_add, frames_c_modules_add_rows, frames_c_modules_free,
+    frames_c_walk,
+};

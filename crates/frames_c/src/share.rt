@@ -7,9 +7,11 @@ ghost use Rattle.frame_parse.specs.Sections.{first_cover};
 
 use eh_hdr::SearchTable;
 use frame_parse::{Fde, Section};
+use frame_rows::row_at;
 use std::alloc::{AllocError, Global};
 use std::marker::Model;
 use std::sync::Arc;
+use unwind_step::{FdeRow, RowSource};
 
 /// A section whose places are numbers of four bytes, and the table of its header, where it was read
 /// with one.
@@ -58,6 +60,21 @@ impl LoadedSection {
         match &self.table {
             None => self.section.fde_at(pc),
             Some(table) => table.fde_at(&self.section, pc),
+        }
+    }
+}
+
+impl RowSource for LoadedSection {
+    ghost section = { λ l. l.section };
+
+    #[inline(always)]
+    fn row_of(&self, pc: u64) -> Option<FdeRow<'_>> {
+        match self.fde_at(pc) {
+            None => None,
+            Some(fde) => {
+                let row = row_at(&fde, pc);
+                Some(FdeRow { fde, row })
+            }
         }
     }
 }

@@ -10,9 +10,10 @@ ghost use Rattle.stack_walk.specs.Modules.{modules_end, module_end};
 
 use crate::modules::{ModuleList, ModuleStep};
 use frame_expr::{Regs, WordSource};
+use frame_parse::Section;
 use std::alloc::{AllocFailed, Global};
 use std::marker::Model;
-use unwind_step::FoundStep;
+use unwind_step::{FoundStep, step_at};
 
 /// What tells what comes of the frames in a section.
 pub trait StepSource {
@@ -24,6 +25,14 @@ pub trait StepSource {
         ensures { MatchOption result (first_cover look (section self.now).fdes ≡ None)
             (λ found. IsStepIn (section self.now) look regs.now.columns (M.regions memory.now)
             found.outcome found.signal) };
+}
+
+impl StepSource for Section {
+    ghost section = { λ s. s };
+
+    fn step_at<M: WordSource>(&self, look: u64, regs: &Regs, memory: &M) -> Option<FoundStep> {
+        step_at(self, look, regs, memory)
+    }
 }
 
 /// Why a module isn't added.
