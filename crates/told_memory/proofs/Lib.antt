@@ -1,0 +1,4 @@
+pub mod AskedWords
+pub mod ToldSteps
+pub mod ToldValues
+pub mod ToldWords
