@@ -1,5 +1,5 @@
 -- The word that a step lacks is none that was told.
-use Rattle.std.proofs.Common.{◌≡◌, ◌+◌, ◌%◌, ◌^◌, ◌⊎◌, inl, inr, ℕ, List, [], ◌∷◌, Some, None, Ok, Err, Result, Option, refl, sym, ap, subst}
+use Rattle.std.proofs.Common.{◌≡◌, ◌+◌, ◌%◌, ◌^◌, inl, inr, ℕ, List, [], ◌∷◌, Some, None, Ok, Err, Result, Option, refl, sym, subst}
 use Rattle.std.specs.Prelude.{drop}
 use Rattle.eh_bytes.specs.Results.{◌and_then◌}
 use Rattle.frame_expr.specs.declared.fault.NoBytes.{NoBytes}

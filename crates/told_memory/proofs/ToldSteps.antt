@@ -1,5 +1,5 @@
 -- What comes of a frame over the words told of a memory comes of it over that memory.
-use Rattle.std.proofs.Common.{◌≡◌, ◌+◌, ◌%◌, ◌^◌, ◌⊎◌, inl, inr, ℕ, List, Some, None, Ok, Err, Result, Option, refl, sym, ◌∙◌, ap, subst}
+use Rattle.std.proofs.Common.{◌≡◌, ◌+◌, ◌%◌, ◌^◌, inl, inr, ℕ, List, Some, None, Ok, Err, Result, Option, refl, sym, subst}
 use Rattle.told_memory.specs.Telling.{IsToldOf, LacksAsMemory}
 use Rattle.frame_expr.specs.declared.fault.NoBytes.{NoBytes}
 use Rattle.frame_expr.specs.declared.operation.Operation.{Operation}
@@ -11,7 +11,7 @@ use Rattle.frame_rows.specs.Rules.{CfaRuleData, RowData, RuleData}
 use Rattle.unwind_step.specs.declared.next.Stepped.{Stepped}
 use Rattle.unwind_step.specs.declared.next.Stepped.TheVariants as stepped
 use Rattle.unwind_step.specs.Rules.{IsCfa, IsRestored, number_read, saved_at, saved_by}
-use Rattle.unwind_step.specs.NextFrame.{AreRestored, FailsFirst, IsFrame, IsStep, IsNextFrame, LacksBytes, rule_in}
+use Rattle.unwind_step.specs.NextFrame.{AreRestored, IsStep, IsNextFrame, rule_in}
 use Rattle.frame_parse.specs.Sections.{FdeData}
 
 abbrev pub ValuesStay : Type 0

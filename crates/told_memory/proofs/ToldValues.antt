@@ -1,5 +1,5 @@
 -- Values over the words that were told of a memory.
-use Rattle.std.proofs.Common.{rules, arith, sym, refl, ap, subst, ◌∙◌, ◌≡◌, ℕ, List, [], ◌∷◌, Option, Some, None, Ok, Err, Bool, true, false}
+use Rattle.std.proofs.Common.{rules, sym, refl, ap, subst, ◌∙◌, ◌≡◌, ℕ, List, [], ◌∷◌, Option, Some, None, Ok, Err}
 use Rattle.std.specs.Prelude.{Result, drop}
 use Rattle.eh_bytes.specs.Results.{◌and_then◌}
 use Rattle.told_memory.specs.Telling.{IsToldOf}

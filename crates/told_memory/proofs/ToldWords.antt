@@ -1,11 +1,11 @@
 -- The words of memory that is lent, and of words told one by one.
-use Rattle.std.proofs.Common.{rules, ◌≡◌, ◌≢◌, ℕ, ◌+◌, ◌<◌, ◌≤◌, ◌-◌, ◌^◌, List, [], ◌∷◌, ◌++◌, length, map, drop, Bool, true, false, Option, Some, None, cond, refl, sym, ap, subst, ◌∙◌, arith}
+use Rattle.std.proofs.Common.{rules, ◌≡◌, ◌≢◌, ℕ, ◌<◌, ◌≤◌, ◌-◌, ◌^◌, List, [], ◌∷◌, ◌++◌, length, map, Bool, true, false, Some, None, cond, refl, ap, subst, arith}
 use Rattle.std.specs.Option.{option_map}
 use Rattle.std.proofs.lemmas.List.{append-nil}
 use Rattle.byteorder.specs.Endian.{little_bytes, little_number}
 use Rattle.byteorder.specs.Numbers.{length-bytes_low_first, little_number-reads_back}
-use Rattle.told_memory.specs.Telling.{told_region, told_regions}
-use Rattle.frame_expr.specs.Regions.{RegionData, end, holds_bytes, region_at, tail_in, word_at}
+use Rattle.told_memory.specs.Telling.{told_region}
+use Rattle.frame_expr.specs.Regions.{RegionData, holds_bytes, region_at, tail_in, word_at}
 use Rattle.told_memory.specs.declared.told.ToldWord.{ToldWord}
 
 abbrev eight : ℕ → RegionData → ℕ

@@ -14,6 +14,14 @@ pub struct ToldWord {
     pub word: u64,
 }
 
+impl ToldWord {
+    fn number(&self) -> u64
+        ensures { result ≡ self.now.word }
+    {
+        self.word
+    }
+}
+
 /// Bytes that a caller lends, and words that it told of the memory beside them. Of two words for
 /// one address the first counts, and what is lent counts before both.
 #[derive(Clone, Copy)]
@@ -40,7 +48,7 @@ fn told_word(words: &[ToldWord], address: u64) -> Option<u64>
 {
     for told in words {
         if told.address == address {
-            return Some(told.word);
+            return Some(told.number());
         }
     }
     None

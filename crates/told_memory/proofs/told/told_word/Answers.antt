@@ -1,4 +1,4 @@
-use Rattle.std.proofs.Common.{rules, ◌≡◌, ◌≢◌, ◌<◌, ◌≤◌, ◌^◌, ◌+◌, ℕ, suc, add-one, length, List, ◌∷◌, [], drop, map, get_or, sym, subst, ap, refl, ◌∙◌, arith, length-drop}
+use Rattle.std.proofs.Common.{◌≡◌, ◌<◌, ◌≤◌, ◌^◌, ◌+◌, ℕ, add-one, length, List, ◌∷◌, drop, map, get_or, sym, ap, ◌∙◌, arith, length-drop, Some}
 use Rattle.std.proofs.Math.Seq.{drop-cons}
 use Rattle.frame_expr.specs.Regions.{word_at}
 use Rattle.told_memory.specs.Telling.{told_region}
@@ -18,8 +18,9 @@ returns-then-told-address c =
     let ws = c.args.words.now in
     let w : ToldWord = get_or ws c.loop-told.told-index nothing in
     let left = left_at ws c.loop-told.told-index (omega (arith, c.loop-told-test.true)) in
-    let here = told_there c.args.address w (drop (c.loop-told.told-index + 1) ws) ? c.if-told-address.true in
-    sym (sym c.loop-told.invariant ∙ ap (λ (xs : List ToldWord). word_at c.args.address (map told_region xs)) left ∙ here)
+    let fits : w.word < 2 ^ 64 = omega (arith, c.number.ensures, c.number.type_inv) in
+    let here = told_there c.args.address w (drop (c.loop-told.told-index + 1) ws) fits c.if-told-address.true in
+    ap Some c.number.ensures ∙ sym (sym c.loop-told.invariant ∙ ap (λ (xs : List ToldWord). word_at c.args.address (map told_region xs)) left ∙ here)
 
 pub loop-told-preserved : goal.loop-told-preserved
 loop-told-preserved c =

@@ -1,4 +1,4 @@
-use Rattle.std.proofs.Common.{[], ◌∷◌, map, sym, ◌∙◌}
+use Rattle.std.proofs.Common.{map, sym, ◌∙◌}
 use Rattle.frame_expr.specs.Regions.{RegionData}
 use Rattle.told_memory.specs.Telling.{told_region}
 use Rattle.told_memory.proofs.ToldWords.{word_after_first, word_in_first}
