@@ -38,26 +38,27 @@
  * waited. Pause, yield or sleep as the program likes, and ask again. After BUSY the update call
  * stays begun: the next update, the same or another, goes on with it and takes no further one.
  *
- * Beside a busy writer. An update of the registered ranges takes its first lock at the root and goes
- * down, a lock at a time, letting go of those above. Another one that comes to a lock meanwhile is
- * BUSY, and a lookup of that half that passes there is AGAIN. Beside a client that updates without a
- * pause that is so of most tries, since all of them pass the root. Each comes back at once; nothing
- * says how many there are in a row. An update of the loaded ranges makes others of
- * that half BUSY while it runs, and a lookup of it AGAIN only where it was accepted between the
- * lookup's first step and its last. To a client that is alone no lookup is AGAIN.
+ * Beside a busy writer. An update of the registered ranges takes its first lock at the root and
+ * goes down, a lock at a time, letting go of those above. Another one that comes to a lock
+ * meanwhile is BUSY, and a lookup of that half that passes there is AGAIN. Beside a client that
+ * updates without a pause that is so of most tries, since all of them pass the root. Each comes
+ * back at once; nothing says how many there are in a row. An update of the loaded ranges makes
+ * others of that half BUSY while it runs, and a lookup of it AGAIN only where it was accepted
+ * between the lookup's first step and its last. To a client that is alone no lookup is AGAIN.
  *
  * What a client costs. A thousand bytes, whatever the registry's nodes; half of that are its last
- * eight hits in either half (registry_c_find_cached). Join one that isn't
- * needed any more. One that is closed and not joined takes its update calls with it and leaves its
- * name behind, a few words with the client that it was split off from; and no other client is alone
- * from then on, however many are joined.
+ * eight hits in either half (registry_c_find_cached). Join one that isn't needed any more. One
+ * that is closed and not joined takes its update calls with it and leaves its name behind, a few
+ * words with the client that it was split off from; and no other client is alone from then on,
+ * however many are joined.
  *
- * Readers. A reader looks up as a client does, and owes nothing: no client waits for it, it counts in
- * no bound, and a client that is alone stays so beside readers. It may be dropped at any time, in any
- * order, by any thread, also after all clients were closed; the registry is freed with the last of
- * either. So a thread that only looks up drops its reader as it ends, or leaves it to another thread.
- * One that is never dropped keeps the registry's memory, and nothing else. What a reader is told
- * never goes back, nor below what its maker had been told. It costs one small allocation.
+ * Readers. A reader looks up as a client does, and owes nothing: no client waits for it, it counts
+ * in no bound, and a client that is alone stays so beside readers. It may be dropped at any time,
+ * in any order, by any thread, also after all clients were closed; the registry is freed with the
+ * last of either. So a thread that only looks up drops its reader as it ends, or leaves it to
+ * another thread. One that is never dropped keeps the registry's memory, and nothing else. What a
+ * reader is told never goes back, nor below what its maker had been told. It costs one small
+ * allocation.
  *
  * In a signal handler: registry_c_left, registry_c_seen, the lookups and the updates take no memory
  * and wait for nobody, each step is one atomic access of a word. Give the handler a client of its
@@ -157,8 +158,9 @@ enum registry_join {
 uint64_t registry_c_join(registry_client client, registry_client other, registry_client *back,
                          registry_client *other_back) REGISTRY_C_NONNULL;
 
-/* Frees a client, and the registry with the last of its clients and readers. `seen` is how many updates it had seen. True:
- * every other client was joined into it, and then these are all that were ever accepted. */
+/* Frees a client, and the registry with the last of its clients and readers. `seen` is how many
+ * updates it had seen. True: every other client was joined into it, and then these are all that
+ * were ever accepted. */
 bool registry_c_close(registry_client client, uint32_t *seen) REGISTRY_C_NONNULL;
 
 /* How many update calls a client may still begin. One that is begun isn't among them. */
