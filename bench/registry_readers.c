@@ -1,6 +1,6 @@
-/* registry_readers RANGES TURNS: registers so many ranges, makes and drops a reader TURNS times, and
- * looks addresses up TURNS times by a client, by a reader and by a client's last hits, each eight
- * times in a row; prints what each takes. */
+/* registry_readers RANGES TURNS: registers so many ranges, makes and drops a reader TURNS times,
+ * and looks addresses up TURNS times by a client, by a reader and by a client's last hits, each
+ * eight times in a row; prints what each takes. */
 #include "registry_c.h"
 #include <stdio.h>
 #include <stdlib.h>
