@@ -55,6 +55,7 @@ pub mod Raised
 pub mod Sunk
 pub mod Sinking
 pub mod RemovalAnswers
+pub mod BySights
 pub mod Releases
 pub mod Takings
 pub mod Absences

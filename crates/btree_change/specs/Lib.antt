@@ -15,3 +15,4 @@ pub mod Removing
 pub mod Takings
 pub mod Siblings
 pub mod Shares
+pub mod BySight

@@ -1,18 +1,58 @@
 //! The insertion of a member.
-ghost use Rattle.std.specs.Prelude.{◌≡◌, ◌<◌, ◌≤◌, true, IfOk, IfErr};
+ghost use Rattle.std.specs.Prelude.{◌≡◌, ◌<◌, ◌≤◌, true, IfOk, IfErr, None};
+ghost use Rattle.reg_model.specs.SpanData.{IsSpan};
 ghost use Rattle.word_rule.specs.CallerData.{due, surplus};
 ghost use Rattle.word_rule.specs.Callers.{IsIdle};
 ghost use Rattle.word_rule.specs.Places.{CALL_CREDIT};
-ghost use Rattle.btree_change.specs.Insertion.{AnswersInsertion, Inserts, TriesInsertion};
+ghost use Rattle.node_store.specs.Locking.{FoundBusy};
+ghost use Rattle.btree_change.specs.BySight.{HoldsFor};
+ghost use Rattle.btree_change.specs.Insertion.{AnswersInsertion, IfFull, Inserts};
+ghost use Rattle.btree_change.specs.Loads.{FoundNoRoom};
 ghost use Rattle.btree_change.specs.Paths.{HoldsNothing};
+ghost use Rattle.btree_change.specs.Roots.{EndsInsertion, GivesUpWhole};
 ghost use Rattle.btree_change.specs.Updates.{GivesUp};
 
-use crate::descent::at_root;
+use crate::by_sight::{Request, hold_by_sight};
+use crate::descent::{Held, at_root};
 use crate::root::at_held_root;
-use node_store::{Busy, Locking, Trying, Waiting};
+use crate::stand::{Room, Stand};
+use crate::walk::below;
+use node_store::{Busy, Locking, Waiting};
 use reg_model::{Inserted, Member};
 use std::sync::Wait;
 use word_rule::{Caller, Words};
+
+/// Answers an insertion that begins at a node that was locked by sight.
+fn at_seen<L: Locking>(
+    locking: &L,
+    words: &Words,
+    me: &mut Caller,
+    member: &Member,
+    at: Held,
+) -> Result<Inserted, Busy>
+    requires table { me.old.table ≡ words.now.table }
+    requires terms { me.old.log.terms ≡ words.now.terms }
+    requires held { HoldsFor words.now.terms
+        (Request.Insertion member.now.span.first member.now.span.last) at me.old.log.holdings }
+    requires loader { me.old.log.loader ≡ None }
+    requires span { IsSpan member.now.span }
+    requires due { 0 < due me.old }
+    requires surplus { 64 ≤ surplus me.old }
+    requires payload { member.now.payload < words.now.terms.payloads }
+    ensures answer { IfOk result (λ answer. EndsInsertion words.now.terms member.now answer 64
+        me.old me.new) }
+    ensures full { IfOk result (λ answer. IfFull answer
+        (FoundNoRoom member.now.span.first me.old me.new)) }
+    ensures busy { IfErr result (λ e. GivesUpWhole 64 e me.old me.new × (L.gives_up ≡ true)) }
+    ensures cause { IfErr result (λ e. FoundBusy e me.old me.new) }
+{
+    let stand = Stand {
+        at,
+        beyond: None,
+        room: Room::Splitting,
+    };
+    below(locking, words, me, member, stand)
+}
 
 /// Registers a member, for an update call that was begun: Done with the next number; Overlap with
 /// the lowest registered member that overlaps it; or Full where a node had to be split and none was
@@ -35,29 +75,15 @@ pub fn insert_by<L: Locking>(
     ensures busy { IfErr result (λ e. GivesUp e me.old me.new × (L.gives_up ≡ true)) }
     ensures terms { me.old.log.terms ≡ words.now.terms }
 {
-    let _base = member.span.first();
+    let request = Request::Insertion {
+        first: member.span.first(),
+        last: member.span.last(),
+    };
+    if let Some(at) = hold_by_sight(locking, words, me, request) {
+        return at_seen(locking, words, me, &member, at);
+    }
     let root = at_root(locking, words, me)?;
     at_held_root(locking, words, me, &member, root)
-}
-
-/// Registers a member as `insert_by` does, for an update call that was begun, or is Busy where a
-/// lock on the way is taken or the free list moves: then the call may be tried again. Spent where
-/// fewer releases are left than a try may make.
-pub fn try_insert(words: &Words, me: &mut Caller, member: Member) -> Result<Inserted, Busy>
-    requires table { me.old.table ≡ words.now.table }
-    requires idle { IsIdle me.old.log }
-    requires begun { 0 < due me.old }
-    requires payload { member.payload < words.now.terms.payloads }
-    ensures answer { IfOk result (λ answer. TriesInsertion words.now.terms member
-        me.old me.new answer) }
-    ensures busy { IfErr result (λ e. (CALL_CREDIT ≤ surplus me.old)
-        × GivesUp e me.old me.new) }
-    ensures terms { CALL_CREDIT ≤ surplus me.old → me.old.log.terms ≡ words.now.terms }
-{
-    if !me.may_try() {
-        return Ok(Inserted::Spent);
-    }
-    insert_by(&Trying, words, me, member)
 }
 
 /// Registers a member. Spent where the caller may begin no more update calls. It waits for the

@@ -9,17 +9,18 @@ ghost use Rattle.btree_change.specs.Siblings.{HoldsSiblings, IsInEither, SameKin
 ghost use Rattle.word_rule.specs.CallerData.{due, surplus};
 ghost use Rattle.word_rule.specs.Callers.{IsIdle};
 ghost use Rattle.word_rule.specs.Places.{CALL_CREDIT};
-ghost use Rattle.btree_change.specs.Paths.{HoldsLeftOver, HoldsNothing};
+ghost use Rattle.btree_change.specs.Paths.{HoldsLeftOver, HoldsNothing, StepsOnNodes};
 ghost use Rattle.btree_change.specs.Releases.{Spends};
-ghost use Rattle.btree_change.specs.Removal.{AnswersRemoval, Removes, TriesRemoval};
+ghost use Rattle.btree_change.specs.Removal.{AnswersRemoval, Removes};
 ghost use Rattle.btree_change.specs.Removing.{HoldsAlone, IsSpare};
 ghost use Rattle.btree_change.specs.Updates.{GivesUp};
 
+use crate::by_sight::{Request, hold_by_sight};
 use crate::descent::{Held, at_root, let_go_of};
 use crate::mending::{join, share, sink};
 use crate::sibling::{Siblings, is_leaf, is_small, pair_count, take_child, take_sibling};
 use crate::taking::{not_found, take_in_leaf};
-use node_store::{Busy, Locking, Trying, Waiting, begun_in};
+use node_store::{Busy, Locking, Waiting, begun_in};
 use reg_model::Removed;
 use std::sync::Wait;
 use tree_shape::{ENTRIES, PAIRS};
@@ -142,6 +143,24 @@ fn step_down<L: Locking>(
     }
 }
 
+/// The node at which a removal begins, held alone, with one to spare unless it is the root.
+fn begin<L: Locking>(locking: &L, words: &Words, me: &mut Caller, pc: u64) -> Result<Held, Busy>
+    requires table { me.old.table ≡ words.now.table }
+    requires idle { IsIdle me.old.log }
+    ensures ok { IfOk result (λ at. HoldsAlone words.now.terms at me.new.log.holdings
+        × IsInFences pc at.content × IsSpare at.node at.content × (at.content.level ≤ 12)) }
+    ensures busy { IfErr result (λ e. HoldsNothing me.new.log.holdings × (L.gives_up ≡ true)) }
+    ensures cause { IfErr result (λ e. FoundBusy e me.old me.new) }
+    ensures same { StepsOnNodes me.old me.new }
+    ensures terms { me.old.log.terms ≡ words.now.terms }
+{
+    let request = Request::Removal { base: pc };
+    match hold_by_sight(locking, words, me, request) {
+        Some(at) => Ok(at),
+        None => at_root(locking, words, me),
+    }
+}
+
 /// The leaf for an address, held alone, with an entry to spare.
 fn leaf_for<L: Locking>(locking: &L, words: &Words, me: &mut Caller, pc: u64) -> Result<Held, Busy>
     requires table { me.old.table ≡ words.now.table }
@@ -156,7 +175,7 @@ fn leaf_for<L: Locking>(locking: &L, words: &Words, me: &mut Caller, pc: u64) ->
     ensures most { IfErr result (λ e. Spends 27 me.old me.new) }
     ensures terms { me.old.log.terms ≡ words.now.terms }
 {
-    let mut at = at_root(locking, words, me)?;
+    let mut at = begin(locking, words, me, pc)?;
     while at.content.level() > 0 {
         at = match step_down(locking, words, me, at, pc) {
             Ok(below) => below,
@@ -193,25 +212,6 @@ pub fn remove_by<L: Locking>(
     let (number, member) = take_in_leaf(words, me, &leaf, begun, base);
     let_go_of(locking, words, me, leaf.node, true);
     Ok(Removed::Done { number, member })
-}
-
-/// Removes a member as `remove_by` does, for an update call that was begun, or is Busy where a
-/// lock on the way is taken: then the call may be tried again. Spent where fewer releases are left
-/// than a try may make.
-pub fn try_remove(words: &Words, me: &mut Caller, base: u64) -> Result<Removed, Busy>
-    requires table { me.old.table ≡ words.now.table }
-    requires idle { IsIdle me.old.log }
-    requires begun { 0 < due me.old }
-    ensures answer { IfOk result (λ answer. TriesRemoval words.now.terms base
-        me.old me.new answer) }
-    ensures busy { IfErr result (λ e. (CALL_CREDIT ≤ surplus me.old)
-        × GivesUp e me.old me.new) }
-    ensures terms { CALL_CREDIT ≤ surplus me.old → me.old.log.terms ≡ words.now.terms }
-{
-    if !me.may_try() {
-        return Ok(Removed::Spent);
-    }
-    remove_by(&Trying, words, me, base)
 }
 
 /// Removes the member that begins at a base. NotFound where none begins there, and Spent where the

@@ -17,9 +17,9 @@ use word_rule::places::LEVEL;
 use word_rule::{Caller, LockId, Words};
 
 /// Below so many entries, or so many pairs, a node can't lose one.
-const ENTRIES_TO_SPARE: u64 = 5;
+pub(crate) const ENTRIES_TO_SPARE: u64 = 5;
 
-const PAIRS_TO_SPARE: u64 = 7;
+pub(crate) const PAIRS_TO_SPARE: u64 = 7;
 
 /// A child that is held under its parent: that of the pair at the slot.
 #[derive(Drop)]
