@@ -4,6 +4,8 @@ pub mod TraceLines
 pub mod Answered
 pub mod Pieces
 pub mod Numbers
+pub mod HexDigits
+pub mod EventNumbers
 pub mod Lines
 pub mod Joined
 pub mod Steps

@@ -7,7 +7,7 @@ use Rattle.std.proofs.lemmas.Bool.{agree_below_at, and_parts, eqb-true, cond-tru
 use Rattle.hex.specs.Hex.{decode_pairs, hex_digit_value, value_at, digit_or_error}
 use Rattle.hex.specs.declared.error.FromHexError.TheVariants.{OddLength}
 use Rattle.hex.proofs.HexLemmas.{decode_of-even}
-use Rattle.event_script.specs.Lower.{is_lower, lower_value}
+use Rattle.event_script.specs.Lower.{is_lower, lower_value, pair_bytes}
 use Rattle.event_script.specs.Fields.{hex_bytes_in}
 use Rattle.event_script.proofs.Numbers.{IsGlyph}
 use Rattle.event_script.proofs.Sections.{lower_below, undecoded_in, decoded_in}
@@ -44,11 +44,6 @@ pub glyph_below : (base c : ℕ) → base ≤ 16 → IsGlyph base c → lower_va
 glyph_below base c high g = (let v = ap lower_value g.2 ∙ glyph_value g.0 (omega (arith, g.1)) in omega (arith, g.1, v))
 
 -- ---- pairs of digits
-
--- the bytes of pairs, whatever stands in the place of a digit
-abbrev pub pair_bytes : List ℕ → List ℕ
-pair_bytes (high ∷ low ∷ rest) = (lower_value high * 16 % 256 + lower_value low) % 256 ∷ pair_bytes rest
-pair_bytes _ = []
 
 pub small_is_lower : (c : ℕ) → c < 256 → ltb (lower_value c) 16 ≡ is_lower c
 small_is_lower c within = agree_below_at (λ c. ltb (lower_value c) 16) is_lower 256 c refl within

@@ -1,5 +1,6 @@
 -- Digits in lower case.
-use Rattle.std.specs.Prelude.{ℕ, ◌-◌, Bool, ◌&&◌, ◌||◌, nat_le, if◌then◌else◌}
+use Rattle.std.specs.Prelude.{ℕ, ◌+◌, ◌-◌, ◌*◌, ◌%◌, Bool, ◌&&◌, ◌||◌, List, [], ◌∷◌, nat_le}
+use Rattle.std.specs.Prelude.{if◌then◌else◌}
 
 -- 0 to 9, and a to f
 abbrev pub is_lower : ℕ → Bool
@@ -11,3 +12,9 @@ lower_value b =
     if nat_le 48 b && nat_le b 57 then b - 48
     else if nat_le 97 b && nat_le b 102 then b - 87
     else 255
+
+-- the bytes of pairs, whatever stands in the place of a digit
+abbrev pub pair_bytes : List ℕ → List ℕ
+pair_bytes (high ∷ low ∷ rest) =
+    (lower_value high * 16 % 256 + lower_value low) % 256 ∷ pair_bytes rest
+pair_bytes _ = []

@@ -2,4 +2,5 @@
 
 pub mod fault;
 pub mod journal;
+mod numbers;
 pub mod script;

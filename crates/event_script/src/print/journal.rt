@@ -7,14 +7,14 @@ ghost use Rattle.event_script.specs.Digits.{hex};
 ghost use Rattle.event_script.specs.Text.{IsPrintable, overlap_text, inserted_text, loading_text};
 ghost use Rattle.event_script.specs.Text.{removed_text, found_text, place_text, frame_text};
 ghost use Rattle.event_script.specs.Text.{end_text, end_line, trace_lines, answer_line};
-ghost use Rattle.event_script.specs.Text.{answer_lines, event_line, event_number, addresses_text};
+ghost use Rattle.event_script.specs.Text.{answer_lines, event_line, addresses_text};
 ghost use Rattle.event_script.specs.Text.{answer_text, numbered, thread_text, updates_text};
 ghost use Rattle.event_script.specs.Text.{journal_text};
 
 use crate::journal::{Answer, Journal};
+use crate::print::numbers::{put_decimal, put_decimal_after, put_event_number, put_hex_after};
 use reg_model::{Found, Inserted, Loading, Member, NoMemory, Place, Removed};
 use std::alloc::{AllocError, Global};
-use std::fmt::Write;
 use unwind_step::{End, FrameLine, Trace};
 
 /// The round, the thread and the event, each counted from 1.
@@ -69,23 +69,10 @@ pub fn put_event_line(
         ++ event_line number.round number.thread number.event
         (slice_index_or (answer_lines answer.now) line [])) }
 {
-    put_number(text, number)?;
+    put_event_number(text, number)?;
     put_line(text, answer, line)?;
     text.push_str("\n")?;
     Ok(())
-}
-
-/// Adds an event's number, and a space.
-fn put_number(text: &mut String, number: EventNumber) -> Result<(), AllocError>
-    ensures { OnOk result (string_bytes text.new ≡ string_bytes text.old
-        ++ (event_number number.round number.thread number.event ++ codes " ")) }
-{
-    let EventNumber {
-        round,
-        thread,
-        event,
-    } = number;
-    write!(text, "{round}.{thread}.{event} ")
 }
 
 /// Adds what a line of an event says after its number.
@@ -149,7 +136,8 @@ fn put_word(text: &mut String, word: &str, number: usize) -> Result<(), AllocErr
     ensures { OnOk result (string_bytes text.new
         ≡ string_bytes text.old ++ (word.now ++ codes " " ++ decimal number)) }
 {
-    write!(text, "{word} {number}")
+    text.push_str(word)?;
+    put_decimal_after(text, " ", number)
 }
 
 /// Adds the addresses of a frame, with a space before and behind.
@@ -157,8 +145,10 @@ fn put_addresses(text: &mut String, line: &FrameLine) -> Result<(), AllocError>
     ensures { OnOk result (string_bytes text.new
         ≡ string_bytes text.old ++ addresses_text line.now) }
 {
-    let (pc, sp, look) = (line.pc, line.sp, line.look);
-    write!(text, " pc {pc:x} sp {sp:x} look {look:x} ")
+    put_hex_after(text, " pc ", line.pc)?;
+    put_hex_after(text, " sp ", line.sp)?;
+    put_hex_after(text, " look ", line.look)?;
+    text.push_str(" ")
 }
 
 /// Adds the line that says why there are no more frames.
@@ -178,7 +168,7 @@ pub fn put_end(text: &mut String, end: End) -> Result<(), AllocError>
         End::NoFde => text.push_str("nofde"),
         End::NoRow => text.push_str("norow"),
         End::Undefined => text.push_str("undefined"),
-        End::NoBytes { address } => write!(text, "nobytes {address:x}"),
+        End::NoBytes { address } => put_hex_after(text, "nobytes ", address),
         End::Long => text.push_str("long"),
     }
 }
@@ -190,35 +180,47 @@ fn put_answer(text: &mut String, answer: &Answer) -> Result<(), AllocError>
 {
     match answer {
         Answer::Register { image, answer } => {
-            write!(text, "register {image} ")?;
+            put_image(text, "register ", *image)?;
             put_inserted(text, answer)
         }
         Answer::Deregister { base, answer } => {
-            put_address(text, "deregister", *base)?;
+            put_address(text, "deregister ", *base)?;
             put_removed(text, answer)
         }
         Answer::Load { image, answer } => {
-            write!(text, "load {image} ")?;
+            put_image(text, "load ", *image)?;
             put_loading(text, answer)
         }
         Answer::Unload { base, answer } => {
-            put_address(text, "unload", *base)?;
+            put_address(text, "unload ", *base)?;
             put_removed(text, answer)
         }
         Answer::Find { pc, place } => {
-            put_address(text, "find", *pc)?;
+            put_address(text, "find ", *pc)?;
             put_place(text, place)
         }
-        Answer::Unwind { snapshot, .. } => write!(text, "unwind {snapshot}"),
+        Answer::Unwind { snapshot, .. } => {
+            put_decimal_after(text, "unwind ", *snapshot as usize)
+        }
     }
+}
+
+/// Adds an event's word and its image, and a space.
+fn put_image(text: &mut String, word: &str, image: u32) -> Result<(), AllocError>
+    ensures { OnOk result (string_bytes text.new
+        ≡ string_bytes text.old ++ (word.now ++ decimal image ++ codes " ")) }
+{
+    put_decimal_after(text, word, image as usize)?;
+    text.push_str(" ")
 }
 
 /// Adds an event's word and its address, and a space.
 fn put_address(text: &mut String, word: &str, address: u64) -> Result<(), AllocError>
     ensures { OnOk result (string_bytes text.new
-        ≡ string_bytes text.old ++ (word.now ++ codes " " ++ hex address ++ codes " ")) }
+        ≡ string_bytes text.old ++ (word.now ++ hex address ++ codes " ")) }
 {
-    write!(text, "{word} {address:x} ")
+    put_hex_after(text, word, address)?;
+    text.push_str(" ")
 }
 
 /// Adds the answer to a registration.
@@ -227,9 +229,9 @@ fn put_inserted(text: &mut String, answer: &Inserted) -> Result<(), AllocError>
         ≡ string_bytes text.old ++ inserted_text answer.now) }
 {
     match answer {
-        Inserted::Done { number } => write!(text, "done {number}"),
+        Inserted::Done { number } => put_decimal_after(text, "done ", *number as usize),
         Inserted::Overlap { member, stamp } => put_overlap(text, member, *stamp),
-        Inserted::Full { stamp } => write!(text, "full at {stamp}"),
+        Inserted::Full { stamp } => put_decimal_after(text, "full at ", *stamp as usize),
         Inserted::Spent => Ok(()),
     }
 }
@@ -240,9 +242,9 @@ fn put_loading(text: &mut String, answer: &Loading) -> Result<(), AllocError>
         ≡ string_bytes text.old ++ loading_text answer.now) }
 {
     match answer {
-        Loading::Done { number } => write!(text, "done {number}"),
+        Loading::Done { number } => put_decimal_after(text, "done ", *number as usize),
         Loading::Overlap { member, stamp } => put_overlap(text, member, *stamp),
-        Loading::LoadFull { stamp } => write!(text, "full at {stamp}"),
+        Loading::LoadFull { stamp } => put_decimal_after(text, "full at ", *stamp as usize),
         Loading::Spent => Ok(()),
     }
 }
@@ -252,9 +254,9 @@ fn put_overlap(text: &mut String, member: &Member, stamp: u32) -> Result<(), All
     ensures { OnOk result (string_bytes text.new
         ≡ string_bytes text.old ++ overlap_text member.now stamp) }
 {
-    let base = member.span.first();
-    let payload = member.payload;
-    write!(text, "overlap {base:x} {payload} at {stamp}")
+    put_hex_after(text, "overlap ", member.span.first())?;
+    put_decimal_after(text, " ", member.payload as usize)?;
+    put_decimal_after(text, " at ", stamp as usize)
 }
 
 /// Adds the answer to a removal.
@@ -264,10 +266,10 @@ fn put_removed(text: &mut String, answer: &Removed) -> Result<(), AllocError>
 {
     match answer {
         Removed::Done { number, member } => {
-            let payload = member.payload;
-            write!(text, "done {number} image {payload}")
+            put_decimal_after(text, "done ", *number as usize)?;
+            put_decimal_after(text, " image ", member.payload as usize)
         }
-        Removed::NotFound { stamp } => write!(text, "absent at {stamp}"),
+        Removed::NotFound { stamp } => put_decimal_after(text, "absent at ", *stamp as usize),
         Removed::Spent => Ok(()),
     }
 }
@@ -293,10 +295,10 @@ fn put_found(text: &mut String, found: &Found) -> Result<(), AllocError>
 {
     match found {
         Found::Hit { member, stamp } => {
-            let payload = member.payload;
-            write!(text, "{payload} at {stamp}")
+            put_decimal(text, member.payload as usize)?;
+            put_decimal_after(text, " at ", *stamp as usize)
         }
-        Found::Miss { stamp } => write!(text, "none at {stamp}"),
+        Found::Miss { stamp } => put_decimal_after(text, "none at ", *stamp as usize),
     }
 }
 
@@ -314,7 +316,8 @@ fn put_updates(text: &mut String, updates: u32) -> Result<(), AllocError>
     ensures { OnOk result (string_bytes text.new
         ≡ string_bytes text.old ++ updates_text updates) }
 {
-    write!(text, "updates {updates}\n")
+    put_decimal_after(text, "updates ", updates as usize)?;
+    text.push_str("\n")
 }
 
 /// The whole text of a journal.

@@ -1,10 +1,11 @@
 //! Numbers and bytes in fields.
 
-ghost use Rattle.std.specs.Prelude.{◌≡◌, ◌^◌, ◌<◌, ◌≤◌, IfOk};
+ghost use Rattle.std.specs.Prelude.{◌≡◌, ◌*◌, ◌^◌, ◌<◌, ◌≤◌, IfOk, length};
+ghost use Rattle.std.specs.List.{list_all};
 ghost use Rattle.event_script.specs.Fields.{number_in, decimal_in, hex_in, hex_bytes_in};
 ghost use Rattle.event_script.specs.Fields.{section_bytes};
 ghost use Rattle.std.specs.Option.{option_map};
-ghost use Rattle.event_script.specs.Lower.{lower_value};
+ghost use Rattle.event_script.specs.Lower.{is_lower, lower_value, pair_bytes};
 
 use reg_model::NoMemory;
 use std::alloc::Global;
@@ -76,8 +77,29 @@ pub fn hex_in(field: &[u8]) -> Option<u64>
     number_of(16, 16, field)
 }
 
-/// The bytes, one at least, whose digits in lower case the field is. Whether all were such digits
-/// is asked at the end, once.
+#[tactic(auto, using(std::proofs::lemmas::List::take_more_set))]
+/// Writes the bytes whose digits in lower case the field is, and says whether all are such digits.
+/// No byte ends the loop: that is asked at its end, once.
+fn decode_pairs(field: &[u8], bytes: &mut [u8]) -> bool
+    requires { length field.now ≡ length bytes.old * 2 }
+    ensures lower { result ≡ list_all is_lower field.now }
+    ensures bytes { bytes.new ≡ pair_bytes field.now }
+{
+    let mut lower = true;
+    let mut index = 0;
+    let mut left = field;
+    while let [high, low, rest @ ..] = left {
+        let high = digit_of(*high);
+        let low = digit_of(*low);
+        lower = lower & (high < 16) & (low < 16);
+        bytes[index] = high.wrapping_mul(16).wrapping_add(low);
+        index += 1;
+        left = rest;
+    }
+    lower
+}
+
+/// The bytes, one at least, whose digits in lower case the field is.
 pub fn hex_bytes_in(alloc: Global, field: &[u8]) -> Result<Option<Vec<u8>>, NoMemory>
     ensures { IfOk result
         (λ found. option_map (λ bytes. bytes.items) found ≡ hex_bytes_in field.now) }
@@ -85,16 +107,9 @@ pub fn hex_bytes_in(alloc: Global, field: &[u8]) -> Result<Option<Vec<u8>>, NoMe
     if field.is_empty() || field.len() % 2 != 0 {
         return Ok(None);
     }
-    let mut bytes = Vec::with_capacity(alloc, field.len() / 2)?;
-    let mut lower = true;
-    let mut left = field;
-    while let [high, low, rest @ ..] = left {
-        let high = digit_of(*high);
-        let low = digit_of(*low);
-        lower = lower & (high < 16) & (low < 16);
-        bytes.push(high.wrapping_mul(16).wrapping_add(low))?;
-        left = rest;
-    }
+    let mut bytes = Vec::new(alloc);
+    bytes.resize(field.len() / 2, 0)?;
+    let lower = decode_pairs(field, &mut bytes);
     if lower { Ok(Some(bytes)) } else { Ok(None) }
 }
 

@@ -1,4 +1,4 @@
-use Rattle.std.proofs.Common.{◌≡◌, ℕ, List, ◌++◌, ap, ◌∙◌}
+use Rattle.std.proofs.Common.{ℕ, List, ◌++◌, ap, ◌∙◌}
 use Rattle.std.specs.Global.{Vec}
 use Rattle.event_script.specs.Text.{updates_text}
 use Rattle.event_script.proofs.Numbered.{rounds_text_is}

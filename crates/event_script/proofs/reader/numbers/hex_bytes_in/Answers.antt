@@ -1,7 +1,8 @@
-use Rattle.std.proofs.Common.{sym, ap, ◌∙◌, eqb-true, Some, arith}
+use Rattle.std.proofs.Common.{◌≡◌, ◌++◌, length, take, drop, sym, ap, ◌∙◌, eqb-true, Some, take_all, arith}
 use Rattle.std.proofs.lemmas.Bool.{eqb-false}
+use Rattle.std.proofs.lemmas.List.{take-append-le}
 use Rattle.event_script.proofs.Sections.{empty_in, not_lower_in}
-use Rattle.event_script.proofs.LowerDigits.{odd_in, pairs_in, pairs_end}
+use Rattle.event_script.proofs.LowerDigits.{odd_in, pairs_in}
 use Rattle.event_script.proofs.reader.numbers.hex_bytes_in.Goals as goal
 use Rattle.event_script.proofs.reader.numbers.hex_bytes_in.Goals.{then-is_empty-via-then-is_empty, then-is_empty-via-else-is_empty+then-field-ne0}
 
@@ -13,12 +14,12 @@ returns-then-is_empty c = sym (elim c.then-is_empty.branch [
 
 pub returns-then-lower : goal.returns-then-lower
 returns-then-lower c =
-    let l = c.loop-left in
-    let whole = pairs_end c.args.field.now l.bytes.items l.left.now l.lower c.in_default.len_below l.invariant.even l.invariant.so_far l.invariant.digits in
-    ap Some whole.0 ∙ sym (pairs_in c.args.field.now (eqb-false _ _ (sym c.if-is_empty.ensures)) (omega arith) (sym whole.1 ∙ c.if-lower.true))
+    let d = c.decode_pairs-lower in
+    let bytes = d.new.bytes in
+    let count = c.resize.new.self.len in
+    let rest = drop (length bytes) c.resize.new.self.items in
+    let all : take count (bytes ++ rest) ≡ bytes = take-append-le count bytes rest (omega arith) ∙ take_all count bytes (omega arith) in
+    ap Some (all ∙ d.ensures.bytes) ∙ sym (pairs_in c.args.field.now (eqb-false _ _ (sym c.if-is_empty.ensures)) (omega arith) (sym d.ensures.lower ∙ c.if-lower.true))
 
 pub returns-else-lower : goal.returns-else-lower
-returns-else-lower c =
-    let l = c.loop-left in
-    let whole = pairs_end c.args.field.now l.bytes.items l.left.now l.lower c.in_default.len_below l.invariant.even l.invariant.so_far l.invariant.digits in
-    sym (not_lower_in c.args.field.now (sym whole.1 ∙ c.if-lower.false))
+returns-else-lower c = sym (not_lower_in c.args.field.now (sym c.decode_pairs-lower.ensures.lower ∙ c.if-lower.false))
