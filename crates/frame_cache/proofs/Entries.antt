@@ -6,9 +6,15 @@ use Rattle.reg_model.specs.Query.{member_at}
 use Rattle.reg_model.specs.SpanData.{contains}
 use Rattle.reg_model.specs.declared.span.Member.{Member}
 use Rattle.frame_cache.specs.CacheData.{but_found}
-use Rattle.frame_cache.specs.Chain.{AreSlots, but_nth, brought}
+use Rattle.frame_cache.specs.Order.{AreSlots, but_nth, brought}
 use Rattle.frame_cache.specs.Recent.{in_slot, no_entry}
-use Rattle.frame_cache.proofs.Places.{apart_at}
+use Rattle.frame_cache.proofs.Places.{all_at, apart_at}
+
+-- the slot of a place is one of the eight
+pub slot_low : (slots : List ℕ) (place : ℕ) → AreSlots slots → place < 8 → get_or slots place 0 < 8
+slot_low slots place s within =
+    let count = s.count in
+    all_at (λ slot. slot < 8) slots place 0 (omega (arith, count, within)) s.inside
 
 -- a member is read through its place among the slots
 pub entry_read : (members : List Member) (slots : List ℕ) (used place : ℕ) → place < used → used ≤ length slots → get_or (map (in_slot members) (take used slots)) place no_entry ≡ in_slot members (get_or slots place 0)
@@ -63,19 +69,21 @@ put members slots n place slot m behind within s low is =
     ∙ ap (λ z. m ∷ z) (others_stay members (take n (but_nth place slots)) slot m (all_take (λ y. y ≢ slot) n (but_nth place slots) apart) ∙ ap (map (in_slot members)) (take_before slots n place behind))
 
 -- where there is room for one more
-pub added : (members : List Member) (slots : List ℕ) (used place slot : ℕ) (m : Member) → used < 8 → used ≤ place → place < 9 → AreSlots slots → length members ≡ 9 → slot < 9 → slot ≡ get_or slots place 0 → map (in_slot (set members slot m)) (take (suc used) (brought place slots)) ≡ take 8 (m ∷ map (in_slot members) (take used slots))
-added members slots used place slot m room behind within s count low is =
+pub added : (members : List Member) (slots : List ℕ) (used slot : ℕ) (m : Member) → used < 8 → AreSlots slots → length members ≡ 8 → slot ≡ get_or slots 7 0 → map (in_slot (set members slot m)) (take (suc used) (brought 7 slots)) ≡ take 8 (m ∷ map (in_slot members) (take used slots))
+added members slots used slot m room s count is =
     let slots_count = s.count in
+    let low = slot_low slots 7 s (omega arith) in
     let n = entry_count members slots used (omega (arith, room, slots_count)) in
-    put members slots used place slot m (omega (arith, room, behind)) (omega (arith, within, slots_count)) s (omega (arith, low, count)) is
+    put members slots used 7 slot m (omega (arith, room)) (omega (arith, slots_count)) s (omega (arith, low, count, is)) is
     ∙ ap (λ z. m ∷ z) (sym (take_all 7 (map (in_slot members) (take used slots)) (omega (arith, n, room))))
 
 -- where there is none
-pub replaced : (members : List Member) (slots : List ℕ) (used place slot : ℕ) (m : Member) → used ≡ 8 → used ≤ place → place < 9 → AreSlots slots → length members ≡ 9 → slot < 9 → slot ≡ get_or slots place 0 → map (in_slot (set members slot m)) (take used (brought place slots)) ≡ take 8 (m ∷ map (in_slot members) (take used slots))
-replaced members slots used place slot m full behind within s count low is =
+pub replaced : (members : List Member) (slots : List ℕ) (used slot : ℕ) (m : Member) → used ≡ 8 → AreSlots slots → length members ≡ 8 → slot ≡ get_or slots 7 0 → map (in_slot (set members slot m)) (take used (brought 7 slots)) ≡ take 8 (m ∷ map (in_slot members) (take used slots))
+replaced members slots used slot m full s count is =
     let slots_count = s.count in
-    ap (λ n. map (in_slot (set members slot m)) (take n (brought place slots))) full
-    ∙ (put members slots 7 place slot m (omega (arith, full, behind)) (omega (arith, within, slots_count)) s (omega (arith, low, count)) is
+    let low = slot_low slots 7 s (omega arith) in
+    ap (λ n. map (in_slot (set members slot m)) (take n (brought 7 slots))) full
+    ∙ (put members slots 7 7 slot m (omega arith) (omega (arith, slots_count)) s (omega (arith, low, count, is)) is
     ∙ ap (λ z. m ∷ z) (ap (map (in_slot members)) (sym (take-take 7 used slots (omega (arith, full)))) ∙ sym (take-map (in_slot members) 7 (take used slots))))
 
 -- ---- a search

@@ -1,5 +1,4 @@
 pub mod Places
-pub mod Walks
 pub mod Entries
 pub mod Seeking
 pub mod Hits

@@ -1,7 +1,7 @@
 -- Lists without what stands at a place, and what stands there brought to the front.
-use Rattle.std.proofs.Common.{◌≡◌, ◌≢◌, ℕ, zero, suc, ◌<◌, List, [], ◌∷◌, length, get_or, sym, refl, ap, arith}
-use Rattle.std.specs.List.{AllByRecursion}
-use Rattle.frame_cache.specs.Chain.{StandOnce, AreSlots, but_nth, brought}
+use Rattle.std.proofs.Common.{◌≡◌, ◌≢◌, ℕ, zero, suc, ◌+◌, ◌-◌, ◌<◌, List, [], ◌∷◌, ◌++◌, length, take, drop, get_or, set, sym, refl, ap, subst, ◌∙◌, arith}
+use Rattle.std.specs.List.{AllByRecursion, copy_within}
+use Rattle.frame_cache.specs.Order.{StandOnce, AreSlots, but_nth, brought}
 
 pub all_at : {A : Type 0} (P : A → Type 0) (xs : List A) (n : ℕ) (d : A) → n < length xs → AllByRecursion P xs → P (get_or xs n d)
 all_at P [] n d within h = absurd (omega (arith, within))
@@ -31,16 +31,32 @@ apart_at (x ∷ xs) (suc n) within h =
     let there : n < length xs = omega (arith, within) in
     ((λ e. all_at (λ y. y ≢ x) xs n 0 there h.0 (sym e)), apart_at xs n there h.1)
 
-pub slots_brought : (xs : List ℕ) (n : ℕ) → n < 9 → AreSlots xs → AreSlots (brought n xs)
+pub slots_brought : (xs : List ℕ) (n : ℕ) → n < 8 → AreSlots xs → AreSlots (brought n xs)
 slots_brought xs n within s =
     let count = s.count in
     let there : n < length xs = omega (arith, within, count) in
     record {
       count = (let c = but_count xs n there in omega (arith, c, count));
       apart = (apart_at xs n there s.apart, but_apart xs n s.apart);
-      inside = (all_at (λ slot. slot < 9) xs n 0 there s.inside, all_but (λ slot. slot < 9) xs n s.inside);
+      inside = (all_at (λ slot. slot < 8) xs n 0 there s.inside, all_but (λ slot. slot < 8) xs n s.inside);
     }
 
-pub brought_first : (xs : List ℕ) → 0 < length xs → brought 0 xs ≡ xs
-brought_first [] some = absurd (omega (arith, some))
-brought_first (x ∷ xs) some = refl
+but_parted : {A : Type 0} (xs : List A) (n : ℕ) → but_nth n xs ≡ take n xs ++ drop (suc n) xs
+but_parted [] zero = refl
+but_parted [] (suc n) = refl
+but_parted (x ∷ xs) zero = refl
+but_parted (x ∷ xs) (suc n) = ap (λ z. x ∷ z) (but_parted xs n)
+
+-- what stands before a place is moved up by one, and what stood there put in front
+moved_up : (xs : List ℕ) (n : ℕ) → n < length xs → set (copy_within xs 0 n 1) 0 (get_or xs n 0) ≡ brought n xs
+moved_up [] n within = absurd (omega (arith, within))
+moved_up (x ∷ xs) n within =
+    let all : n - 0 ≡ n = omega arith in
+    let next : 1 + n ≡ suc n = omega arith in
+    ap (λ k. get_or (x ∷ xs) n 0 ∷ (take k (x ∷ xs) ++ drop (1 + k) (x ∷ xs))) all
+    ∙ (ap (λ k. get_or (x ∷ xs) n 0 ∷ (take n (x ∷ xs) ++ drop k (x ∷ xs))) next ∙ ap (λ z. get_or (x ∷ xs) n 0 ∷ z) (sym (but_parted (x ∷ xs) n)))
+
+pub slots_moved_up : (xs ys : List ℕ) (n : ℕ) → n < 8 → ys ≡ copy_within xs 0 n 1 → AreSlots xs → AreSlots (set ys 0 (get_or xs n 0))
+slots_moved_up xs ys n within is s =
+    let count = s.count in
+    subst AreSlots (sym (ap (λ zs. set zs 0 (get_or xs n 0)) is ∙ moved_up xs n (omega (arith, within, count)))) (slots_brought xs n within s)

@@ -1,83 +1,100 @@
--- A search along the slots, seen through the value that it searches.
-use Rattle.std.proofs.Common.{◌≡◌, ℕ, suc, ◌+◌, ◌<◌, ◌≤◌, List, ◌∷◌, map, take, set, get_or, sym, ap, subst, ◌∙◌, add-one, arith, true, false}
+-- A search along the order of the slots, and one over all slots.
+use Rattle.std.proofs.Common.{◌≡◌, ℕ, zero, suc, cond, ◌+◌, ◌<◌, ◌≤◌, List, [], ◌∷◌, length, map, take, set, get_or, sym, ap, ◌∙◌, add-one, arith, refl, Bool, true, false, None}
 use borrow.Author.Count.{below_more}
+use Rattle.std.specs.Int.{from_bool}
+use Rattle.std.specs.List.{count_by, filter}
 use Rattle.std.proofs.lemmas.List.{get_or_default}
+use Rattle.std.proofs.lemmas.List.Sums.{count_by_more_no, count_by_more_yes, length-filter}
+use Rattle.reg_model.specs.Query.{member_at}
 use Rattle.reg_model.specs.SpanData.{contains}
 use Rattle.reg_model.specs.declared.span.Member.{Member}
-use Rattle.frame_cache.specs.Chain.{AreSlots, IsSpot, brought}
+use Rattle.frame_cache.specs.Order.{brought}
 use Rattle.frame_cache.specs.Recent.{SeeksEntry, cached_entries, cached_entry, in_slot, no_entry}
 use Rattle.frame_cache.specs.RecentData.{IsRecent, RecentData}
-use Rattle.frame_cache.specs.declared.chain.Spot.{Spot}
-use Rattle.frame_cache.specs.declared.recent.Sought.TheVariants.{Known, Unknown}
-use Rattle.frame_cache.proofs.Entries.{added, entry_count, entry_read, found_at, found_none, replaced}
-use Rattle.frame_cache.proofs.Places.{all_at}
+use Rattle.frame_cache.specs.declared.recent.Sought.TheVariants.{Known}
+use Rattle.frame_cache.proofs.Entries.{added, entry_count, entry_read, found_at, found_none, replaced, slot_low}
 
--- the slot of a spot is one of the eight
-pub spot_low : (slots : List ℕ) (spot : Spot) → AreSlots slots → IsSpot slots spot → spot.slot < 9
-spot_low slots spot s is =
-    let count = s.count in
-    let inside = is.inside in
-    subst (λ slot. slot < 9) (sym is.slot) (all_at (λ slot. slot < 9) slots spot.place 0 (omega (arith, count, inside)) s.inside)
+-- as many entries as slots are used
+pub used_is : (r : RecentData) → IsRecent r → length (cached_entries r) ≡ r.used
+used_is r is =
+    let slots = is.slots.count in
+    let used = is.used in
+    entry_count r.members r.slots r.used (omega (arith, used, slots))
 
-pub entry_is : (r : RecentData) (spot : Spot) (x : Member) → IsRecent r → IsSpot r.slots spot → spot.place < r.used → get_or r.members spot.slot x ≡ cached_entry spot.place r
-entry_is r spot x filled is within =
-    let low = spot_low r.slots spot filled.slots is in
-    let members = filled.members in
-    let used = filled.used in
-    let slots = filled.slots.count in
-    get_or_default r.members spot.slot x no_entry (omega (arith, low, members))
-    ∙ (ap (λ slot. get_or r.members slot no_entry) is.slot ∙ sym (entry_read r.members r.slots r.used spot.place within (omega (arith, used, slots))))
+-- the entry at a place is read through its slot
+pub entry_is : (r : RecentData) (place : ℕ) (x : Member) → IsRecent r → place < length (cached_entries r) → get_or r.members (get_or r.slots place 0) x ≡ cached_entry place r
+entry_is r place x is within =
+    let members = is.members in
+    let used = is.used in
+    let slots = is.slots.count in
+    let count = used_is r is in
+    let low = slot_low r.slots place is.slots (omega (arith, within, count, used)) in
+    get_or_default r.members (get_or r.slots place 0) x no_entry (omega (arith, low, members))
+    ∙ sym (entry_read r.members r.slots r.used place (omega (arith, within, count)) (omega (arith, used, slots)))
 
 -- no entry before a place contains the address
 abbrev pub ArePassed : ℕ → ℕ → RecentData → Type 0
 ArePassed pc place r = (i : ℕ) → i < place → contains (cached_entry i r).span pc ≡ false
 
-pub seek_known : (pc : ℕ) (r now : RecentData) (spot : Spot) (x : Member) → r ≡ now → IsRecent r → IsSpot r.slots spot → spot.place < r.used → ArePassed pc spot.place now → contains (get_or r.members spot.slot x).span pc ≡ true → SeeksEntry now pc (Known (get_or r.members spot.slot x) spot)
-seek_known pc r now spot x e filled is within passed here = subst (λ n. ArePassed pc spot.place n → SeeksEntry n pc (Known (get_or r.members spot.slot x) spot)) e known passed
-  where
-    known : ArePassed pc spot.place r → SeeksEntry r pc (Known (get_or r.members spot.slot x) spot)
-    known passed =
-        let entry = entry_is r spot x filled is within in
-        let slots = filled.slots.count in
-        let used = filled.used in
-        let count = entry_count r.members r.slots r.used (omega (arith, used, slots)) in
-        let found = found_at pc (cached_entries r) spot.place no_entry (omega (arith, count, within)) passed (rw (← entry) here) in
-        (is, within, entry, rw entry found.0, found.1)
+pub seek_known : (pc : ℕ) (r : RecentData) (place : ℕ) (m : Member) → place < length (cached_entries r) → ArePassed pc place r → m ≡ cached_entry place r → contains m.span pc ≡ true → SeeksEntry r pc (Known m place)
+seek_known pc r place m within passed entry here =
+    let found = found_at pc (cached_entries r) place no_entry within passed (rw (← entry) here) in
+    (within, entry, rw entry found.0, found.1)
 
-pub passed_one : (pc : ℕ) (r now : RecentData) (spot : Spot) (x : Member) → r ≡ now → IsRecent r → IsSpot r.slots spot → spot.place < r.used → ArePassed pc spot.place now → contains (get_or r.members spot.slot x).span pc ≡ false → ArePassed pc (spot.place + 1) now
-passed_one pc r now spot x e filled is within passed here =
-    let entry : get_or r.members spot.slot x ≡ cached_entry spot.place now = entry_is r spot x filled is within ∙ ap (cached_entry spot.place) e in
-    below_more (λ i. contains (cached_entry i now).span pc ≡ false) spot.place passed (rw (← entry) here)
+pub passed_one : (pc : ℕ) (r : RecentData) (place : ℕ) (m : Member) → ArePassed pc place r → m ≡ cached_entry place r → contains m.span pc ≡ false → ArePassed pc (place + 1) r
+passed_one pc r place m passed entry here = below_more (λ i. contains (cached_entry i r).span pc ≡ false) place passed (rw (← entry) here)
 
-pub seek_unknown : (pc : ℕ) (r now : RecentData) (spot : Spot) → r ≡ now → IsRecent r → IsSpot r.slots spot → r.used ≤ spot.place → (place : ℕ) → r.used ≤ place → ArePassed pc place now → SeeksEntry now pc (Unknown spot)
-seek_unknown pc r now spot e filled is behind place all passed = subst (λ n. ArePassed pc place n → SeeksEntry n pc (Unknown spot)) e unknown passed
+pub seek_unknown : (pc : ℕ) (r : RecentData) (place : ℕ) → IsRecent r → r.used ≤ place → ArePassed pc place r → member_at pc (cached_entries r) ≡ None
+seek_unknown pc r place is all passed =
+    let count = used_is r is in
+    found_none pc (cached_entries r) no_entry (λ i less. passed i (omega (arith, less, count, all)))
+
+-- of one more that passes a test, or doesn't
+pub counted_one : {A : Type 0} (p : A → Bool) (xs : List A) (i : ℕ) (d : A) (count more : ℕ) (b : Bool) → i < length xs → p (get_or xs i d) ≡ b → count ≡ count_by p (take i xs) → more ≡ from_bool b → count + more ≡ count_by p (take (i + 1) xs)
+counted_one p xs i d count more true within is so one = let e = count_by_more_yes p xs i d within is in let more_is : more ≡ 1 = one in omega (arith, so, more_is, e)
+counted_one p xs i d count more false within is so none = let e = count_by_more_no p xs i d within is in let more_is : more ≡ 0 = none in omega (arith, so, more_is, e)
+
+-- where none of some passes a test, the one at a place doesn't
+none_left : {A : Type 0} (p : A → Bool) (xs : List A) (n : ℕ) (d : A) → n < length xs → length (filter p xs) ≡ 0 → p (get_or xs n d) ≡ false
+none_left p [] n d within none = absurd (omega (arith, within))
+none_left p (x ∷ xs) zero d within none = go (p x) refl none
   where
-    unknown : ArePassed pc place r → SeeksEntry r pc (Unknown spot)
-    unknown passed =
-        let slots = filled.slots.count in
-        let used = filled.used in
-        let count = entry_count r.members r.slots r.used (omega (arith, used, slots)) in
-        (is, behind, found_none pc (cached_entries r) no_entry (λ i less. passed i (omega (arith, less, count, all))))
+    go : (b : Bool) → p x ≡ b → length (cond b (x ∷ filter p xs) (filter p xs)) ≡ 0 → p x ≡ false
+    go true is none = absurd (omega (arith, none))
+    go false is none = is
+none_left p (x ∷ xs) (suc n) d within none = none_left p xs n d (omega (arith, within)) (go (p x) none)
+  where
+    go : (b : Bool) → length (cond b (x ∷ filter p xs) (filter p xs)) ≡ 0 → length (filter p xs) ≡ 0
+    go true none = absurd (omega (arith, none))
+    go false none = none
+
+none_at : {A : Type 0} (p : A → Bool) (xs : List A) (n : ℕ) (d : A) → n < length xs → count_by p xs ≡ 0 → p (get_or xs n d) ≡ false
+none_at p xs n d within none = none_left p xs n d within (length-filter p xs ∙ none)
+
+-- where no slot has a member that contains the address
+pub seek_nowhere : (pc : ℕ) (r : RecentData) → IsRecent r → count_by (λ m. contains m.span pc) r.members ≡ 0 → member_at pc (cached_entries r) ≡ None
+seek_nowhere pc r is none = seek_unknown pc r r.used is (omega arith) passed
+  where
+    passed : ArePassed pc r.used r
+    passed i less =
+        let used = is.used in
+        let members = is.members in
+        let count = used_is r is in
+        let low = slot_low r.slots i is.slots (omega (arith, less, used)) in
+        ap (λ (m : Member). contains m.span pc) (sym (entry_is r i no_entry is (omega (arith, less, count))))
+        ∙ none_at (λ (m : Member). contains m.span pc) r.members (get_or r.slots i 0) no_entry (omega (arith, low, members)) none
 
 -- ---- a member that is put in front
 
--- the entries with a member in the slot of a spot, after that was brought to the front
-abbrev entries_after : RecentData → Spot → Member → List ℕ → ℕ → List Member
-entries_after r spot m slots used = map (in_slot (set r.members spot.slot m)) (take used slots)
+-- the entries with a member in the last slot, after that was brought to the front
+abbrev entries_after : RecentData → ℕ → Member → List ℕ → ℕ → List Member
+entries_after r slot m slots used = map (in_slot (set r.members slot m)) (take used slots)
 
-pub put_more : (r now : RecentData) (spot : Spot) (m : Member) (slots : List ℕ) → r ≡ now → IsRecent r → IsSpot now.slots spot → now.used ≤ spot.place → r.used < 8 → slots ≡ brought spot.place r.slots → entries_after r spot m slots (r.used + 1) ≡ take 8 (m ∷ cached_entries now)
-put_more r now spot m slots e filled is behind room to =
-    subst (λ n. IsSpot n.slots spot → n.used ≤ spot.place → entries_after r spot m slots (r.used + 1) ≡ take 8 (m ∷ cached_entries n)) e here is behind
-  where
-    here : IsSpot r.slots spot → r.used ≤ spot.place → entries_after r spot m slots (r.used + 1) ≡ take 8 (m ∷ cached_entries r)
-    here is behind =
-        rw add-one (ap (λ z. entries_after r spot m z (suc r.used)) to ∙ added r.members r.slots r.used spot.place spot.slot m room behind is.inside filled.slots filled.members (spot_low r.slots spot filled.slots is) is.slot)
+pub put_more : (r : RecentData) (slot : ℕ) (m : Member) (slots : List ℕ) → IsRecent r → r.used < 8 → slot ≡ get_or r.slots 7 0 → slots ≡ brought 7 r.slots → entries_after r slot m slots (r.used + 1) ≡ take 8 (m ∷ cached_entries r)
+put_more r slot m slots is room at to =
+    rw add-one (ap (λ z. entries_after r slot m z (suc r.used)) to ∙ added r.members r.slots r.used slot m room is.slots is.members at)
 
-pub put_last : (r now : RecentData) (spot : Spot) (m : Member) (slots : List ℕ) → r ≡ now → IsRecent r → IsSpot now.slots spot → now.used ≤ spot.place → 8 ≤ r.used → slots ≡ brought spot.place r.slots → entries_after r spot m slots r.used ≡ take 8 (m ∷ cached_entries now)
-put_last r now spot m slots e filled is behind full to =
-    subst (λ n. IsSpot n.slots spot → n.used ≤ spot.place → entries_after r spot m slots r.used ≡ take 8 (m ∷ cached_entries n)) e here is behind
-  where
-    here : IsSpot r.slots spot → r.used ≤ spot.place → entries_after r spot m slots r.used ≡ take 8 (m ∷ cached_entries r)
-    here is behind =
-        let few = filled.used in
-        ap (λ z. entries_after r spot m z r.used) to ∙ replaced r.members r.slots r.used spot.place spot.slot m (omega (arith, few, full)) behind is.inside filled.slots filled.members (spot_low r.slots spot filled.slots is) is.slot
+pub put_last : (r : RecentData) (slot : ℕ) (m : Member) (slots : List ℕ) → IsRecent r → 8 ≤ r.used → slot ≡ get_or r.slots 7 0 → slots ≡ brought 7 r.slots → entries_after r slot m slots r.used ≡ take 8 (m ∷ cached_entries r)
+put_last r slot m slots is full at to =
+    let few = is.used in
+    ap (λ z. entries_after r slot m z r.used) to ∙ replaced r.members r.slots r.used slot m (omega (arith, few, full)) is.slots is.members at

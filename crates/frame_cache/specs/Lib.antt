@@ -1,5 +1,5 @@
 pub mod CacheData
 pub mod Cached
-pub mod Chain
+pub mod Order
 pub mod RecentData
 pub mod Recent

@@ -1,7 +1,7 @@
 -- What this crate sees of its recent members.
 use Rattle.std.specs.Prelude.{◌≡◌, ℕ, ◌≤◌, List, length}
 use Rattle.reg_model.specs.declared.span.Member.{Member}
-use Rattle.frame_cache.specs.Chain.{AreSlots}
+use Rattle.frame_cache.specs.Order.{AreSlots}
 
 -- their stamp, the member in each slot, the slots in their order, and how many of them are used
 pub record RecentData : Type 0 where
@@ -13,5 +13,5 @@ pub record RecentData : Type 0 where
 -- each slot has a member, and stands in the order once
 pub record IsRecent (r : RecentData) : Type 0 where
   pub slots : AreSlots r.slots
-  pub members : length r.members ≡ 9
+  pub members : length r.members ≡ 8
   pub used : r.used ≤ 8

@@ -69,7 +69,7 @@ impl FrameCache {
         requires { index < length self.now.entries }
         ensures { slice_get self.now.entries index ≡ Some result }
     {
-        self.recent.get(index)
+        self.recent.get(index).member()
     }
 
     /// After so many updates all entries were right.
@@ -104,20 +104,20 @@ impl FrameCache {
         one_member_contains();
         let clock = registry.words().load_clock(me, Ask::Nothing);
         self.recent.keep((clock % LOWER) as u32);
-        let spot = match self.recent.seek(pc) {
-            Sought::Known { member, spot } => {
-                self.recent.touch(spot);
+        match self.recent.seek(pc) {
+            Sought::Known { member, place } => {
+                self.recent.touch(place);
                 return Ok(Found::Hit {
                     member,
                     stamp: self.recent.stamp(),
                 });
             }
-            Sought::Unknown { spot } => spot,
-        };
+            Sought::Unknown => {}
+        }
         match try_half(self.half, registry, me, pc)? {
             Found::Hit { member, stamp } => {
                 self.recent.keep(stamp);
-                self.recent.add(spot, &member);
+                self.recent.add(&member);
                 Ok(Found::Hit { member, stamp })
             }
             Found::Miss { stamp } => Ok(Found::Miss { stamp }),

@@ -10,8 +10,9 @@
 #![tactic(auto)]
 
 mod cache;
-mod chain;
+mod entry;
 pub mod laws;
+mod order;
 mod recent;
 
 pub use cache::FrameCache;

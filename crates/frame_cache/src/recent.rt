@@ -1,24 +1,26 @@
 //! Members at a stamp, the most recently used first.
 ghost use Rattle.std.specs.Prelude.{◌≡◌, ◌<◌, ◌≤◌, ◌∷◌, [], length, take};
+ghost use Rattle.std.specs.List.{count_by};
 ghost use Rattle.reg_model.specs.SpanData.{contains};
 ghost use Rattle.frame_cache.specs.CacheData.{kept_entries};
-ghost use Rattle.frame_cache.specs.Chain.{IsSpot, but_nth};
+ghost use Rattle.frame_cache.specs.Order.{but_nth};
 ghost use Rattle.frame_cache.specs.Recent.{SeeksEntry, cached_entries, cached_entry};
 
-use crate::chain::{Chain, Spot};
-use reg_model::{Member, Span};
+use crate::entry::Entry;
+use crate::order::Order;
+use reg_model::Member;
 use std::marker::Model;
 
-/// How many members there are at most: one fewer than slots.
-const MOST: u8 = 8;
+/// How many members there are at most, and how many slots.
+const MOST: u32 = 8;
 
 /// Each member in a slot. The slots that are used come first in their order.
 #[derive(Drop)]
 pub(crate) struct Recent {
     stamp: u32,
-    members: [Member; 9],
-    chain: Chain,
-    used: u8,
+    members: [Entry; 8],
+    order: Order,
+    used: u32,
 }
 
 impl Model for Recent {
@@ -29,40 +31,23 @@ impl Model for Recent {
     ghost view = { λ r. record {
       stamp = r.stamp;
       members = r.members;
-      slots = r.chain;
+      slots = r.order;
       used = r.used;
     } };
 
     ghost invariant = { λ r. IsRecent record {
       stamp = r.stamp;
       members = r.members;
-      slots = r.chain;
+      slots = r.order;
       used = r.used;
     } };
 }
 
-/// Which member contains an address and where it stands, or else where one more may be put.
+/// Which member contains an address, and its place; or that none does.
+#[derive(Drop)]
 pub(crate) enum Sought {
-    Known { member: Member, spot: Spot },
-    Unknown { spot: Spot },
-}
-
-/// What stands in a slot that was never used.
-fn unused() -> Member {
-    let Some(span) = Span::new(0, 1) else {
-        unreachable!()
-    };
-    Member { span, payload: 0 }
-}
-
-/// Whether the member contains the address, by one comparison: where it begins would be guessed
-/// wrong half of the time.
-#[inline(always)]
-fn holds(member: &Member, pc: u64) -> bool
-    ensures { result ≡ contains member.now.span pc }
-{
-    let (first, last) = (member.span.first(), member.span.last());
-    pc.wrapping_sub(first) <= last - first
+    Known { member: Member, place: u32 },
+    Unknown,
 }
 
 impl Recent {
@@ -73,8 +58,8 @@ impl Recent {
     {
         Recent {
             stamp: 0,
-            members: [unused(); 9],
-            chain: Chain::new(),
+            members: [Entry::unused(); 8],
+            order: Order::new(),
             used: 0,
         }
     }
@@ -91,16 +76,14 @@ impl Recent {
         ensures count { result ≡ length (cached_entries self.now) }
         ensures few { result ≤ 8 }
     {
-        self.used as u32
+        self.used
     }
 
     /// Drops all members of another stamp.
     pub(crate) fn keep(&mut self, stamp: u32)
         ensures stamp { self.new.stamp ≡ stamp }
-        ensures slots { self.new.slots ≡ self.old.slots }
         ensures entries { cached_entries self.new
             ≡ kept_entries stamp self.old.stamp (cached_entries self.old) }
-        ensures room { self.new.used ≤ self.old.used }
     {
         if stamp != self.stamp {
             self.stamp = stamp;
@@ -109,52 +92,82 @@ impl Recent {
     }
 
     /// The member at a place.
-    pub(crate) fn get(&self, index: u32) -> Member
-        requires { index < length (cached_entries self.now) }
-        ensures { result ≡ cached_entry index self.now }
+    pub(crate) fn get(&self, place: u32) -> Entry
+        requires { place < length (cached_entries self.now) }
+        ensures { result ≡ cached_entry place self.now }
     {
-        let mut spot = self.chain.front();
-        while (spot.place as u32) < index {
-            spot = self.chain.behind(spot);
-        }
-        self.members[spot.slot as usize]
+        let slot = self.order.at(place);
+        self.members[slot as usize]
     }
 
-    /// The first member that contains the address, or else where one more may be put.
+    /// In how many slots a member contains the address, also in those that aren't used. No branch
+    /// depends on what stands in a slot, and no load waits for another.
+    #[inline(always)]
+    fn holders(&self, pc: u64) -> u32
+        ensures { result ≡ count_by (λ m. contains m.span pc) self.now.members }
+    {
+        let mut count = 0;
+        for entry in self.members.iter() {
+            count += u32::from(entry.holds(pc));
+        }
+        count
+    }
+
+    /// The first member that contains the address, one place after another. It is a call of its
+    /// own, which leaves registers to a search that finds none.
+    #[inline(never)]
+    fn walk(&self, pc: u64) -> Sought
+        ensures { SeeksEntry self.now pc result }
+    {
+        for place in 0..self.used {
+            let entry = self.get(place);
+            if entry.holds(pc) {
+                let member = entry.member();
+                return Sought::Known { member, place };
+            }
+        }
+        Sought::Unknown
+    }
+
+    /// The first member that contains the address. After the one in front, which it mostly is, all
+    /// slots are asked at once: where none of them holds the address there is no need of their
+    /// order.
     pub(crate) fn seek(&self, pc: u64) -> Sought
         ensures { SeeksEntry self.now pc result }
     {
-        let mut spot = self.chain.front();
-        while spot.place < self.used {
-            let member = self.members[spot.slot as usize];
-            if holds(&member, pc) {
-                return Sought::Known { member, spot };
+        if self.used > 0 {
+            let entry = self.get(0);
+            if entry.holds(pc) {
+                let member = entry.member();
+                return Sought::Known { member, place: 0 };
             }
-            spot = self.chain.behind(spot);
         }
-        Sought::Unknown { spot }
+        let count = self.holders(pc);
+        if count > 0 {
+            self.walk(pc)
+        } else {
+            Sought::Unknown
+        }
     }
 
     /// Brings the member at a place to the front.
-    pub(crate) fn touch(&mut self, spot: Spot)
-        requires spot { IsSpot self.old.slots spot }
-        requires used { spot.place < self.old.used }
+    #[inline(never)]
+    pub(crate) fn touch(&mut self, place: u32)
+        requires { place < length (cached_entries self.old) }
         ensures stamp { self.new.stamp ≡ self.old.stamp }
         ensures entries { cached_entries self.new
-            ≡ cached_entry spot.place self.old ∷ but_nth spot.place (cached_entries self.old) }
+            ≡ cached_entry place self.old ∷ but_nth place (cached_entries self.old) }
     {
-        self.chain.bring(spot);
+        self.order.bring(place);
     }
 
     /// Puts a member in front of all. With eight already there, the last one goes.
-    pub(crate) fn add(&mut self, spot: Spot, member: &Member)
-        requires spot { IsSpot self.old.slots spot }
-        requires unused { self.old.used ≤ spot.place }
+    pub(crate) fn add(&mut self, member: &Member)
         ensures stamp { self.new.stamp ≡ self.old.stamp }
         ensures entries { cached_entries self.new ≡ take 8 (member.now ∷ cached_entries self.old) }
     {
-        self.members[spot.slot as usize] = *member;
-        self.chain.bring(spot);
+        let slot = self.order.bring_last();
+        self.members[slot as usize] = Entry::of(member);
         if self.used < MOST {
             self.used += 1;
         }

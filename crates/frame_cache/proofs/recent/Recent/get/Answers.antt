@@ -1,16 +1,19 @@
-use Rattle.std.proofs.Common.{◌≡◌, ◌<◌, sym, length, subst, arith}
-use Rattle.frame_cache.specs.Recent.{cached_entries}
-use Rattle.frame_cache.specs.RecentData.{RecentData}
-use Rattle.frame_cache.proofs.Entries.{entry_count}
-use Rattle.frame_cache.proofs.Seeking.{entry_is}
+use Rattle.std.proofs.Common.{◌<◌, length, get_or, ap, sym, subst, ◌∙◌, arith}
+use Rattle.frame_cache.specs.Recent.{cached_entries, cached_entry}
+use Rattle.frame_cache.specs.RecentData.{IsRecent, RecentData}
+use Rattle.frame_cache.proofs.Seeking.{entry_is, used_is}
 use Rattle.frame_cache.proofs.recent.Recent.get.Goals as goal
+
+pub at-slot-requires : goal.at-slot-requires
+at-slot-requires c =
+    let is : IsRecent c.args.self.now = subst IsRecent c.self.view_is c.self.invariant in
+    let within = c.requires in
+    let used = is.used in
+    let count = used_is c.args.self.now is in
+    omega (arith, within, count, used)
 
 pub returns : goal.returns
 returns c =
-    let at_index : c.loop-spot.spot.place ≡ c.args.index = (let near = c.loop-spot.invariant.near in omega (arith, near, c.loop-spot-test.false)) in
-    let r : RecentData = record { stamp = c.self.inside.stamp; members = c.self.inside.members; slots = c.self.inside.chain; used = c.self.inside.used } in
-    let slots = c.self.invariant.slots.count in
-    let used = c.self.invariant.used in
-    let within : c.args.index < length (cached_entries r) = subst (λ (r : RecentData). c.args.index < length (cached_entries r)) (sym c.self.view_is) c.requires in
-    let count = entry_count r.members r.slots r.used (omega (arith, slots, used)) in
-    rw (← c.self.view_is, ← at_index) (entry_is r c.loop-spot.spot _ c.self.invariant c.loop-spot.invariant.spot (omega (arith, within, count, at_index)))
+    ap (λ slot. get_or c.self.inside.members slot c.index-self-slot.result) c.at-slot.ensures.slot
+    ∙ (entry_is _ c.args.place c.index-self-slot.result c.self.invariant (subst (λ (r : RecentData). c.args.place < length (cached_entries r)) (sym c.self.view_is) c.requires)
+    ∙ ap (cached_entry c.args.place) c.self.view_is)
