@@ -1,5 +1,9 @@
 pub mod Items
 pub mod Halves
 pub mod Sought
+pub mod LeastLines
+pub mod ByNumber
 pub mod States
-pub mod Rights
+pub mod InTurn
+pub mod Misfits
+pub mod KeptMembers

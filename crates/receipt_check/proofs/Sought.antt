@@ -3,6 +3,8 @@ use Rattle.std.proofs.Common.{◌≡◌, ℕ, ◌+◌, ◌<◌, ◌≤◌, List,
 use Rattle.std.proofs.lemmas.Bool.{cases_lt, false≢true}
 use Rattle.std.proofs.lemmas.List.{take_more, take_all}
 use Rattle.std.proofs.lemmas.List.Elements.{All-push, All-weaker, Contains-append_left, Contains-push}
+use Rattle.std.specs.List.Sorted.{IsPermutation}
+use Rattle.std.proofs.lemmas.List.Sorted.{IsPermutation-sym, All-permutation, Contains-permutation}
 use Rattle.receipt_check.specs.declared.account.Told.{Told}
 use Rattle.receipt_check.specs.Flaws.{IsFirstLine}
 use Rattle.receipt_check.specs.Search.{IsSought, lower_line}
@@ -50,3 +52,16 @@ sought_more IsSo told i t first b within is so sought =
 
 pub sought_all : (IsSo : Told → Type 0) (told : List Told) (i : ℕ) (first : Option ℕ) → length told ≤ i → IsSought IsSo (take i told) first → IsSought IsSo told first
 sought_all IsSo told i first past sought = subst (λ (passed : List Told). IsSought IsSo passed first) (take_all i told past) sought
+
+-- the order of the list doesn't count
+pub sought_moved : (IsSo : Told → Type 0) (xs ys : List Told) (first : Option ℕ) → IsPermutation xs ys → IsSought IsSo ys first → IsSought IsSo xs first
+sought_moved IsSo xs ys None moved all = All-permutation IsSo ys xs (IsPermutation-sym xs ys moved) all
+sought_moved IsSo xs ys (Some line) moved first =
+    let back = IsPermutation-sym xs ys moved in
+    record {
+      wrong = first.wrong;
+      listed = Contains-permutation ys xs first.wrong back first.listed;
+      here = first.here;
+      is_wrong = first.is_wrong;
+      above = All-permutation (λ t. t.line < line → IsSo t) ys xs back first.above;
+    }

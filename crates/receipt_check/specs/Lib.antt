@@ -1,2 +1,4 @@
 pub mod Flaws
 pub mod Search
+pub mod Sweep
+pub mod Maps

@@ -1,13 +1,12 @@
 //! The first line with a receipt that isn't so.
 
 ghost use Rattle.std.specs.Prelude.{◌≡◌, ℕ, Option};
-ghost use Rattle.receipt_check.specs.Flaws.{HasOwnNumber, ComesInOrder, ComesInRound};
-ghost use Rattle.receipt_check.specs.Flaws.{accepted_count};
+ghost use Rattle.receipt_check.specs.Flaws.{ComesInOrder, ComesInRound, accepted_count};
 ghost use Rattle.receipt_check.specs.Search.{IsSought, lower_line};
 
 use crate::account::Told;
 use crate::receipts::update_in;
-use crate::rows::{comes_in_order, comes_in_round, has_own_number};
+use crate::rows::{comes_in_order, comes_in_round};
 
 /// The lower of the first line so far and this one, unless this one's receipt is so.
 pub fn lower(first: Option<u64>, line: u64, is_so: bool) -> Option<u64>
@@ -20,17 +19,6 @@ pub fn lower(first: Option<u64>, line: u64, is_so: bool) -> Option<u64>
         None => Some(line),
         Some(best) => Some(best.min(line)),
     }
-}
-
-/// The first line with a number that isn't from 1 to `updates`, or that a line above has.
-pub fn first_misnumbered(told: &[Told], updates: u32) -> Option<u64>
-    ensures { IsSought (HasOwnNumber told.now updates) told.now result }
-{
-    let mut first = None;
-    for row in told {
-        first = lower(first, row.line, has_own_number(told, updates, row));
-    }
-    first
 }
 
 /// The first line with a stamp or number below those before it on its thread.

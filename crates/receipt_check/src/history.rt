@@ -1,46 +1,79 @@
 //! The history that the numbers tell, and the first update that doesn't fit.
 
-ghost use Rattle.std.specs.Prelude.{◌≡◌, ℕ, ◌+◌, ◌<◌, ◌↔◌, IsTrue, IfOk, OnOk, IfSome, MatchOption};
-ghost use Rattle.std.specs.Option.{option_and_then};
-ghost use Rattle.std.specs.List.{find};
-ghost use Rattle.reg_model.specs.History.{Fits};
-ghost use Rattle.reg_model.specs.Receipt.{accepted};
-ghost use Rattle.reg_model.specs.Numbers.{has_number, history_of};
-ghost use Rattle.receipt_check.specs.Flaws.{told_receipts, told_history, FitsInTurn, UpdateFits};
+ghost use Rattle.std.specs.Prelude.{◌≡◌, ℕ, ◌+◌, ◌<◌, ◌++◌, IfOk, OnOk, MatchOption};
+ghost use Rattle.std.specs.Prelude.{None, replicate};
+ghost use Rattle.std.specs.Prelude.{All, length, slice_index_or};
+ghost use Rattle.std.specs.Option.{option_or, option_to_list};
+ghost use Rattle.reg_model.specs.Numbers.{history_of};
+ghost use Rattle.receipt_check.specs.Flaws.{told_receipts, told_history, HasOwnNumber, UpdateFits};
 ghost use Rattle.receipt_check.specs.Flaws.{IsFirstMisfit};
-ghost use Rattle.receipt_check.specs.Search.{IsSought, state_on};
+ghost use Rattle.receipt_check.specs.Sweep.{AreInTurn, AreByNumber, update_at};
 
 use crate::account::{Account, Told};
-use crate::firsts::lower;
-use crate::lists::Lists;
-use crate::receipts::{is_numbered, update_in};
-use reg_model::{NoMemory, Update};
+use crate::present::Present;
+use crate::receipts::{moment_of, update_in};
+use crate::turns::Turn;
+use reg_model::{NoMemory, Receipt, Update};
 use std::alloc::Global;
 
-/// The first updates by their numbers.
+/// The first updates by their numbers. Room is made for each of so many.
 pub fn history_in(alloc: Global, told: &[Told], updates: u32) -> Result<Vec<Update>, NoMemory>
     ensures { IfOk result (λ history. history.items ≡ history_of (told_receipts told.now) updates) }
 {
+    let places = places_of(alloc, told, updates as usize)?;
     let mut history = Vec::new(alloc);
-    for made in 0..updates {
-        if let Some(update) = numbered(told, made + 1) {
-            history.push(update)?;
-        }
+    for place in &places {
+        add(&mut history, place)?;
     }
     Ok(history)
 }
 
-/// The first accepted update with this number.
-fn numbered(told: &[Told], number: u32) -> Option<Update>
-    ensures { result
-        ≡ option_and_then accepted (find (has_number number) (told_receipts told.now)) }
+/// Adds an update, where there is one.
+fn add(history: &mut Vec<Update>, place: &Option<Update>) -> Result<(), NoMemory>
+    ensures { OnOk result (history.new.items ≡ history.old.items ++ option_to_list place.now) }
 {
-    for row in told {
-        if is_numbered(&row.receipt, number) {
-            return update_in(&row.receipt);
-        }
+    if let Some(update) = place {
+        history.push(*update)?;
     }
-    None
+    Ok(())
+}
+
+/// For each number up to so many the first accepted update that has it.
+fn places_of(alloc: Global, told: &[Told], updates: usize) -> Result<Vec<Option<Update>>, NoMemory>
+    ensures { IfOk result (λ places. AreByNumber (told_receipts told.now) updates places.items) }
+{
+    let mut places = no_updates(alloc, updates)?;
+    for row in told {
+        put(&mut places, &row.receipt);
+    }
+    Ok(places)
+}
+
+/// So many places with no update.
+fn no_updates(alloc: Global, count: usize) -> Result<Vec<Option<Update>>, NoMemory>
+    ensures { IfOk result (λ places. places.items ≡ replicate count None) }
+{
+    let mut places = Vec::new(alloc);
+    for _place in 0..count {
+        places.push(None)?;
+    }
+    Ok(places)
+}
+
+/// Puts the update that was accepted in the place of its number, if no other stands there.
+fn put(places: &mut Vec<Option<Update>>, receipt: &Receipt)
+    ensures length { length places.new.items ≡ length places.old.items }
+    ensures each { (k : ℕ) → k < length places.old.items → slice_index_or places.new.items k None
+        ≡ option_or (slice_index_or places.old.items k None) (update_at (k + 1) receipt.now) }
+{
+    let number = moment_of(receipt) as usize;
+    if let Some(update) = update_in(receipt)
+        && 0 < number
+        && number <= places.len()
+        && places[number - 1].is_none()
+    {
+        places[number - 1] = Some(update);
+    }
 }
 
 /// The line of the first update that doesn't fit, or that removes another member than it names.
@@ -48,60 +81,21 @@ pub fn first_misfit(
     alloc: Global,
     account: &Account,
     history: &[Update],
+    turns: &[Turn<'_>],
 ) -> Result<Option<u64>, NoMemory>
-    requires { history.now ≡ told_history account.now }
+    requires numbers { All (HasOwnNumber account.now.told account.now.updates) account.now.told }
+    requires history { history.now ≡ told_history account.now }
+    requires turns { AreInTurn account.now.told turns.now }
     ensures { IfOk result (λ found. MatchOption found
         ((k : ℕ) → k < account.now.updates → UpdateFits account.now k)
         (IsFirstMisfit account.now)) }
 {
-    let mut lists = Lists::opening(alloc, &account.fixed, account.loads)?;
-    for made in 0..account.updates {
-        let first = misfit_in_turn(&lists, &account.told, made + 1);
-        if first.is_some() {
-            return Ok(first);
+    let mut present = Present::opening(alloc, &account.fixed, account.loads)?;
+    for turn in turns {
+        present.go_on(history, turn.before)?;
+        if !present.fits(&turn.row.receipt) {
+            return Ok(Some(turn.row.line));
         }
-        go_on(&mut lists, history, made as usize)?;
     }
     Ok(None)
-}
-
-/// The line of an update with this number that doesn't fit the state before it.
-fn misfit_in_turn(lists: &Lists, told: &[Told], number: u32) -> Option<u64>
-    ensures { IsSought (FitsInTurn lists.now number) told.now result }
-{
-    let mut first = None;
-    for row in told {
-        first = lower(first, row.line, fits_in_turn(lists, row, number));
-    }
-    first
-}
-
-/// Whether the update fits the state before it, where it has this number.
-fn fits_in_turn(lists: &Lists, row: &Told, number: u32) -> bool
-    ensures { IsTrue result ↔ FitsInTurn lists.now number row.now }
-{
-    if !is_numbered(&row.receipt, number) {
-        return true;
-    }
-    fits(lists, update_in(&row.receipt)) && lists.is_right(&row.receipt)
-}
-
-/// Whether the update can be made, where there is one.
-fn fits(lists: &Lists, update: Option<Update>) -> bool
-    ensures { IsTrue result ↔ IfSome update (λ u. Fits u lists.now) }
-{
-    match update {
-        Some(update) => lists.fits(&update),
-        None => true,
-    }
-}
-
-/// Makes the update after so many, where there is one.
-pub fn go_on(lists: &mut Lists, history: &[Update], made: usize) -> Result<(), NoMemory>
-    ensures { OnOk result (lists.new ≡ state_on history.now made lists.old) }
-{
-    match history.get(made) {
-        Some(update) => lists.make(update),
-        None => Ok(()),
-    }
 }

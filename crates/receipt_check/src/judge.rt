@@ -5,8 +5,10 @@ ghost use Rattle.receipt_check.specs.Flaws.{IsFlawless, IsFreeBefore, CountsFirs
 
 use crate::account::{Account, Departure, Flaw};
 use crate::answers::first_wrong;
-use crate::firsts::{accepted_in, first_misnumbered, first_out_of_order, first_out_of_round};
+use crate::firsts::{accepted_in, first_out_of_order, first_out_of_round};
 use crate::history::{first_misfit, history_in};
+use crate::numbers::first_misnumbered;
+use crate::turns::in_turn;
 use reg_model::NoMemory;
 use std::alloc::Global;
 
@@ -15,15 +17,11 @@ pub fn first_flaw(alloc: Global, account: &Account) -> Result<Option<Departure>,
     ensures { IfOk result (λ found. MatchOption found (IsFlawless account.now)
         (λ d. CountsFirst account.now d.line d.flaw)) }
 {
-    if let Some(found) = flaw_of_numbers(account) {
+    if let Some(found) = flaw_of_numbers(alloc, account)? {
         return Ok(Some(found));
     }
-    let history = history_in(alloc, &account.told, account.updates)?;
-    if let Some(line) = first_misfit(alloc, account, &history)? {
-        return Ok(departure(line, Flaw::History));
-    }
-    if let Some(line) = first_wrong(alloc, account, &history)? {
-        return Ok(departure(line, Flaw::Answer));
+    if let Some(found) = flaw_of_answers(alloc, account)? {
+        return Ok(Some(found));
     }
     Ok(flaw_of_places(account))
 }
@@ -35,17 +33,34 @@ fn departure(line: u64, flaw: Flaw) -> Option<Departure>
 }
 
 /// The flaws of numbers alone.
-fn flaw_of_numbers(account: &Account) -> Option<Departure>
-    ensures { MatchOption result (IsFreeBefore account.now 4)
-        (λ d. CountsFirst account.now d.line d.flaw) }
+fn flaw_of_numbers(alloc: Global, account: &Account) -> Result<Option<Departure>, NoMemory>
+    ensures { IfOk result (λ found. MatchOption found (IsFreeBefore account.now 4)
+        (λ d. CountsFirst account.now d.line d.flaw)) }
 {
-    if let Some(line) = first_misnumbered(&account.told, account.updates) {
-        return departure(line, Flaw::Number);
+    if let Some(line) = first_misnumbered(alloc, &account.told, account.updates)? {
+        return Ok(departure(line, Flaw::Number));
     }
     if accepted_in(&account.told) != account.updates as usize {
-        return departure(account.last, Flaw::Count);
+        return Ok(departure(account.last, Flaw::Count));
     }
-    None
+    Ok(None)
+}
+
+/// The flaws that the history shows. Where the numbers are the updates' own, there are as many.
+fn flaw_of_answers(alloc: Global, account: &Account) -> Result<Option<Departure>, NoMemory>
+    requires { IsFreeBefore account.now 4 }
+    ensures { IfOk result (λ found. MatchOption found (IsFreeBefore account.now 6)
+        (λ d. CountsFirst account.now d.line d.flaw)) }
+{
+    let history = history_in(alloc, &account.told, account.updates)?;
+    let turns = in_turn(alloc, &account.told)?;
+    if let Some(line) = first_misfit(alloc, account, &history, &turns)? {
+        return Ok(departure(line, Flaw::History));
+    }
+    if let Some(line) = first_wrong(alloc, account, &history, &turns)? {
+        return Ok(departure(line, Flaw::Answer));
+    }
+    Ok(None)
 }
 
 /// The flaws of where stamps and numbers stand.

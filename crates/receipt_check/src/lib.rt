@@ -3,8 +3,8 @@
 //! Above the model (`reg_model`), below the judge of journals. Receipts come as one list, each with
 //! its line, the updates before its round and with it, and the greatest stamp or number before it.
 //! `first_flaw` answers None exactly where nothing is wrong with them, and else the flaw that
-//! counts and its line. It makes the accepted updates again by their numbers, in plain lists, and
-//! holds each answer against the lists of its moment.
+//! counts and its line. It makes the accepted updates again by their numbers, one after another,
+//! and holds each answer against the state of its moment.
 #![tactic(auto)]
 
 mod account;
@@ -13,9 +13,13 @@ mod firsts;
 mod history;
 mod judge;
 mod lists;
+mod member_map;
 mod members;
+mod numbers;
+mod present;
 mod receipts;
 mod rows;
+mod turns;
 
 pub use account::{Account, Departure, Flaw, Told};
 pub use judge::first_flaw;

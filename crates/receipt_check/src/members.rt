@@ -1,8 +1,9 @@
 //! Questions to a list of members.
 
-ghost use Rattle.std.specs.Prelude.{◌≡◌, ◌≤◌, ◌↔◌, IsTrue, All, Contains};
+ghost use Rattle.std.specs.Prelude.{◌≡◌, ◌≤◌, ◌↔◌, ◌==◌, IsTrue, All, Contains, not};
 ghost use Rattle.reg_model.specs.SpanData.{Overlaps};
 ghost use Rattle.reg_model.specs.State.{at_base, IsFree};
+ghost use Rattle.reg_model.specs.History.{without};
 ghost use Rattle.reg_model.specs.Query.{member_at};
 
 use reg_model::{Member, Span};
@@ -77,4 +78,15 @@ pub fn is_same(one: Option<Member>, other: Option<Member>) -> bool
         (Some(one), Some(other)) => one == other,
         _ => false,
     }
+}
+
+/// Removes the members with this first address.
+pub fn remove_base(members: &mut Vec<Member>, base: u64)
+    ensures { members.new.items ≡ without base members.old.items }
+{
+    members.retain(
+        |member: &Member| -> bool
+            ensures { result ≡ not (member.now.span.first == base) }
+        { member.span.first() != base },
+    );
 }

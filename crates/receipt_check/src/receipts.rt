@@ -2,7 +2,6 @@
 
 ghost use Rattle.std.specs.Prelude.{◌≡◌};
 ghost use Rattle.reg_model.specs.Receipt.{moment, accepted};
-ghost use Rattle.reg_model.specs.Numbers.{has_number};
 
 use reg_model::{Found, Inserted, Loading, Receipt, Removed, Update};
 
@@ -63,11 +62,4 @@ pub fn update_in(receipt: &Receipt) -> Option<Update>
         } => Some(Update::Unload { base: *base }),
         _ => None,
     }
-}
-
-/// Whether it is the receipt of the accepted update with this number.
-pub fn is_numbered(receipt: &Receipt, number: u32) -> bool
-    ensures { result ≡ has_number number receipt.now }
-{
-    update_in(receipt).is_some() && moment_of(receipt) == number
 }

@@ -1,35 +1,10 @@
-//! Tests of one receipt that was told.
+//! Tests of where the receipt that was told stands.
 
-ghost use Rattle.std.specs.Prelude.{◌≡◌, ◌<◌, ◌↔◌, IsTrue, All, false};
-ghost use Rattle.reg_model.specs.Numbers.{has_number};
-ghost use Rattle.receipt_check.specs.Flaws.{HasOwnNumber, ComesInOrder, ComesInRound};
+ghost use Rattle.std.specs.Prelude.{◌↔◌, IsTrue};
+ghost use Rattle.receipt_check.specs.Flaws.{ComesInOrder, ComesInRound};
 
 use crate::account::Told;
-use crate::receipts::{is_numbered, moment_of, update_in};
-
-/// Whether an accepted update has a number from 1 to `updates`, which no line above it has.
-pub fn has_own_number(told: &[Told], updates: u32, row: &Told) -> bool
-    ensures { IsTrue result ↔ HasOwnNumber told.now updates row.now }
-{
-    if update_in(&row.receipt).is_none() {
-        return true;
-    }
-    let number = moment_of(&row.receipt);
-    0 < number && number <= updates && is_new(told, row.line, number)
-}
-
-/// Whether no line above has the number.
-fn is_new(told: &[Told], line: u64, number: u32) -> bool
-    ensures { IsTrue result
-        ↔ All (λ other. other.line < line → has_number number other.receipt ≡ false) told.now }
-{
-    for other in told {
-        if other.line < line && is_numbered(&other.receipt, number) {
-            return false;
-        }
-    }
-    true
-}
+use crate::receipts::{moment_of, update_in};
 
 /// Whether a stamp isn't below those before it on its thread, and a number is above them.
 pub fn comes_in_order(row: &Told) -> bool

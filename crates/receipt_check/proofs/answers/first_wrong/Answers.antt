@@ -1,36 +1,40 @@
-use Rattle.std.proofs.Common.{◌≡◌, ◌+◌, List, length, ◌∙◌, ap, sym, subst, arith}
-use Rattle.reg_model.specs.History.{state_at}
-use Rattle.reg_model.specs.declared.answer.Update.{Update}
-use Rattle.receipt_check.specs.declared.account.Told.{Told}
-use Rattle.receipt_check.specs.Flaws.{since_of, AccountData}
+use Rattle.std.proofs.Common.{◌≡◌, ◌↔◌, List, length, min, IsTrue, refl, ◌∙◌, ap, subst, arith}
+use Rattle.std.proofs.lemmas.List.{length-map}
 use Rattle.reg_model.specs.Receipt.{Holds}
-use Rattle.receipt_check.specs.Search.{state_on, IsSought, IsRightBelow, IsRightInTurn}
-use Rattle.receipt_check.proofs.States.{state_next}
-use Rattle.receipt_check.proofs.Rights.{sought_same, sought_both, right_more, right_holds}
+use Rattle.reg_model.specs.declared.answer.Update.{Update}
+use Rattle.receipt_check.specs.Flaws.{HoldsAsTold, since_of}
+use Rattle.receipt_check.specs.Sweep.{rows_of}
+use Rattle.receipt_check.proofs.Sought.{sought_more, sought_all, sought_moved}
+use Rattle.receipt_check.proofs.InTurn.{ahead_here, not_past, timed_here, row_here}
 use Rattle.receipt_check.proofs.answers.first_wrong.Goals as goal
 
-pub loop-made-preserved : goal.loop-made-preserved
-loop-made-preserved c =
-    let start = c.args.account.now.start in
+pub loop-turn-init : goal.loop-turn-init
+loop-turn-init c = record {
+  present = rw (← c.account.view_is) (rw c.deref.ensures.value at (c.in_ok-present.ensures.present c.args.history.now));
+  ahead = λ j d from below. (let none = c.in_ok-present.ensures.none in omega arith);
+  sought = λ k d never. absurd (omega arith);
+}
+
+pub loop-turn-preserved : goal.loop-turn-preserved
+loop-turn-preserved c =
+    let a = c.args.account.now in
     let history = c.args.history.now in
-    let counts = c.in_ok-counts.counts.items in
-    let made = c.loop-made.made in
-    let told : c.deref-in-loop-made.result.now ≡ c.args.account.now.told = c.deref-in-loop-made.ensures.value ∙ ap (λ (a : AccountData). a.told) c.account.view_is in
-    let turn = subst (λ (ts : List Told). IsSought (IsRightInTurn (state_at start history made) made) ts c.wrong_in_turn.result) told (rw c.loop-made.invariant.state at c.wrong_in_turn.ensures) in
+    let turns = c.args.turns.now in
+    let turn = c.turn-item.result in
+    let i = c.loop-turn.turn-index in
+    let within = c.loop-turn-test.true in
+    let is = c.turn-item.is in
+    let went = c.in_ok-go_on.ensures a.start c.loop-turn.invariant.present (ahead_here turns i turn within is c.loop-turn.present.made c.loop-turn.invariant.ahead) in
+    let made = went.1 ∙ ap (λ before. min before (length history)) (timed_here turns i turn within is c.requires.turns.timed) in
+    let holds = c.holds.ensures a.start a.nodes went.0 made in
+    let told = subst (λ (h : List Update). IsTrue c.holds.result ↔ Holds a.start h a.nodes turn.row.now.callers (since_of turn.row.now) turn.row.now.receipt) c.requires.history holds in
     record {
-      state = c.in_ok-go_on.ensures ∙ ap (state_on history made) c.loop-made.invariant.state ∙ sym (state_next start history made);
-      sought = rw c.lower_of-first.ensures (sought_same _ (IsRightBelow start history counts (made + 1)) c.args.account.now.told _ (λ t. right_more start history counts t made) (sought_both (IsRightBelow start history counts made) (IsRightInTurn (state_at start history made) made) c.args.account.now.told c.loop-made.first c.wrong_in_turn.result c.loop-made.invariant.sought turn));
+      present = went.0;
+      ahead = not_past turns i turn within is c.requires.turns.rising c.go_on.new.self.made (length history) went.1;
+      sought = rw c.lower-first.ensures (sought_more (HoldsAsTold a) (rows_of turns) i turn.row.now c.loop-turn.first c.holds.result (rw length-map within) (row_here turns i turn within is) told c.loop-turn.invariant.sought);
     }
 
 pub returns : goal.returns
 returns c =
-    let start = c.args.account.now.start in
-    let history = c.args.history.now in
-    let nodes = c.args.account.now.nodes in
-    let told = c.args.account.now.told in
-    let counts = c.in_ok-counts.counts.items in
-    let are = c.in_ok-counts.ensures in
-    let many = are.many in
-    let all : c.loop-made.made ≡ length history + 1 = (let end = c.len-made-end.ensures in omega (arith, c.in_ok-counts.counts.ok.0, c.loop-made-test.false, c.loop-made.auto.made-end)) in
-    let last = subst (λ k. IsSought (IsRightBelow start history counts k) told c.loop-made.first) all c.loop-made.invariant.sought in
-    subst (λ (h : List Update). IsSought (λ t. Holds start h nodes t.callers (since_of t) t.receipt) told c.loop-made.first) c.requires (sought_same _ (λ t. Holds start history nodes t.callers (since_of t) t.receipt) told c.loop-made.first (λ t. right_holds start history counts nodes t are) last)
+    let rows = rows_of c.args.turns.now in
+    sought_moved (HoldsAsTold c.args.account.now) c.args.account.now.told rows c.loop-turn.first c.requires.turns.rows (sought_all (HoldsAsTold c.args.account.now) rows c.loop-turn.turn-index c.loop-turn.first (rw length-map c.loop-turn-test.false) c.loop-turn.invariant.sought)

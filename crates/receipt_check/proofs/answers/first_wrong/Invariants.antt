@@ -1,11 +1,14 @@
-use Rattle.std.proofs.Common.{◌≡◌}
-use Rattle.reg_model.specs.History.{state_at}
-use Rattle.receipt_check.specs.Search.{IsSought, IsRightBelow}
+use Rattle.std.proofs.Common.{ℕ, ◌<◌, ◌≤◌, length, get_or, take}
+use Rattle.receipt_check.specs.declared.turns.Turn.{Turn}
+use Rattle.receipt_check.specs.Flaws.{HoldsAsTold}
+use Rattle.receipt_check.specs.Search.{IsSought}
+use Rattle.receipt_check.specs.Sweep.{IsPresent, rows_of}
 use Rattle.receipt_check.proofs.answers.first_wrong.Given as goal
 
--- answers that were given after fewer updates are judged, and the lists are those after so many
-abbrev pub invariant-loop-made : goal.invariant-loop-made
-invariant-loop-made l = record {
-  state : l.lists ≡ state_at l.account.start l.history l.made;
-  sought : IsSought (IsRightBelow l.account.start l.history l.counts.items l.made) l.account.told l.first;
+-- the answers of the turns so far are judged, and the state is that of a moment before the next ones
+abbrev pub invariant-loop-turn : goal.invariant-loop-turn
+invariant-loop-turn l = record {
+  present : IsPresent l.account.start l.history l.present;
+  ahead : (j : ℕ) (d : Turn) → l.turn-index ≤ j → j < length l.turns → l.present.made ≤ (get_or l.turns j d).before;
+  sought : IsSought (HoldsAsTold l.account) (take l.turn-index (rows_of l.turns)) l.first;
 }

@@ -4,9 +4,7 @@ use Rattle.receipt_check.proofs.Halves.{all_in_both, not_in_front}
 use Rattle.receipt_check.proofs.lists.Lists.is_free_of_objects.Goals as goal
 
 pub returns-then-is_free : goal.returns-then-is_free
-returns-then-is_free c =
-    rw (← c.self.view_is) (all_in_both (λ (m : Member). ¬ Overlaps m.span c.args.span.now) c.self.inside.fixed.items c.self.inside.loaded.items _ _ c.if-is_free.true (rw c.deref.ensures.value at c.is_free.ensures) (rw c.deref-then-is_free.ensures.value at c.is_free-then-is_free.ensures))
+returns-then-is_free c = λ s shows. all_in_both (λ (m : Member). ¬ Overlaps m.span c.args.span.now) s.fixed s.loaded _ _ c.if-is_free.true (c.is_free.ensures s.fixed shows.fixed) (c.is_free-then-is_free.ensures s.loaded shows.loaded)
 
 pub returns-else-is_free : goal.returns-else-is_free
-returns-else-is_free c =
-    rw (← c.self.view_is) (not_in_front (λ (m : Member). ¬ Overlaps m.span c.args.span.now) c.self.inside.fixed.items c.self.inside.loaded.items _ c.if-is_free.false (rw c.deref.ensures.value at c.is_free.ensures))
+returns-else-is_free c = λ s shows. not_in_front (λ (m : Member). ¬ Overlaps m.span c.args.span.now) s.fixed s.loaded _ c.if-is_free.false (c.is_free.ensures s.fixed shows.fixed)

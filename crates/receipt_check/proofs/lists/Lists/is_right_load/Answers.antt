@@ -1,12 +1,13 @@
-use Rattle.std.proofs.Common.{◌≡◌, length, sym, ◌∙◌, arith}
-use Rattle.std.proofs.lemmas.Bool.{eqb-true, eq-eqb}
+use Rattle.std.proofs.Common.{◌≡◌, length}
+use Rattle.reg_model.specs.State.{IsFree, objects}
+use Rattle.receipt_check.proofs.KeptMembers.{and_then, and_not}
 use Rattle.receipt_check.proofs.lists.Lists.is_right_load.Goals as goal
 
+pub returns-in-Overlap : goal.returns-in-Overlap
+returns-in-Overlap c = λ s shows. rw c.in-Overlap.is (c.is_lowest_object.ensures s shows)
+
 pub returns-then-is_free_of_objects : goal.returns-then-is_free_of_objects
-returns-then-is_free_of_objects c =
-    let free = rw (← c.self.view_is) at (c.is_free_of_objects.ensures.0 c.if-is_free_of_objects.true) in
-    let count : c.len.result ≡ length c.self.inside.loaded.items = (let found = c.len.ensures in omega (arith, c.self.inside.loaded.ok.0)) in
-    rw (c.in-LoadFull.is, ← c.self.view_is) (
-      (λ same. (free, sym count ∙ eqb-true c.len.result c.self.inside.loads same)),
-      (λ right. eq-eqb c.len.result c.self.inside.loads (count ∙ right.1)),
-    )
+returns-then-is_free_of_objects c = λ s shows. rw c.in-LoadFull.is (and_then (IsFree c.args.member.now.span (objects s)) (length s.loaded ≡ s.loads) _ _ c.if-is_free_of_objects.true (c.is_free_of_objects.ensures s shows) (c.is_full.ensures s shows))
+
+pub returns-else-is_free_of_objects : goal.returns-else-is_free_of_objects
+returns-else-is_free_of_objects c = λ s shows. rw c.in-LoadFull.is (and_not (IsFree c.args.member.now.span (objects s)) (length s.loaded ≡ s.loads) _ c.if-is_free_of_objects.false (c.is_free_of_objects.ensures s shows))

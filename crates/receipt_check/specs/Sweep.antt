@@ -1,0 +1,93 @@
+-- Receipts are gone through in the order of the states in which their answers were given.
+use Rattle.std.specs.Prelude.{◌≡◌, ℕ, ◌+◌, ◌-◌, ◌<◌, ◌≤◌, List, length, map, Option, None, All}
+use Rattle.std.specs.Prelude.{IfSome, if◌then◌else◌, slice_index_or}
+use Rattle.std.specs.List.{find}
+use Rattle.std.specs.List.Sorted.{IsPermutation, IsNonDecreasingBy}
+use Rattle.std.specs.Option.{option_and_then}
+use Rattle.std.specs.BTreeMap.{BTreeMap, get}
+use Rattle.std.specs.Ordering.{nat_cmp}
+use Rattle.reg_model.specs.State.{State}
+use Rattle.reg_model.specs.History.{Fits, state_at}
+use Rattle.reg_model.specs.Receipt.{moment, accepted, made_before, IsAtNumber, IsRight}
+use Rattle.reg_model.specs.Numbers.{has_number}
+use Rattle.reg_model.specs.declared.answer.Update.{Update}
+use Rattle.reg_model.specs.declared.answer.Inserted.TheVariants as inserted
+use Rattle.reg_model.specs.declared.answer.Receipt.{Receipt}
+use Rattle.reg_model.specs.declared.answer.Receipt.TheVariants.{Register}
+use Rattle.receipt_check.specs.Flaws.{since_of}
+use Rattle.receipt_check.specs.Search.{IsSought, HasOtherNumber}
+use Rattle.receipt_check.specs.declared.account.Told.{Told}
+use Rattle.receipt_check.specs.declared.present.Present.{Present}
+use Rattle.receipt_check.specs.declared.turns.Turn.{Turn}
+use Rattle.receipt_check.specs.Maps.{ShowsState}
+
+-- ---- numbers
+
+-- of each number the least line of the updates that have it
+abbrev pub AreLines : List Told → BTreeMap ℕ ℕ → Type 0
+AreLines told lines =
+    (number : ℕ) → IsSought (HasOtherNumber number) told (get nat_cmp lines number)
+
+-- the update that was accepted first, in the order of the list, under a number
+abbrev pub first_numbered : ℕ → List Receipt → Option Update
+first_numbered number receipts = option_and_then accepted (find (has_number number) receipts)
+
+-- the update that was accepted, where it has this number
+abbrev pub update_at : ℕ → Receipt → Option Update
+update_at number r = if (has_number number r) then (accepted r) else None
+
+-- for each number up to n the first update that has it
+pub record AreByNumber (receipts : List Receipt) (n : ℕ) (places : List (Option Update)) : Type 0
+  where
+    pub many : length places ≡ n
+    pub each : (k : ℕ) → k < n → slice_index_or places k None ≡ first_numbered (k + 1) receipts
+
+-- ---- turns
+
+-- the receipts, in the order of the turns
+abbrev pub rows_of : List Turn → List Told
+rows_of turns = map (λ turn. turn.row.now) turns
+
+-- each turn has the number of updates before its receipt's answer
+abbrev pub AreTimed : List Turn → Type 0
+AreTimed turns = All (λ turn. turn.before ≡ made_before turn.row.now.receipt) turns
+
+-- the receipts, each with how many updates were made before its answer
+pub record AreTurns (told : List Told) (turns : List Turn) : Type 0 where
+  pub rows : rows_of turns ≡ told
+  pub timed : AreTimed turns
+
+-- the same in the order of these numbers
+pub record AreInTurn (told : List Told) (turns : List Turn) : Type 0 where
+  pub rows : IsPermutation told (rows_of turns)
+  pub timed : AreTimed turns
+  pub rising : IsNonDecreasingBy (λ turn. turn.before) turns
+
+-- ---- the present state
+
+-- ten were registered last at the moment before this one, or where it is 0 they never were
+pub record IsLastTen (start : State) (history : List Update) (made ten : ℕ) : Type 0 where
+  pub past : ten ≤ made + 1
+  pub there : 0 < ten → 10 ≤ length (state_at start history (ten - 1)).registered
+  pub since : (k : ℕ) → ten ≤ k → k ≤ made → length (state_at start history k).registered < 10
+
+-- this is the registry after so many updates of the history
+pub record IsPresent (start : State) (history : List Update) (p : Present) : Type 0 where
+  pub within : p.made ≤ length history
+  pub state : ShowsState p.lists (state_at start history p.made)
+  pub ten : IsLastTen start history p.made p.ten
+
+-- a tree that was full had ten members at some moment since
+abbrev pub HadTenOf : ℕ → ℕ → Receipt → Type 0
+HadTenOf ten since (Register m (inserted.Full stamp)) = since < ten
+HadTenOf ten since _ = Unit {0}
+
+-- the receipt holds, where this is the state in which its answer was given
+abbrev pub HoldsNow : List Update → State → ℕ → Told → Type 0
+HoldsNow history s ten t =
+    (moment t.receipt ≤ length history) × IsAtNumber history t.receipt × IsRight s t.receipt
+    × HadTenOf ten (since_of t) t.receipt
+
+-- the update that was accepted can be made in this state, and removes the member that it names
+abbrev pub FitsNow : State → Receipt → Type 0
+FitsNow s r = IfSome (accepted r) (λ u. (Fits u s) × (IsRight s r))
