@@ -8,7 +8,7 @@ mod modules;
 mod shown;
 mod walking;
 
-pub use list::{ModuleFault, Modules, StepSource};
+pub use list::{ModuleFault, Modules, SharedSource, StepSource};
 pub use modules::{ModuleList, ModuleStep};
 pub use shown::{ShownFrame, WalkEnd, WalkLine};
 pub use walking::{Walked, walk};

@@ -1,6 +1,6 @@
 //! Modules in ascending order, of which that of an address is found by halving.
 
-ghost use Rattle.std.specs.Prelude.{◌≡◌, ◌≤◌, ◌++◌, ◌∷◌, [], OnOk, OnErr, IfErr, IfSome};
+ghost use Rattle.std.specs.Prelude.{◌≡◌, ◌≤◌, ◌++◌, ◌∷◌, [], OnOk, OnErr, IfOk, IfErr, IfSome};
 ghost use Rattle.std.specs.Prelude.{MatchOption, MatchBool, None, ◌<◌};
 ghost use Rattle.std.specs.Option.{option_map};
 ghost use Rattle.frame_parse.specs.Sections.{SectionData, first_cover};
@@ -11,7 +11,7 @@ ghost use Rattle.stack_walk.specs.Modules.{modules_end, module_end};
 use crate::modules::{ModuleList, ModuleStep};
 use frame_expr::{Regs, WordSource};
 use frame_parse::Section;
-use std::alloc::{AllocFailed, Global};
+use std::alloc::{AllocError, AllocFailed, Global};
 use std::marker::Model;
 use unwind_step::{FoundStep, step_at};
 
@@ -33,6 +33,13 @@ impl StepSource for Section {
     fn step_at<M: WordSource>(&self, look: u64, regs: &Regs, memory: &M) -> Option<FoundStep> {
         step_at(self, look, regs, memory)
     }
+}
+
+/// A source of which there may be several shares.
+pub trait SharedSource: StepSource {
+    /// Another share of the same.
+    fn another(&self) -> Result<Self, AllocError>
+        ensures { IfOk result (λ other. Self.section other ≡ Self.section self.now) };
 }
 
 /// Why a module isn't added.
@@ -89,6 +96,19 @@ impl<T: StepSource> Module<T> {
     }
 }
 
+impl<T: SharedSource> Module<T> {
+    /// The same with another share.
+    fn another(&self) -> Result<Module<T>, AllocError>
+        ensures { IfOk result (λ other. other ≡ self.now) }
+    {
+        Ok(Module {
+            first: self.first,
+            size: self.size,
+            source: self.source.another()?,
+        })
+    }
+}
+
 /// Modules of which each stands above the one before.
 #[derive(Drop)]
 pub struct Modules<T: StepSource> {
@@ -134,6 +154,31 @@ impl<T: StepSource + Drop> Modules<T> {
         })?;
         Ok(())
     }
+}
+
+impl<T: SharedSource + Drop> Modules<T> {
+    /// A list of the same modules, each with another share. Each list is added to by itself.
+    pub fn another(&self, alloc: Global) -> Result<Modules<T>, AllocError>
+        ensures { IfOk result (λ other. other ≡ self.now) }
+    {
+        Ok(Modules {
+            list: shared(alloc, &self.list)?,
+        })
+    }
+}
+
+/// The same modules, each with another share.
+fn shared<T: SharedSource + Drop>(
+    alloc: Global,
+    modules: &[Module<T>],
+) -> Result<Vec<Module<T>>, AllocError>
+    ensures { IfOk result (λ list. list.items ≡ modules.now) }
+{
+    let mut list = Vec::with_capacity(alloc, modules.len())?;
+    for module in modules {
+        list.push(module.another()?)?;
+    }
+    Ok(list)
 }
 
 /// Whether all modules end before an address.
