@@ -19,9 +19,9 @@
  *     meet. A share goes from one thread to another in order: by a lock, or by a thread's start or
  *     join.
  *   - malloc, realloc and free are those of the program, and don't fail but by NULL. The calls that
- *     read, share, record, make a row table or free call them: none of these in a signal handler,
- *     or in the forked child of a process with threads. No other call takes memory, frees it, or
- *     waits.
+ *     read, share, record, make a row table, list modules or free call them: none of these in a
+ *     signal handler, or in the forked child of a process with threads. No other call takes memory,
+ *     frees it, or waits.
  *
  * A stack can't be unwound through a call, since the library has no unwind tables: a profiler whose
  * signal interrupts a call sees the stack end there.
@@ -243,7 +243,7 @@ enum frames_step {
   FRAMES_NO_FDE = 1,     /* no FDE covers the address                               */
   FRAMES_NO_ROW = 2,     /* no rule for the CFA, or none for the return address     */
   FRAMES_OUTERMOST = 3,  /* the return address is undefined: there is none before   */
-  FRAMES_NO_BYTES = 4    /* the eight bytes at `missing` aren't recorded            */
+  FRAMES_NO_BYTES = 4    /* the eight bytes at `missing` aren't there               */
 };
 
 /* Makes of a frame the one that called it. Where it isn't 0, the registers are as they were. */
@@ -259,6 +259,23 @@ uint64_t frames_c_step(frames_section section, frames_memory memory, frames_fram
 uint64_t frames_c_step_lent(frames_section section, uint64_t address, const uint8_t *stack,
                             size_t length, frames_frame *frame, frames_section *back)
     FRAMES_C_NONNULL;
+
+/* A word that is told of a memory: the eight bytes at an address, as a number, lowest first. */
+typedef struct {
+  uint64_t address;
+  uint64_t word;
+} frames_word;
+
+/* The same by what is told of a memory, however C reads that: bytes that are lent, of which there
+ * may be none, and `count` words. Of two words for one address the first counts, and what is lent
+ * before both. Where it is FRAMES_NO_BYTES, it asks for the word at `missing`, which was not told:
+ * all else of the frame is as it was, and the call made again with that word, too, goes on. Where
+ * the memory has no such word, this is what comes of the frame by the whole memory; so is each
+ * other outcome. Words that weren't asked for may be told, too, and words be kept for the frames
+ * that come, as long as the memory stands still. */
+uint64_t frames_c_step_asking(frames_section section, uint64_t address, const uint8_t *stack,
+                              size_t length, const frames_word *words, size_t count,
+                              frames_frame *frame, frames_section *back) FRAMES_C_NONNULL;
 
 /* ---- exceptions ------------------------------------------------------------------------------ */
 
@@ -339,6 +356,13 @@ uint64_t frames_c_row_table_step_lent(frames_row_table table, uint64_t address,
                                       const uint8_t *stack, size_t length, frames_frame *frame,
                                       frames_row_table *back) FRAMES_C_NONNULL;
 
+/* What frames_c_step_asking by the section makes of a frame. */
+uint64_t frames_c_row_table_step_asking(frames_row_table table, uint64_t address,
+                                        const uint8_t *stack, size_t length,
+                                        const frames_word *words, size_t count,
+                                        frames_frame *frame, frames_row_table *back)
+    FRAMES_C_NONNULL;
+
 /* ---- walks ----------------------------------------------------------------------------------- */
 
 /* Modules of code, or nothing: {0}. For those who walk whole stacks: each module has addresses, and
@@ -365,6 +389,11 @@ uint64_t frames_c_modules_add(frames_modules modules, uint64_t first, uint64_t s
 /* The same with a share of the row table of their section. */
 uint64_t frames_c_modules_add_rows(frames_modules modules, uint64_t first, uint64_t size,
                                    frames_row_table table, frames_modules *back) FRAMES_C_NONNULL;
+
+/* Another list of the same modules, with another share of each, which is added to and freed by
+ * itself. False: memory ran out. */
+bool frames_c_modules_share(frames_modules modules, frames_modules *out, frames_modules *back)
+    FRAMES_C_NONNULL;
 
 /* Frees a list, and the shares in it. */
 void frames_c_modules_free(frames_modules modules);

@@ -1,3 +1,4 @@
+mod AskedFrames
 mod Covers
 mod Handles
 mod Tables

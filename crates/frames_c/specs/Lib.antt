@@ -5,6 +5,7 @@ pub mod Fdes
 pub mod Rows
 pub mod Recorded
 pub mod FrameSteps
+pub mod AskedSteps
 pub mod TableEntries
 pub mod Batches
 pub mod HeaderAnswers

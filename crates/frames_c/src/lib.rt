@@ -1,6 +1,7 @@
 //! Frames for C and C++: sections of `.eh_frame` behind a handle that C keeps.
 #![tactic(auto)]
 
+mod asking;
 mod batch;
 mod call_sites;
 mod find;
@@ -23,6 +24,7 @@ mod table;
 mod told_rows;
 mod walks;
 
+pub use asking::{frames_c_row_table_step_asking, frames_c_step_asking};
 pub use batch::frames_c_rows;
 pub use call_sites::{FramesVerdict, frames_c_verdict};
 pub use find::{FramesFde, frames_c_find};
@@ -47,5 +49,5 @@ pub use step::{FramesFrame, frames_c_step, frames_c_step_lent};
 pub use table::{FramesEntry, frames_c_search, frames_c_table};
 pub use walks::{
     frames_c_modules, frames_c_modules_add, frames_c_modules_add_rows, frames_c_modules_free,
-    frames_c_walk,
+    frames_c_modules_share, frames_c_walk,
 };

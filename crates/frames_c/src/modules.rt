@@ -1,14 +1,14 @@
 //! What the handle of modules leads to.
 
-ghost use Rattle.std.specs.Prelude.{◌≡◌, ◌≤◌, ◌++◌, ◌∷◌, [], OnOk, OnErr, IfErr};
+ghost use Rattle.std.specs.Prelude.{◌≡◌, ◌≤◌, ◌++◌, ◌∷◌, [], OnOk, OnErr, IfOk, IfErr};
 ghost use Rattle.stack_walk.specs.Modules.{IsModuleFault, modules_end};
 ghost use Rattle.frames_c.specs.StackLines.{module_section};
 
 use crate::row_share::TableShare;
 use crate::share::SectionShare;
 use frame_expr::{Regs, WordSource};
-use stack_walk::{ModuleFault, Modules, StepSource};
-use std::alloc::Global;
+use stack_walk::{ModuleFault, Modules, SharedSource, StepSource};
+use std::alloc::{AllocError, Global};
 use std::marker::Model;
 use unwind_step::{FoundStep, step_at};
 
@@ -26,6 +26,21 @@ impl StepSource for ModuleRows {
         match self {
             ModuleRows::Section { share } => step_at(share.loaded(), look, regs, memory),
             ModuleRows::Table { share } => step_at(&share.rows(), look, regs, memory),
+        }
+    }
+}
+
+impl SharedSource for ModuleRows {
+    fn another(&self) -> Result<ModuleRows, AllocError> {
+        match self {
+            ModuleRows::Section { share } => {
+                let share = share.another()?;
+                Ok(ModuleRows::Section { share })
+            }
+            ModuleRows::Table { share } => {
+                let share = share.another()?;
+                Ok(ModuleRows::Table { share })
+            }
         }
     }
 }
@@ -66,6 +81,15 @@ impl LoadedModules {
         ensures fault { IfErr result (IsModuleFault self.old first) }
     {
         self.list.add(first, size, rows)
+    }
+
+    /// The same modules, each with another share.
+    pub(crate) fn another(&self, alloc: Global) -> Result<LoadedModules, AllocError>
+        ensures { IfOk result (λ other. other ≡ self.now) }
+    {
+        Ok(LoadedModules {
+            list: self.list.another(alloc)?,
+        })
     }
 
     pub(crate) fn list(&self) -> &Modules<ModuleRows>

@@ -1,6 +1,7 @@
 //! Modules are listed, and stacks walked over them.
 
 ghost use Rattle.std.specs.Prelude.{◌≡◌, ◌<◌, ◌≤◌, [], ◌∷◌, true, false, Some, length, take, drop};
+ghost use Rattle.std.specs.Prelude.{IfSome};
 ghost use Rattle.frames_c.specs.Held.{IsHeld, IsVacant, held_section, section_of_rows};
 ghost use Rattle.frames_c.specs.StackLines.{AnswersModule, AnswersWalk, frame_given, modules_in};
 ghost use Rattle.frames_c.specs.StackLines.{module_section, missing_after, walk_end_told};
@@ -101,6 +102,42 @@ pub extern "C" fn frames_c_modules_add_rows(
     let added = add(&mut list, first, size, ModuleRows::Table { share });
     *back = ModulesHandle::of(list);
     added
+}
+
+/// The same modules in a box of their own; none where memory runs out.
+fn another(alloc: Global, modules: &LoadedModules) -> Option<Box<LoadedModules, Global>>
+    ensures { IfSome result (λ other. other.value ≡ modules.now) }
+{
+    let other = modules.another(alloc).ok()?;
+    Box::new(alloc, other).ok()
+}
+
+/// Another list of the same modules, each with another share, for another thread; false where
+/// memory runs out. What is added to one of both lists isn't in the other.
+#[unsafe(no_mangle)]
+pub extern "C" fn frames_c_modules_share(
+    alloc: Global,
+    modules: ModulesHandle,
+    out: &mut ModulesHandle,
+    back: &mut ModulesHandle,
+) -> bool
+    requires modules { IsHeld modules.held }
+    requires out { IsVacant out.old.held }
+    requires back { IsVacant back.old.held }
+    ensures back { back.new.held ≡ modules.held }
+    ensures shared { result ≡ true → out.new.held ≡ modules.held }
+    ensures nothing { result ≡ false → IsVacant out.new.held }
+{
+    let list = modules.open(alloc);
+    let shared = match another(alloc, &list) {
+        Some(other) => {
+            *out = ModulesHandle::of(other);
+            true
+        }
+        None => false,
+    };
+    *back = ModulesHandle::of(list);
+    shared
 }
 
 /// Frees the modules, each with its share.
