@@ -1,0 +1,5 @@
+pub mod Ends
+pub mod Listing
+pub mod Hits
+pub mod Covers
+pub mod Histories
