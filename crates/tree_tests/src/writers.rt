@@ -15,7 +15,7 @@ use word_rule::{Ask, Caller, LockId, Words};
 // So many loads of a version are made until its bit is as it is waited for.
 const TURNS: u64 = 1_000_000_000;
 
-fn member(base: u64) -> Option<Member>
+pub(crate) fn member(base: u64) -> Option<Member>
     ensures { IfSome result (λ m. m.payload ≡ 0) }
 {
     let span = Span::new(base, 0x10)?;
@@ -23,7 +23,7 @@ fn member(base: u64) -> Option<Member>
 }
 
 // Registers a hundred members, 256 apart; whether they got the numbers from 1 on.
-fn insert_hundred<R: Wait>(rt: &R, words: &Words, me: &mut Caller) -> bool
+pub(crate) fn insert_hundred<R: Wait>(rt: &R, words: &Words, me: &mut Caller) -> bool
     requires table { me.old.table ≡ words.now.table }
     requires idle { IsIdle me.old.log }
     requires payloads { 0 < words.now.terms.payloads }
@@ -43,12 +43,12 @@ fn insert_hundred<R: Wait>(rt: &R, words: &Words, me: &mut Caller) -> bool
 
 // The leaf of the lowest addresses, and the node above it.
 #[derive(Clone, Copy)]
-struct Leftmost {
-    parent: u32,
-    leaf: u32,
+pub(crate) struct Leftmost {
+    pub(crate) parent: u32,
+    pub(crate) leaf: u32,
 }
 
-fn find_leftmost(words: &Words, me: &mut Caller) -> Option<Leftmost>
+pub(crate) fn find_leftmost(words: &Words, me: &mut Caller) -> Option<Leftmost>
     requires table { me.old.table ≡ words.now.table }
     requires idle { IsIdle me.old.log }
     ensures table { me.new.table ≡ me.old.table }

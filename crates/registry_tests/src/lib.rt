@@ -1,0 +1,5 @@
+//! Tests of the registry: callers of a round, and what each call answers. Nothing stands on it.
+#![tactic(auto)]
+
+#[cfg(test)]
+mod rounds;
