@@ -1,13 +1,12 @@
 //! Sixteen threads that register and deregister at addresses that meet, for 64 rounds, with finds
-//! and unwinds. The slow reader holds every answer of their journal against plain lists, and makes
-//! every backtrace again. The accepted updates are then made again, one by one, to see how the tree
-//! changes.
+//! and unwinds. Their journal is judged, and its accepted updates are made again, one by one, to
+//! see how the tree changes.
 
 ghost use Rattle.std.specs.Prelude.{◌<◌, ◌≤◌};
 
-use crate::playing::played;
+use crate::history::history_of;
+use crate::judged::{judged, most_frames};
 use crate::side_by_side::{ALONE, SECTION, SNAPSHOT, STACK_FRAMES};
-use crate::slow_reader::read_slowly;
 use crate::tree_changes::{Kind, kinds_of};
 use std::alloc::Global;
 use std::fmt::Write;
@@ -108,11 +107,11 @@ fn script_of(alloc: Global) -> Result<String, Fail> {
 fn sixteen_threads_register_for_64_rounds(rt: HostRuntime) -> Result<(), Fail> {
     let alloc = rt.alloc();
     let text = script_of(alloc)?;
-    let (script, journal) = played(&rt, alloc, text.as_bytes())?;
+    let (script, journal) = judged(&rt, alloc, text.as_str())?;
     assert_eq!(rt; journal.rounds.len(), 64);
-    let reading = read_slowly(alloc, &script, &journal)?;
-    assert_eq!(rt; reading.most_lines, STACK_FRAMES);
-    let kinds = kinds_of(&rt, alloc, &reading.history)?;
+    assert_eq!(rt; most_frames(&journal), STACK_FRAMES);
+    let history = history_of(alloc, &script, &journal)?;
+    let kinds = kinds_of(&rt, alloc, &history)?;
     for kind in [
         Kind::Split,
         Kind::Joined,

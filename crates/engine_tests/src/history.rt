@@ -5,16 +5,8 @@ use reg_model::{Inserted, Loading, Member, Removed, Update};
 use std::alloc::Global;
 use std::test::Fail;
 
-/// Goes on where something holds, and else says what was wrong.
-pub fn must(holds: bool, otherwise: &'static str) -> Result<(), Fail> {
-    if !holds {
-        Err(otherwise)?;
-    }
-    Ok(())
-}
-
 /// The member that is meant by the number of an image.
-pub fn member_of(script: &Script, image: u32) -> Option<Member> {
+fn member_of(script: &Script, image: u32) -> Option<Member> {
     let span = *script.images.get(image as usize)?;
     Some(Member {
         span,
@@ -23,7 +15,7 @@ pub fn member_of(script: &Script, image: u32) -> Option<Member> {
 }
 
 /// The update that an answer says was accepted, and its number.
-pub fn update_of(script: &Script, answer: &Answer) -> Option<(u32, Update)> {
+fn update_of(script: &Script, answer: &Answer) -> Option<(u32, Update)> {
     match answer {
         Answer::Register {
             image,
@@ -78,20 +70,9 @@ fn put_update(places: &mut [Option<Update>], number: u32, update: Update) -> Res
     let place = places
         .get_mut(index as usize)
         .ok_or("a number above the updates")?;
-    must(place.is_none(), "two updates of one number")?;
+    if place.is_some() {
+        Err("two updates of one number")?;
+    }
     *place = Some(update);
     Ok(())
-}
-
-/// How many updates a round accepted.
-pub fn updates_in(script: &Script, round: &[Vec<Answer>]) -> u32 {
-    let mut count = 0u32;
-    for thread in round {
-        for answer in thread {
-            if update_of(script, answer).is_some() {
-                count = count.saturating_add(1);
-            }
-        }
-    }
-    count
 }

@@ -1,8 +1,8 @@
 //! Tests of the text crates and of the engine, over their public items alone.
 //!
 //! Above `run_engine`, and nothing stands on it. What a script and its journal look like, the built
-//! program shows by `cases/`. Here stands what wants ample memory, a device, a gate or a second
-//! reader of whole journals: each call is made once, devices fail at every read and write, gates
+//! program shows by `cases/`. Here stands what wants ample memory, a device, a gate or a verdict
+//! on whole journals: each call is made once, devices fail at every read and write, gates
 //! see what they are told, and threads play side by side.
 #![tactic(auto)]
 
@@ -21,7 +21,7 @@ mod held_back;
 #[cfg(test)]
 mod history;
 #[cfg(test)]
-mod lists;
+mod judged;
 #[cfg(test)]
 mod playing;
 #[cfg(test)]
@@ -37,10 +37,6 @@ mod side_by_side;
 #[cfg(test)]
 mod slow_devices;
 #[cfg(test)]
-mod slow_reader;
-#[cfg(test)]
 mod tree_changes;
-#[cfg(test)]
-mod unfolding;
 #[cfg(test)]
 mod words;

@@ -1,10 +1,7 @@
 //! Texts, words, scripts and runs that the tests share.
 
-use event_script::{Journal, Script, read};
-use registry_core::Registry;
-use run_engine::{Gate, NoGate, Status, SureSink, SureSource, run, run_script};
+use run_engine::{Gate, Status, SureSink, SureSource, run};
 use std::alloc::Global;
-use std::process::Abort;
 use std::sync::Wait;
 use std::test::Fail;
 use std::thread::Threads;
@@ -56,28 +53,4 @@ pub fn run_text<G: Gate + Sync>(
     let mut sink = SureSink::new(alloc);
     let status = run(rt, alloc, &words, &mut source, &mut sink, gate);
     Ok((status, sink))
-}
-
-/// The script that a text spells, and its journal over a registry of its own. It has no fixed
-/// images.
-pub fn played(
-    rt: &(impl Abort + Threads + Wait + Sync),
-    alloc: Global,
-    text: &[u8],
-) -> Result<(Script, Journal), Fail> {
-    let script = read(alloc, text)?;
-    let journal = journal_of(rt, alloc, &script)?;
-    Ok((script, journal))
-}
-
-fn journal_of(
-    rt: &(impl Abort + Threads + Wait + Sync),
-    alloc: Global,
-    script: &Script,
-) -> Result<Journal, Fail> {
-    assert!(rt; script.fixed.is_empty());
-    let images = script.images.len() as u32;
-    let fixed = Vec::new(alloc);
-    let (registry, mut me) = Registry::new(alloc, script.nodes, script.loads, images, fixed)?;
-    Ok(run_script(rt, alloc, script, &registry, &mut me, &NoGate)?)
 }

@@ -1,9 +1,8 @@
-//! Sixteen threads that load, unload, find and unwind, and the slow reader of their journal.
+//! Sixteen threads that load, unload, find and unwind. Their journal is judged.
 
 ghost use Rattle.std.specs.Prelude.{◌<◌};
 
-use crate::playing::played;
-use crate::slow_reader::read_slowly;
+use crate::judged::{judged, most_frames};
 use std::alloc::Global;
 use std::fmt::Write;
 use std::test::Fail;
@@ -72,9 +71,8 @@ fn put_thread(text: &mut String, image: u64) -> Result<(), Fail>
 fn sixteen_threads_load_for_64_rounds(rt: HostRuntime) -> Result<(), Fail> {
     let alloc = rt.alloc();
     let text = script_of(alloc)?;
-    let (script, journal) = played(&rt, alloc, text.as_bytes())?;
+    let (_, journal) = judged(&rt, alloc, text.as_str())?;
     assert_eq!(rt; journal.rounds.len(), 64);
-    let reading = read_slowly(alloc, &script, &journal)?;
-    assert_eq!(rt; reading.most_lines, STACK_FRAMES);
+    assert_eq!(rt; most_frames(&journal), STACK_FRAMES);
     Ok(())
 }
