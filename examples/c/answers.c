@@ -208,6 +208,46 @@ static int lent(frames_section *section) {
   return 0;
 }
 
+/* Each word that a frame wants is asked for, in the order in which the row wants them. */
+static int asked(frames_section *section) {
+  const uint8_t none[1] = {0}, lent[8] = {0};
+  const frames_word words[5] = {
+      {0x7000, 0x1020}, {0x7018, 0x1025}, {0x7010, 9}, {0x7010, 0x7040}, {0x7001, 7}};
+  frames_frame frame = innermost(), before = innermost();
+  CHECK(frames_c_step_asking(*section, 0, none, 0, words, 0, &frame, section) == FRAMES_NO_BYTES);
+  before.missing = 0x7000;
+  CHECK(memcmp(&frame, &before, sizeof frame) == 0);
+  CHECK(frames_c_step_asking(*section, 0, none, 0, words + 1, 4, &frame, section) ==
+        FRAMES_NO_BYTES);
+  CHECK(frame.missing == 0x7000);
+  CHECK(frames_c_step_asking(*section, 0, none, 0, words, 1, &frame, section) == FRAMES_FRAME);
+  CHECK(frame.columns[16] == 0x1020 && frame.columns[7] == 0x7008 && frame.at_instruction == 0);
+  before = frame;
+  CHECK(frames_c_step_asking(*section, 0, none, 0, words, 2, &frame, section) == FRAMES_NO_BYTES);
+  before.missing = 0x7010;
+  CHECK(memcmp(&frame, &before, sizeof frame) == 0);
+  CHECK(frames_c_step_asking(*section, 0, none, 0, words + 2, 3, &frame, section) ==
+        FRAMES_NO_BYTES);
+  CHECK(frame.missing == 0x7018);
+  frame = before;
+  CHECK(frames_c_step_asking(*section, 0, none, 0, words, 4, &frame, section) == FRAMES_FRAME);
+  CHECK(frame.columns[16] == 0x1025 && frame.columns[6] == 9 && frame.columns[7] == 0x7020);
+  frame = before;
+  CHECK(frames_c_step_asking(*section, 0x7010, lent, 8, words, 4, &frame, section) ==
+        FRAMES_FRAME);
+  CHECK(frame.columns[16] == 0x1025 && frame.columns[6] == 0);
+  frames_row_table table = {0};
+  CHECK(frames_c_row_table(*section, &table, section) == FRAMES_ROW_TABLE_MADE);
+  CHECK(frames_c_row_table_step_asking(table, 0x7010, lent, 7, words, 1, &before, &table) ==
+        FRAMES_NO_BYTES);
+  CHECK(before.missing == 0x7010);
+  CHECK(frames_c_row_table_step_asking(table, 0x7010, lent, 8, words, 2, &before, &table) ==
+        FRAMES_FRAME);
+  CHECK(memcmp(before.columns, frame.columns, sizeof frame.columns) == 0);
+  frames_c_row_table_free(table);
+  return 0;
+}
+
 static int walks(frames_section *section) {
   const uint8_t stack[32] = {0x20, 0x10};
   frames_section share = {0}, late = {0};
@@ -235,7 +275,20 @@ static int walks(frames_section *section) {
   CHECK(frames_c_walk(modules, 0x7000, stack, 31, &frame, lines, 4, &count, &modules) ==
         FRAMES_WALK_NO_BYTES);
   CHECK(count == 1 && lines[0].pc == 0x1020 && frame.missing == 0x7018);
+  frames_modules other = {0};
+  CHECK(frames_c_modules_share(modules, &other, &modules));
+  CHECK(frames_c_share(*section, &late, section));
+  CHECK(frames_c_modules_add(modules, 0x1030, 1, late, &modules) == FRAMES_MODULE_ADDED);
   frames_c_modules_free(modules);
+  CHECK(frames_c_share(*section, &late, section));
+  CHECK(frames_c_modules_add(other, 0x1030, 1, late, &other) == FRAMES_MODULE_ADDED);
+  CHECK(frames_c_share(*section, &late, section));
+  CHECK(frames_c_modules_add(other, 0x1030, 1, late, &other) == FRAMES_MODULE_NOT_ABOVE);
+  frame = innermost();
+  CHECK(frames_c_walk(other, 0x7000, stack, 32, &frame, lines, 4, &count, &other) ==
+        FRAMES_WALK_NO_MODULE);
+  CHECK(count == 3 && lines[1].pc == 0x1020 && lines[2].sp == 0x7020);
+  frames_c_modules_free(other);
   return 0;
 }
 
@@ -246,7 +299,7 @@ int main(void) {
   CHECK(frames_c_share(section, &other, &section));
   frames_c_free(section);
   int wrong = fdes(&other) || rows(&other) || frames(&other) || refusals() || headers() ||
-              row_tables() || lent(&other) || walks(&other);
+              row_tables() || lent(&other) || asked(&other) || walks(&other);
   frames_c_free(other);
   if (!wrong) printf("answers: all as worked out\n");
   return wrong;

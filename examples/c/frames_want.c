@@ -134,6 +134,37 @@ static enum outcome list_modules(void) {
   return REFUSED;
 }
 
+/* A list of two modules, one with a section and one with a row table, and another list of them. */
+static bool list_both(frames_modules *modules) {
+  frames_section other = {0};
+  frames_row_table rows = {0};
+  if (!frames_c_share(section, &other, &section)) return false;
+  if (frames_c_modules_add(*modules, 0x1000, 0x20, other, modules) != FRAMES_MODULE_ADDED)
+    return false;
+  if (!frames_c_row_table_share(table, &rows, &table)) return false;
+  return frames_c_modules_add_rows(*modules, 0x1020, 0x10, rows, modules) == FRAMES_MODULE_ADDED;
+}
+
+static enum outcome share_modules(void) {
+  frames_modules modules = {0}, other = {0};
+  if (!frames_c_modules(&modules)) return REFUSED;
+  bool shared = list_both(&modules) && frames_c_modules_share(modules, &other, &modules);
+  frames_c_modules_free(modules);
+  if (!shared) {
+    CHECK(other.at == NULL);
+    return REFUSED;
+  }
+  frames_frame frame = {.columns = {[7] = 0x7000, [16] = 0x1020}, .at_instruction = 1};
+  const uint8_t stack[8] = {0x02, 0x10};
+  frames_line lines[2];
+  size_t count = 0;
+  CHECK(frames_c_walk(other, 0x7000, stack, 8, &frame, lines, 2, &count, &other) ==
+        FRAMES_WALK_NO_BYTES);
+  CHECK(count == 2 && lines[1].pc == 0x1002);
+  frames_c_modules_free(other);
+  return DONE;
+}
+
 /* How many allocations of a call were refused in turn. */
 static unsigned refused;
 
@@ -154,8 +185,8 @@ int main(void) {
   frames_refusal refusal;
   CHECK(frames_c_read(0x2000, section_bytes, 84, &refusal, &section));
   CHECK(frames_c_row_table(section, &table, &section) == FRAMES_ROW_TABLE_MADE);
-  enum outcome (*const calls[])(void) = {read_one,   read_both,   share,       record_one,
-                                         make_table, share_table, list_modules};
+  enum outcome (*const calls[])(void) = {read_one,    read_both,    share,        record_one,
+                                         make_table,  share_table,  list_modules, share_modules};
   for (size_t i = 0; i < sizeof calls / sizeof *calls; i++) CHECK(each_refused(calls[i]) == DONE);
   frames_c_row_table_free(table);
   frames_c_free(section);

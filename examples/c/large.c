@@ -57,6 +57,37 @@ static int rows_are_right(frames_section *section, frames_row_table *table) {
   return 0;
 }
 
+/* The same of the calls that step and walk by what is lent or told. */
+static int walks(frames_section *section, frames_row_table *table, frames_modules *modules) {
+  const uint64_t back = CODE + 3 * CODE_SIZE + 2;
+  const uint8_t *stack = (const uint8_t *)&back;
+  const frames_word word = {0x7000, back};
+  const frames_frame first = {.columns = {[7] = 0x7000, [16] = CODE}, .at_instruction = 1};
+  frames_frame frame = first;
+  frames_line lines[4];
+  size_t count = 0;
+  CHECK(frames_c_step_lent(*section, 0x7000, stack, 8, &frame, section) == FRAMES_FRAME);
+  CHECK(frame.columns[16] == back);
+  frame = first;
+  CHECK(frames_c_row_table_step_lent(*table, 0x7000, stack, 8, &frame, table) == FRAMES_FRAME);
+  CHECK(frame.columns[16] == back);
+  frame = first;
+  CHECK(frames_c_step_asking(*section, 0, stack, 0, &word, 0, &frame, section) ==
+        FRAMES_NO_BYTES);
+  CHECK(frame.missing == 0x7000);
+  CHECK(frames_c_step_asking(*section, 0, stack, 0, &word, 1, &frame, section) == FRAMES_FRAME);
+  CHECK(frame.columns[16] == back);
+  frame = first;
+  CHECK(frames_c_row_table_step_asking(*table, 0, stack, 0, &word, 1, &frame, table) ==
+        FRAMES_FRAME);
+  CHECK(frame.columns[16] == back);
+  frame = first;
+  CHECK(frames_c_walk(*modules, 0x7000, stack, 8, &frame, lines, 4, &count, modules) ==
+        FRAMES_WALK_NO_BYTES);
+  CHECK(count == 2 && lines[1].pc == back && frame.missing == 0x7008 + cfa_offset(3) - 8);
+  return 0;
+}
+
 /* Each call that only looks, once. */
 static int looks(frames_section *section, frames_row_table *table, frames_memory *memory) {
   static frames_entry entries[FDES];
@@ -125,11 +156,17 @@ int main(void) {
   const uint8_t *stack = (const uint8_t *)&back;
   CHECK(frames_c_memory_push(memory, 0x7000, stack, 8, &memory) == FRAMES_RECORDED);
   if (rows_are_right(&section, &table)) return 1;
+  frames_modules modules = {0};
+  frames_row_table rows = {0};
+  CHECK(frames_c_modules(&modules) && frames_c_row_table_share(table, &rows, &table));
+  CHECK(frames_c_modules_add_rows(modules, CODE, FDES * CODE_SIZE, rows, &modules) ==
+        FRAMES_MODULE_ADDED);
   heap_count_from_here(0);
-  if (looks(&section, &table, &memory)) return 1;
+  if (looks(&section, &table, &memory) || walks(&section, &table, &modules)) return 1;
   CHECK(heap_calls() == 0);
   if (tables_without_memory(&section) || reads_without_memory()) return 1;
   heap_count_from_here(0);
+  frames_c_modules_free(modules);
   frames_c_memory_free(memory);
   frames_c_row_table_free(table);
   frames_c_free(section);
