@@ -1,7 +1,9 @@
 #!/usr/bin/env python3
-"""seeds.py frames|scripts FOLDER: writes what a fuzzer begins with, from the cases and the tables.
+"""seeds.py frames|scripts|journals FOLDER: writes what a fuzzer begins with, from the cases and
+the tables.
 
-Of scripts each case is one, and each row of the tables about scripts. Of frames a section of the
+Of scripts each case is one, and each row of the tables about scripts; of journals each check, and
+each case with its journal behind its script. Of frames a section of the
 tables, of the cases' images and of the questions to frame_tables, in the form that frames.c reads.
 """
 import pathlib
@@ -46,22 +48,30 @@ def frames():
     return made
 
 
-def scripts():
-    made = {path.read_bytes() for path in (TOP / 'cases').glob('*.script')}
+def rows(what, part=''):
+    """The inputs that `.ci/rows` makes, of those whose titles have this part."""
     with tempfile.TemporaryDirectory() as folder:
-        subprocess.run([TOP / '.ci/rows', 'tables', folder, f'{folder}/list'], check=True)
+        subprocess.run([TOP / '.ci/rows', what, folder, f'{folder}/list'], check=True)
         for line in pathlib.Path(folder, 'list').read_text().splitlines():
             name, _, title = line.split('\t')
-            if 'script_damage' in title:
-                made.add(pathlib.Path(folder, name).read_bytes())
-    return made
+            if part in title:
+                yield pathlib.Path(folder, name).read_bytes()
+
+
+def scripts():
+    made = {path.read_bytes() for path in (TOP / 'cases').glob('*.script')}
+    return made | set(rows('tables', 'script_damage'))
+
+
+def journals():
+    return set(rows('checks'))
 
 
 def main():
     what, folder = sys.argv[1:]
     folder = pathlib.Path(folder)
     folder.mkdir(parents=True, exist_ok=True)
-    made = {'frames': frames, 'scripts': scripts}[what]()
+    made = {'frames': frames, 'scripts': scripts, 'journals': journals}[what]()
     for number, text in enumerate(sorted(made)):
         (folder / f'seed_{number:04}').write_bytes(text)
     print(f'{len(made)} seeds')

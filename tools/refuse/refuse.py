@@ -1,9 +1,11 @@
 #!/usr/bin/env python3
 """refuse.py [--valgrind EACH] [LIBRARIES]: has each call of a kind fail in turn, by calls.c.
 
-Through the built program go the case of three parts, the case whose fences move, and the generated
-script for 1. LIBRARIES is a folder that `examples/c/library.sh` made: then the examples for C go
-too, which end at the first call that fails. With --valgrind every EACHth run goes under it as well.
+Through the built programs go the case of three parts, the case whose fences move, the generated
+script for 1, a check of the three parts' journal, and three raises of recorded stacks. LIBRARIES is
+a folder that `examples/c/library.sh` made: then the examples for C go too, which end at the first
+call that fails. With --valgrind every EACHth run goes under it as well. A program that isn't built
+is told, and counts as failed.
 
 A run of the program has to end with the status that is told for its kind and with a front of its
 output, as docs/FORMATS.md says: nothing where a read failed. Where a call moves one byte all is
@@ -20,11 +22,15 @@ import tempfile
 
 HERE = pathlib.Path(__file__).resolve().parent
 TOP = HERE.parent.parent
-PROGRAM = TOP / 'crates/unwind_main/out/unwind_main'
+# a program, the words that it is given, and the case
 RUNS = {
-    'three parts': (['run'], 'program_library_and_generated_code'),
-    'moved fences': (['run'], 'fence_moves'),
-    'gen 1': (['gen', '1'], 'gen_one'),
+    'three parts': ('unwind_main', ['run'], 'program_library_and_generated_code'),
+    'moved fences': ('unwind_main', ['run'], 'fence_moves'),
+    'gen 1': ('unwind_main', ['gen', '1'], 'gen_one'),
+    'three parts checked': ('check_main', [], 'check_three_parts_lawful'),
+    'raise caught': ('raise_main', ['0', '555555558050'], 'raise_recorded_caught'),
+    'raise terminated': ('raise_main', ['0', '555555558050'], 'raise_recorded_terminated'),
+    'raise uncaught': ('raise_main', ['0', '555555558050'], 'raise_recorded_uncaught'),
 }
 # the statuses that may be, and whether all of the output has to come
 KINDS = {
@@ -123,13 +129,25 @@ class Sweep:
         sys.stdout.flush()
 
 
-def program(refuser, each):
+def input_of(case):
+    """What is read in a case: a script, or a script with a journal behind it, or nothing."""
+    for ending in ('script', 'input'):
+        file = TOP / f'cases/{case}.{ending}'
+        if file.exists():
+            return file.read_bytes()
+    return b''
+
+
+def programs(refuser, each):
     failed = 0
-    for name, (words, case) in RUNS.items():
-        script = TOP / f'cases/{case}.script'
-        text = script.read_bytes() if script.exists() else b''
-        wanted = (TOP / f'cases/{case}.out').read_bytes()
-        sweep = Sweep(refuser, name, [PROGRAM, *words], text, wanted)
+    for name, (program, words, case) in RUNS.items():
+        built = TOP / f'crates/{program}/out/{program}'
+        if not built.exists():
+            print(f'{name}: {program} is not built')
+            failed += 1
+            continue
+        sweep = Sweep(refuser, name, [built, *words], input_of(case),
+                      (TOP / f'cases/{case}.out').read_bytes())
         for kind in KINDS:
             sweep.refuse(kind, each)
         failed += sweep.failed
@@ -159,7 +177,7 @@ def main():
     with tempfile.TemporaryDirectory() as name:
         folder = pathlib.Path(name)
         refuser = Refuser(folder)
-        failed = program(refuser, given.valgrind) if PROGRAM.exists() else 0
+        failed = programs(refuser, given.valgrind)
         if given.libraries:
             failed += examples(refuser, folder, given.libraries, given.valgrind)
     print(f'refuse: {failed} failed')
