@@ -2,6 +2,7 @@
 // The library for C as a peer of the harness's benches parse, rows and trace. A backtrace asks which
 // image has an address by one range alone, as the harness's other unwinders do. Where FRAMES_ROWS is
 // 'table', each section that is read has its row table made too, which then tells rows and steps.
+// Where FRAMES_TRACE is 'walk', a backtrace is one walk over the memory's bytes, which are lent.
 #include "frames_c.h"
 #include "product.h"
 #include <cstdlib>
@@ -13,8 +14,16 @@ struct product_section {
   frames_section held;
   frames_row_table rows;
 };
-struct product_memory { frames_memory held; };
-struct product_registry { uint64_t base, size; };
+struct product_memory {
+  frames_memory held;
+  uint64_t address;
+  const uint8_t *bytes;
+  size_t length;
+};
+struct product_registry {
+  uint64_t base, size;
+  frames_modules modules;
+};
 struct product_caller { uint32_t left; };
 
 // a call takes a handle and gives it back
@@ -60,9 +69,12 @@ int product_fde(const product_section *s, uint64_t pc, uint64_t out[2]) {
 
 product_memory *product_memory_new(void) {
   frames_memory memory = {nullptr};
-  return frames_c_memory(&memory) ? new product_memory{memory} : nullptr;
+  return frames_c_memory(&memory) ? new product_memory{memory, 0, nullptr, 0} : nullptr;
 }
 int product_memory_push(product_memory *m, uint64_t address, const uint8_t *bytes, size_t length) {
+  m->address = address;
+  m->bytes = bytes;
+  m->length = length;
   return (int)frames_c_memory_push(m->held, address, bytes, length, &m->held);
 }
 void product_memory_free(product_memory *m) {
@@ -71,9 +83,10 @@ void product_memory_free(product_memory *m) {
 }
 product_registry *product_registry_new(uint32_t, uint32_t, uint32_t, product_caller **first) {
   *first = new product_caller{1};
-  return new product_registry{0, 0};
+  return new product_registry{0, 0, {nullptr}};
 }
 uint32_t product_registry_close(product_registry *r, product_caller *first) {
+  if (r->modules.at) frames_c_modules_free(r->modules);
   delete r;
   delete first;
   return 1;
@@ -87,11 +100,12 @@ void product_caller_join(product_registry *, product_caller *, product_caller *o
 uint32_t product_caller_left(product_caller *me) { return me->left; }
 int product_register(product_registry *r, product_caller *, uint64_t base, uint64_t size,
                      uint32_t) {
-  *r = {base, size};
+  r->base = base;
+  r->size = size;
   return 0;
 }
 int product_deregister(product_registry *r, product_caller *, uint64_t) {
-  *r = {0, 0};
+  r->base = r->size = 0;
   return 0;
 }
 int product_try_registered(product_registry *r, product_caller *, uint64_t pc,
@@ -99,6 +113,36 @@ int product_try_registered(product_registry *r, product_caller *, uint64_t pc,
   *payload = 0;
   return pc - r->base < r->size;
 }
+// The one range as a list of modules, made at the first walk.
+static frames_modules *modules_of(product_registry *r, product_section *section) {
+  if (r->modules.at) return &r->modules;
+  bool made = frames_c_modules(&r->modules);
+  uint64_t added = 1;
+  if (section->rows.at) {
+    frames_row_table rows = {nullptr};
+    if (made && frames_c_row_table_share(section->rows, &rows, &section->rows))
+      added = frames_c_modules_add_rows(r->modules, r->base, r->size, rows, &r->modules);
+  } else {
+    frames_section share = {nullptr};
+    if (made && frames_c_share(section->held, &share, &section->held))
+      added = frames_c_modules_add(r->modules, r->base, r->size, share, &r->modules);
+  }
+  if (added) abort();
+  return &r->modules;
+}
+static uint32_t walk(frames_modules *modules, const product_memory *memory, frames_frame *frame,
+                     uint64_t *pcs, uint64_t *sps, uint32_t *end) {
+  frames_line lines[256];
+  size_t count = 0;
+  *end = (uint32_t)frames_c_walk(*modules, memory->address, memory->bytes, memory->length, frame,
+                                 lines, 256, &count, modules);
+  for (size_t i = 0; i < count; i++) {
+    pcs[i] = lines[i].pc;
+    sps[i] = lines[i].sp;
+  }
+  return (uint32_t)count;
+}
+
 uint32_t product_trace(product_registry *r, product_caller *me, product_section *const *sections,
                        size_t, const uint64_t columns[17], const product_memory *memory,
                        uint64_t *pcs, uint64_t *sps, uint32_t *end) {
@@ -106,6 +150,9 @@ uint32_t product_trace(product_registry *r, product_caller *me, product_section 
   for (int column = 0; column < 17; column++) frame.columns[column] = columns[column];
   frame.at_instruction = 1;
   product_section *section = sections[0];
+  static const char *kind = getenv("FRAMES_TRACE");
+  if (kind && !strcmp(kind, "walk"))
+    return walk(modules_of(r, section), memory, &frame, pcs, sps, end);
   *end = 5;
   for (uint32_t count = 0; count < 256; count++) {
     pcs[count] = frame.columns[16];
