@@ -5,14 +5,14 @@
  *
  *   - An array is readable for its length, and nobody writes it while the call runs. One of length
  *     0 has an address too, which isn't null.
- *   - What a call writes (`out`, `back`, `refusal`, `told`, `frame`, `entries`, `rows`, `count`) is
- *     writable, aligned, and apart from all else that the call is given. What it holds before
- *     doesn't matter, but for the registers of a frame, and for a handle: that holds nothing.
- *   - A section, recorded memory, and a row table are one pointer each. C owns it from the call
- *     that wrote it until it is freed. A call takes it by value and gives it back through `back`,
- *     which may be the same variable: frames_c_count(section, &section). Never pass one that was
- *     freed, or passed and not given back, and never read or copy what it leads to. No call can
- *     tell one that was freed: set the variable to {0}, and test its `at` where it may hold
+ *   - What a call writes (`out`, `back`, `refusal`, `told`, `frame`, `entries`, `rows`, `lines`,
+ *     `count`) is writable, aligned, and apart from all else that the call is given. What it holds
+ *     before doesn't matter, but for the registers of a frame, and for a handle: that holds nothing.
+ *   - A section, recorded memory, a row table and a list of modules are one pointer each. C owns it
+ *     from the call that wrote it until it is freed. A call takes it by value and gives it back
+ *     through `back`, which may be the same variable: frames_c_count(section, &section). Never pass
+ *     one that was freed, or passed and not given back, and never read or copy what it leads to. No
+ *     call can tell one that was freed: set the variable to {0}, and test its `at` where it may hold
  *     nothing. No call tests for {0} either: it reads at address 0 or a little above, at which most
  *     systems end the program.
  *   - Each share of a section is used by one thread at a time. Threads with a share each don't

@@ -38,13 +38,14 @@
  * waited. Pause, yield or sleep as the program likes, and ask again. After BUSY the update call
  * stays begun: the next update, the same or another, goes on with it and takes no further one.
  *
- * Beside a busy writer. An update of the registered ranges takes its first lock at the root and
- * goes down, a lock at a time, letting go of those above. Another one that comes to a lock
- * meanwhile is BUSY, and a lookup of that half that passes there is AGAIN. Beside a client that
- * updates without a pause that is so of most tries, since all of them pass the root. Each comes
- * back at once; nothing says how many there are in a row. An update of the loaded ranges makes
- * others of that half BUSY while it runs, and a lookup of it AGAIN only where it was accepted
- * between the lookup's first step and its last. To a client that is alone no lookup is AGAIN.
+ * Beside a busy writer. An update of the registered ranges looks for its leaf as a lookup does, and
+ * mostly locks that alone; one that splits or joins nodes begins above them, at the root at the
+ * highest, and goes down a lock at a time. Another one that comes to a lock meanwhile is BUSY, and a
+ * lookup of that half that passes there is AGAIN. Beside a client that updates without a pause that
+ * is so of most tries while all ranges are in one leaf, of which ten have room. Each comes back at
+ * once; nothing says how many there are in a row. An update of the loaded ranges makes others of
+ * that half BUSY while it runs, and a lookup of it AGAIN only where it was accepted between the
+ * lookup's first step and its last. To a client that is alone no lookup is AGAIN.
  *
  * What a client costs. A thousand bytes, whatever the registry's nodes; half of that are its last
  * eight hits in either half (registry_c_find_cached). Join one that isn't needed any more. One
