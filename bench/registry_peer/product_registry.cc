@@ -47,29 +47,32 @@ static int told(const registry_answer &answer) {
   default: abort();
   }
 }
-int product_register(product_registry *, product_caller *me, uint64_t base, uint64_t size,
-                     uint32_t payload) {
-  registry_member member = {base, size, payload};
+// one try of adding a range, or of taking one away
+typedef void adding(registry_client, const registry_member *, registry_answer *, registry_client *);
+typedef void taking(registry_client, uint64_t, registry_answer *, registry_client *);
+static int added(adding *add, product_caller *me, registry_member member) {
   registry_answer answer;
-  registry_c_register(me->held, &member, &answer, &me->held);
+  add(me->held, &member, &answer, &me->held);
   return told(answer);
 }
-int product_deregister(product_registry *, product_caller *me, uint64_t base) {
+static int taken(taking *take, product_caller *me, uint64_t base) {
   registry_answer answer;
-  registry_c_deregister(me->held, base, &answer, &me->held);
+  take(me->held, base, &answer, &me->held);
   return told(answer);
+}
+int product_register(product_registry *, product_caller *me, uint64_t base, uint64_t size,
+                     uint32_t payload) {
+  return added(registry_c_register, me, {base, size, payload});
+}
+int product_deregister(product_registry *, product_caller *me, uint64_t base) {
+  return taken(registry_c_deregister, me, base);
 }
 int product_load(product_registry *, product_caller *me, uint64_t base, uint64_t size,
                  uint32_t payload) {
-  registry_member member = {base, size, payload};
-  registry_answer answer;
-  registry_c_load(me->held, &member, &answer, &me->held);
-  return told(answer);
+  return added(registry_c_load, me, {base, size, payload});
 }
 int product_unload(product_registry *, product_caller *me, uint64_t base) {
-  registry_answer answer;
-  registry_c_unload(me->held, base, &answer, &me->held);
-  return told(answer);
+  return taken(registry_c_unload, me, base);
 }
 
 // 1 a hit, 0 a miss, -1 again

@@ -1,19 +1,12 @@
 /* A section of real size, with more rows that differ than any small one: it is read, and its row
  * table is made; no call that only looks calls malloc, realloc or free; and where one of those has
  * no memory, that is told, and nothing is lost. Status 0: all is so. */
+#include "check.h"
 #include "frames_c.h"
 #include "heap_calls.h"
 #include <stdio.h>
 #include <stdlib.h>
 #include <string.h>
-
-#define CHECK(holds)                                 \
-  do {                                               \
-    if (!(holds)) {                                  \
-      printf("large.c:%d: %s\n", __LINE__, #holds);  \
-      return 1;                                      \
-    }                                                \
-  } while (0)
 
 enum { FDES = 2400, ROWS = 300, CIE_SIZE = 24, FDE_SIZE = 28, CODE_SIZE = 64 };
 enum { AT = 0x400000, CODE = 0x100000, LENGTH = CIE_SIZE + FDES * FDE_SIZE + 4 };

@@ -2,18 +2,11 @@
  * routine over frames_c_verdict, by which the C runtime's unwinder takes exceptions of this
  * program's own through functions with a cleanup, with handlers, and with nothing that may pass.
  * Status 0: all as worked out. */
+#include "check.h"
 #include "frames_c.h"
 #include <stdio.h>
 #include <string.h>
 #include <unwind.h>
-
-#define CHECK(holds)                                        \
-  do {                                                      \
-    if (!(holds)) {                                         \
-      printf("personality.c:%d: %s\n", __LINE__, #holds);   \
-      return 1;                                             \
-    }                                                       \
-  } while (0)
 
 /* ---- worked out by hand ---------------------------------------------------------------------- */
 

@@ -1,17 +1,11 @@
 /* Each call of registry_c that takes memory, with each of its allocations refused in turn: that is
  * told as want of memory, whoever was given to the call goes on, and nothing stays held in the end.
  * Status 0: all is so. */
+#define NOT_SO WRONG /* what CHECK answers */
+#include "check.h"
 #include "heap_calls.h"
 #include "registry_c.h"
 #include <stdio.h>
-
-#define CHECK(holds)                                       \
-  do {                                                     \
-    if (!(holds)) {                                        \
-      printf("registry_want.c:%d: %s\n", __LINE__, #holds); \
-      return WRONG;                                        \
-    }                                                      \
-  } while (0)
 
 enum outcome { DONE, REFUSED, WRONG };
 enum { CALLS = 67108864, GIVEN = 5 };

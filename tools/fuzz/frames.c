@@ -6,23 +6,11 @@
  * names, at a place of the input. No call may take longer than 20 microseconds, or 200 to make a
  * row table, and 100 nanoseconds for each byte that it was given. */
 #include "frames_c.h"
+#include "hold.h"
 #include <stdio.h>
 #include <stdlib.h>
 #include <string.h>
 #include <time.h>
-
-#define HOLD(holds)                                                \
-  do {                                                             \
-    if (!(holds)) {                                                \
-      fprintf(stderr, "frames.c:%d: %s\n", __LINE__, #holds);      \
-      abort();                                                     \
-    }                                                              \
-  } while (0)
-
-/* How many times as long a call may take, in a build that checks more. */
-#ifndef SLOWER
-#define SLOWER 1
-#endif
 
 enum { ENTRIES = 512, ASKED = 16, TRIES = 7, HEADER_AFTER = 0x100 };
 

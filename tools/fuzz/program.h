@@ -2,6 +2,7 @@
  * so is standard output. The target says by PROGRAM_MAIN and PROGRAM_WORDS which main, and with
  * which words of the command line. */
 #define _GNU_SOURCE
+#include "hold.h"
 #include <setjmp.h>
 #include <stdbool.h>
 #include <stdint.h>
@@ -12,19 +13,6 @@
 #include <sys/stat.h>
 #include <time.h>
 #include <unistd.h>
-
-#define HOLD(holds)                                                   \
-  do {                                                                \
-    if (!(holds)) {                                                   \
-      fprintf(stderr, "%s:%d: %s\n", __FILE__, __LINE__, #holds);     \
-      abort();                                                        \
-    }                                                                 \
-  } while (0)
-
-/* How many times as long a call may take, in a build that checks more. */
-#ifndef SLOWER
-#define SLOWER 1
-#endif
 
 enum { TRIES = 5, ROOM = 1 << 24 };
 

@@ -114,20 +114,28 @@ def compare(script_path, journal_path, frames_path):
     return 1 if faults or not printed else 0
 
 
-def main(words):
-    """Does what the words of the command line say; the status."""
+def status_of(doc, answer, words):
+    """The status of a program: what it answers to its words, or 2 for words or files not taken."""
     try:
-        if len(words) == 2 and words[0] == "journal":
-            sys.stdout.write(journal(read_script(text_of(words[1]))))
-            return 0
-        if len(words) == 4 and words[0] == "frames":
-            return compare(*words[1:])
-    except (BadLine, OSError, UnicodeDecodeError) as fault:
+        status = answer(words)
+    except (BadLine, OSError, ValueError, IndexError) as fault:
         print(fault, file=sys.stderr)
         return 2
-    print(__doc__, file=sys.stderr)
-    return 2
+    if status is None:
+        print(doc, file=sys.stderr)
+        return 2
+    return status
+
+
+def main(words):
+    """Does what the words of the command line say; the status, and None for other words."""
+    if len(words) == 2 and words[0] == "journal":
+        sys.stdout.write(journal(read_script(text_of(words[1]))))
+        return 0
+    if len(words) == 4 and words[0] == "frames":
+        return compare(*words[1:])
+    return None
 
 
 if __name__ == "__main__":
-    sys.exit(main(sys.argv[1:]))
+    sys.exit(status_of(__doc__, main, sys.argv[1:]))

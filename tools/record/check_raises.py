@@ -14,9 +14,9 @@ import os
 import re
 import sys
 
-from check import RECORDED, differences, matches, text_of
+from check import RECORDED, differences, matches, status_of, text_of
 from raising import raised
-from script import BadLine, read_script
+from script import read_script
 
 SEARCH = re.compile(r"search (\d+) pc ([0-9a-f]+) sp ([0-9a-f]+) look ([0-9a-f]+) (.*)")
 PAD = re.compile(r"(?:cleanup|handler) ([0-9a-f]+)(?: (\d+))?")
@@ -69,19 +69,12 @@ def compare(cases):
 
 
 def main(words):
-    """Does what the words of the command line say; the status."""
-    try:
-        if len(words) == 4 and words[0] == "text":
-            sys.stdout.write(text_of_raise(text_of(words[1]), *words[2:]))
-            return 0
-        if words:
-            return compare(words)
-    except (BadLine, OSError, UnicodeDecodeError, ValueError, IndexError) as fault:
-        print(fault, file=sys.stderr)
-        return 2
-    print(__doc__, file=sys.stderr)
-    return 2
+    """Does what the words of the command line say; the status, and None for other words."""
+    if len(words) == 4 and words[0] == "text":
+        sys.stdout.write(text_of_raise(text_of(words[1]), *words[2:]))
+        return 0
+    return compare(words) if words else None
 
 
 if __name__ == "__main__":
-    sys.exit(main(sys.argv[1:]))
+    sys.exit(status_of(__doc__, main, sys.argv[1:]))
