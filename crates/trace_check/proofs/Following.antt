@@ -19,7 +19,7 @@ use Rattle.trace_check.specs.declared.next_line.NextLine.TheVariants as nexts
 use Rattle.trace_check.specs.NextLines.{ComesAfter, IsNextLine, next_of}
 
 -- the section in which an FDE was found
-found_in : (o : Option SectionData) (look : ℕ) (fde : FdeData) → option_and_then (fde_in look) o ≡ Some fde → (s : SectionData) × (o ≡ Some s) × (fde_in look s ≡ Some fde)
+pub found_in : (o : Option SectionData) (look : ℕ) (fde : FdeData) → option_and_then (fde_in look) o ≡ Some fde → (s : SectionData) × (o ≡ Some s) × (fde_in look s ≡ Some fde)
 found_in None look fde e = absurd (none-some fde e)
 found_in (Some s) look fde e = (s, refl, e)
 

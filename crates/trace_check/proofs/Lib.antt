@@ -1,3 +1,9 @@
 pub mod Departing
 pub mod Following
 pub mod Reaching
+pub mod Bounded
+pub mod Numbers
+pub mod Operands
+pub mod Values
+pub mod RuleBytes
+pub mod Words

@@ -26,11 +26,11 @@ use Rattle.trace_check.proofs.Following.{below_after}
 not_empty : {X : Type 0} (x : X) (xs : List X) → x ∷ xs ≢ []
 not_empty x xs e = let long : length (x ∷ xs) ≡ 0 = ap length e in omega (arith, long)
 
-at_place : {X : Type 0} (xs : List X) (i : ℕ) → i < length xs → (x : X) × (slice_get xs i ≡ Some x)
+pub at_place : {X : Type 0} (xs : List X) (i : ℕ) → i < length xs → (x : X) × (slice_get xs i ≡ Some x)
 at_place [] i less = absurd (omega (arith, less))
 at_place (x ∷ xs) i less = (_, slice_get-get_or (x ∷ xs) i x less)
 
-shown_at : (frames : List Frame) (lines : List FrameLine) (i : ℕ) (frame : Frame) (line : FrameLine) → AllZip Shows frames lines → slice_get frames i ≡ Some frame → slice_get lines i ≡ Some line → Shows frame line
+pub shown_at : (frames : List Frame) (lines : List FrameLine) (i : ℕ) (frame : Frame) (line : FrameLine) → AllZip Shows frames lines → slice_get frames i ≡ Some frame → slice_get lines i ≡ Some line → Shows frame line
 shown_at [] lines i frame line all at is = absurd (none-some frame at)
 shown_at (f ∷ frames) [] i frame line all at is = absurd all
 shown_at (f ∷ frames) (l ∷ lines) zero frame line all at is = subst (λ (k : Frame). Shows k line) (same_Some f frame at) (subst (λ (k : FrameLine). Shows f k) (same_Some l line is) all.0)

@@ -1,2 +1,3 @@
 pub mod Departures
 pub mod NextLines
+pub mod Words

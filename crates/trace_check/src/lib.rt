@@ -13,4 +13,4 @@ mod laws;
 mod next_line;
 
 pub use checking::departure;
-pub use laws::traces_depart_once;
+pub use laws::{traces_depart_once, traces_have_words};
