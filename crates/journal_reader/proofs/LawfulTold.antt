@@ -31,15 +31,15 @@ use Rattle.event_script.specs.declared.script.Event.TheVariants as event
 use Rattle.event_script.specs.declared.journal.Answer.{Answer}
 use Rattle.event_script.specs.declared.journal.Answer.TheVariants.{Register, Deregister, Load, Unload, Find, Unwind}
 use Rattle.journal_reader.specs.Told.{IsImage, IsToldOverlap, IsToldFound, IsToldPlace, IsToldInserted, IsToldLoading, IsToldRemoved, IsToldFrame, IsToldAnswer}
-use Rattle.journal_reader.specs.Sizes.{IsSizedFound, IsSizedInserted, IsSizedLoading, IsSizedRemoved, IsSizedFrame, IsSizedAnswer, IsSized}
+use Rattle.journal_reader.proofs.Sizes.{IsSizedFound, IsSizedInserted, IsSizedLoading, IsSizedRemoved, IsSizedFrame, IsSizedAnswer, IsSized}
 use Rattle.journal_reader.specs.FormFlaw.{TellsJournal}
 use Rattle.journal_reader.proofs.LawfulMembers.{AreMembers, IsFrom, IsReceiptFrom, NamesSuch, history_from, names_such}
 
-each_receipt_joined : (Q : Receipt → Type 0) (xs ys : List Receipt) → AllByRecursion Q xs → AllByRecursion Q ys → AllByRecursion Q (xs ++ ys)
+pub each_receipt_joined : (Q : Receipt → Type 0) (xs ys : List Receipt) → AllByRecursion Q xs → AllByRecursion Q ys → AllByRecursion Q (xs ++ ys)
 each_receipt_joined Q [] ys p q = q
 each_receipt_joined Q (x ∷ xs) ys p q = (p.0, each_receipt_joined Q xs ys p.1 q)
 
-each_receipt_parts : (Q : Receipt → Type 0) (xs ys : List Receipt) → AllByRecursion Q (xs ++ ys) → AllByRecursion Q xs × AllByRecursion Q ys
+pub each_receipt_parts : (Q : Receipt → Type 0) (xs ys : List Receipt) → AllByRecursion Q (xs ++ ys) → AllByRecursion Q xs × AllByRecursion Q ys
 each_receipt_parts Q [] ys p = (tt, p)
 each_receipt_parts Q (x ∷ xs) ys p = let rest = each_receipt_parts Q xs ys p.1 in ((p.0, rest.0), rest.1)
 

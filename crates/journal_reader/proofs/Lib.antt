@@ -14,5 +14,7 @@ pub mod Pieced
 pub mod Loops
 pub mod OneAnswer
 pub mod LawfulMembers
+pub mod Sizes
 pub mod LawfulTold
 pub mod ToldAnswers
+pub mod LawfulSizes

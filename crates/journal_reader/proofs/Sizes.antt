@@ -1,4 +1,4 @@
--- Numbers and stamps of 32 bits, addresses of 64: those of every journal that a program holds.
+-- Numbers and stamps of 32 bits, addresses of 64: the sizes that the numbers of a journal have.
 use Rattle.std.specs.Prelude.{◌^◌, ◌<◌, IfSome}
 use Rattle.std.specs.List.{AllByRecursion}
 use Rattle.reg_model.specs.declared.answer.Found.{Found}

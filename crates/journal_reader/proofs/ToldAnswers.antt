@@ -1,16 +1,13 @@
--- What is told answers the script's events, has the sizes of a program's, and can be printed.
-use Rattle.std.proofs.Common.{ℕ, List, [], ◌∷◌, Option, Some, None, IfSome, All, refl}
+-- What is told answers the script's events, and can be printed.
+use Rattle.std.proofs.Common.{ℕ, List, [], ◌∷◌, All}
 use Rattle.std.specs.List.{AllByRecursion, AllZip}
 use Rattle.std.proofs.lemmas.List.Elements.{All-cons, All-from_recursion, All-nil}
 use Rattle.reg_model.specs.SpanData.{SpanData}
 use Rattle.reg_model.specs.Receipt.{IsPlace}
-use Rattle.reg_model.specs.declared.answer.Found.{Found}
-use Rattle.reg_model.specs.declared.answer.Found.TheVariants.{Hit, Miss}
 use Rattle.reg_model.specs.declared.answer.Inserted.{Inserted}
 use Rattle.reg_model.specs.declared.answer.Inserted.TheVariants as inserted
 use Rattle.reg_model.specs.declared.answer.Loading.{Loading}
 use Rattle.reg_model.specs.declared.answer.Loading.TheVariants as loading
-use Rattle.reg_model.specs.declared.answer.Place.{Place}
 use Rattle.reg_model.specs.declared.answer.Removed.{Removed}
 use Rattle.reg_model.specs.declared.answer.Removed.TheVariants as removed
 use Rattle.unwind_step.specs.declared.backtrace.FrameLine.{FrameLine}
@@ -22,57 +19,13 @@ use Rattle.event_script.specs.declared.journal.Answer.{Answer}
 use Rattle.event_script.specs.declared.journal.Answer.TheVariants.{Register, Deregister, Load, Unload, Find, Unwind}
 use Rattle.event_script.specs.declared.script.Event.{Event}
 use Rattle.event_script.specs.declared.script.Event.TheVariants as event
-use Rattle.journal_reader.specs.Told.{IsToldAnswer, IsToldFound, IsToldFrame, IsToldInserted, IsToldJournal, IsToldLoading, IsToldPlace, IsToldRemoved}
-use Rattle.journal_reader.specs.Sizes.{IsSized, IsSizedAnswer, IsSizedFound, IsSizedFrame, IsSizedInserted, IsSizedLoading, IsSizedPlace, IsSizedRemoved}
+use Rattle.journal_reader.specs.Told.{IsToldAnswer, IsToldFrame, IsToldInserted, IsToldJournal, IsToldLoading, IsToldRemoved}
 
 module _ (images : List SpanData) where
-  found_sized : (found : Found) → IsToldFound images found → IsSizedFound found
-  found_sized (Hit m stamp) told = told.1
-  found_sized (Miss stamp) told = told
-
-  loaded_sized : (loaded : Option Found) → IfSome loaded (IsToldFound images) → IfSome loaded IsSizedFound
-  loaded_sized None told = tt
-  loaded_sized (Some found) told = found_sized found told
-
-  place_sized : (place : Place) → IsToldPlace images place → IsSizedPlace place
-  place_sized place told = record { registered = found_sized place.registered told.registered; loaded = loaded_sized place.loaded told.loaded }
-
-  inserted_sized : (answer : Inserted) → IsToldInserted images answer → IsSizedInserted answer
-  inserted_sized (inserted.Done number) told = told
-  inserted_sized (inserted.Overlap m stamp) told = told.1
-  inserted_sized (inserted.Full stamp) told = told
-  inserted_sized inserted.Spent told = tt
-
-  loading_sized : (answer : Loading) → IsToldLoading images answer → IsSizedLoading answer
-  loading_sized (loading.Done number) told = told
-  loading_sized (loading.Overlap m stamp) told = told.1
-  loading_sized (loading.LoadFull stamp) told = told
-  loading_sized loading.Spent told = tt
-
-  removed_sized : (answer : Removed) → IsToldRemoved images answer → IsSizedRemoved answer
-  removed_sized (removed.Done number m) told = told.0
-  removed_sized (removed.NotFound stamp) told = told
-  removed_sized removed.Spent told = tt
-
-  frames_sized : (frames : List FrameLine) → AllByRecursion (IsToldFrame images) frames → AllByRecursion IsSizedFrame frames
-  frames_sized [] told = tt
-  frames_sized (line ∷ frames) told =
-      let first = told.0 in
-      (record { pc = first.pc; sp = first.sp; look = first.look; place = place_sized line.place first.place }, frames_sized frames told.1)
-
   -- places have their halves
   frames_whole : (frames : List FrameLine) → AllByRecursion (IsToldFrame images) frames → All (λ line. IsPlace line.place) frames
   frames_whole [] told = All-nil (λ (line : FrameLine). IsPlace line.place)
   frames_whole (line ∷ frames) told = (let first = told.0 in All-cons (λ (line : FrameLine). IsPlace line.place) line frames first.place.whole (frames_whole frames told.1))
-
-  answer_sized : (asked : Event) (answer : Answer) → IsToldAnswer images asked answer → IsSizedAnswer answer
-  answer_sized (event.Register image) (Register number answer) told = inserted_sized answer told.1
-  answer_sized (event.Deregister base) (Deregister number answer) told = removed_sized answer told.1
-  answer_sized (event.Load image) (Load number answer) told = loading_sized answer told.1
-  answer_sized (event.Unload base) (Unload number answer) told = removed_sized answer told.1
-  answer_sized (event.Find pc) (Find number place) told = place_sized place told.1
-  answer_sized (event.Unwind snapshot) (Unwind number trace) told = (let is = told.1 in (frames_sized trace.frames is.frames, is.end))
-  answer_sized asked answer told = absurd told
 
   answers_event : (asked : Event) (answer : Answer) → IsToldAnswer images asked answer → AnswersEvent asked answer
   answers_event (event.Register image) (Register number answer) told = told.0
@@ -136,13 +89,6 @@ module _ (script : ScriptData) (journal : JournalData) (told : IsToldJournal scr
   told_answered =
       zip_weaker script.rounds journal.rounds (AllZip (AllZip Told)) (AllZip (AllZip AnswersEvent))
       (λ threads answers. zip_weaker threads answers (AllZip Told) (AllZip AnswersEvent) (λ events answers. zip_weaker events answers Told AnswersEvent (answers_event script.images))) told.answered
-
-  pub told_sized : IsSized journal
-  told_sized = record {
-    answers = zip_second (AllZip (AllZip Told)) (AllByRecursion (AllByRecursion IsSizedAnswer))
-        (zip_second (AllZip Told) (AllByRecursion IsSizedAnswer) (zip_second Told IsSizedAnswer (answer_sized script.images))) script.rounds journal.rounds told.answered;
-    updates = told.updates;
-  }
 
   thread_prints : (events : List Event) (answers : List Answer) → AllZip Told events answers → All IsPrintable answers
   thread_prints events answers all = All-from_recursion IsPrintable answers (zip_second Told IsPrintable (answer_prints script.images) events answers all)

@@ -5,4 +5,3 @@ pub mod JournalLines
 pub mod ReadLines
 pub mod FormFlaw
 pub mod JournalRead
-pub mod Sizes

@@ -5,7 +5,6 @@ ghost use Rattle.event_script.specs.JournalData.{JournalData};
 ghost use Rattle.event_script.specs.ScriptData.{ScriptData, IsRunnable};
 ghost use Rattle.event_script.specs.Lawful.{IsLawfulJournal};
 ghost use Rattle.event_script.specs.Text.{journal_text};
-ghost use Rattle.journal_reader.specs.Sizes.{IsSized};
 ghost use Rattle.journal_reader.specs.FormFlaw.{TellsJournal, FormFlaw};
 
 /// A text tells one journal at the most: two told ones with the same text are one.
@@ -22,10 +21,8 @@ pub fn texts_have_one_answer()
         → TellsJournal script text journal → FormFlaw script text line → ⊥ }
 {}
 
-/// A lawful journal is told by its text, where its numbers have the sizes that every journal of a
-/// program has.
+/// A lawful journal is told by its text.
 pub fn lawful_is_told()
     ensures { (script : ScriptData) (journal : JournalData) → IsRunnable script
-        → IsLawfulJournal script journal → IsSized journal
-        → TellsJournal script (journal_text journal) journal }
+        → IsLawfulJournal script journal → TellsJournal script (journal_text journal) journal }
 {}

@@ -1,5 +1,5 @@
-use Rattle.journal_reader.proofs.LawfulTold.{lawful_told}
+use Rattle.journal_reader.proofs.LawfulSizes.{lawful_is_told}
 use Rattle.journal_reader.proofs.laws.lawful_is_told.Goals as goal
 
 pub returns : goal.returns
-returns c = lawful_told
+returns c = lawful_is_told
