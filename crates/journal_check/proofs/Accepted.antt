@@ -1,41 +1,17 @@
 -- How many updates a round's receipts accept.
-use Rattle.std.proofs.Common.{◌≡◌, ℕ, ◌+◌, List, [], ◌∷◌, ◌++◌, map, Option, Some, None, cond, refl, sym, ◌∙◌, ap, arith}
+use Rattle.std.proofs.Common.{◌≡◌, ℕ, ◌+◌, List, [], ◌∷◌, map, cond, refl, sym, ◌∙◌, ap, arith}
 use Rattle.std.specs.List.{flat_map, sum_by, count_by}
-use Rattle.std.specs.Option.{is_some}
-use Rattle.std.proofs.lemmas.List.Sums.{sum_by-append, sum_by-cons}
+use Rattle.std.proofs.lemmas.List.Sums.{sum_by-cons}
 use Rattle.reg_model.specs.SpanData.{SpanData}
-use Rattle.reg_model.specs.Receipt.{accepted, receipts_of_place}
-use Rattle.reg_model.specs.declared.answer.Found.{Found}
-use Rattle.reg_model.specs.declared.answer.Receipt.{Receipt}
 use Rattle.reg_model.specs.declared.answer.Inserted.TheVariants as inserted
 use Rattle.reg_model.specs.declared.answer.Loading.TheVariants as loading
 use Rattle.reg_model.specs.declared.answer.Removed.TheVariants as removed
-use Rattle.unwind_step.specs.declared.backtrace.FrameLine.{FrameLine}
 use Rattle.event_script.specs.Lawful.{receipts_of, done_after}
+use Rattle.journal_reader.proofs.LawfulSizes.{count, count_append, of_place, of_frames}
 use Rattle.event_script.specs.declared.journal.Answer.{Answer}
 use Rattle.event_script.specs.declared.journal.Answer.TheVariants.{Register, Deregister, Load, Unload, Find, Unwind}
 use Rattle.journal_check.specs.Telling.{is_update}
 use Rattle.journal_check.proofs.Receipts.{of_thread}
-
-abbrev count : List Receipt → ℕ
-count receipts = count_by (λ r. is_some (accepted r)) receipts
-
-abbrev one : Receipt → ℕ
-one r = cond (is_some (accepted r)) 1 0
-
-count_append : (xs ys : List Receipt) → count (xs ++ ys) ≡ count xs + count ys
-count_append xs ys = sum_by-append one xs ys
-
-of_place : (pc : ℕ) (registered : Found) (loaded : Option Found) → count (receipts_of_place pc (record { registered = registered; loaded = loaded })) ≡ 0
-of_place pc registered None = refl
-of_place pc registered (Some found) = refl
-
-of_frames : (frames : List FrameLine) → count (flat_map (λ line. receipts_of_place line.look line.place) frames) ≡ 0
-of_frames [] = refl
-of_frames (line ∷ frames) =
-    let rest = of_frames frames in
-    let here = of_place line.look line.place.registered line.place.loaded in
-    count_append (receipts_of_place line.look line.place) (flat_map (λ line. receipts_of_place line.look line.place) frames) ∙ omega arith
 
 of_answer : (images : List SpanData) (answer : Answer) → count (receipts_of images answer) ≡ cond (is_update answer) 1 0
 of_answer images (Register image (inserted.Done number)) = refl

@@ -5,8 +5,8 @@ use Rattle.event_script.specs.JournalData.{JournalData}
 use Rattle.event_script.specs.Lawful.{IsLawfulJournal, IsUnfolded}
 use Rattle.journal_reader.specs.FormFlaw.{TellsJournal}
 use Rattle.journal_reader.proofs.OneAnswer.{one_journal, one_line, never_told_and_bad}
-use Rattle.journal_reader.proofs.LawfulTold.{lawful_told}
-use Rattle.journal_reader.proofs.ToldAnswers.{told_answered, told_sized}
+use Rattle.journal_reader.proofs.LawfulSizes.{lawful_is_told}
+use Rattle.journal_reader.proofs.ToldAnswers.{told_answered}
 use Rattle.reg_model.specs.declared.answer.NoMemory.{NoMemory}
 use Rattle.receipt_check.specs.Flaws.{IsFlawless}
 use Rattle.journal_check.specs.Telling.{account_of}
@@ -36,7 +36,7 @@ module _ (script : ScriptData) where
 
   module _ (text : List ℕ) (run : IsRunnable script) where
     tells : (updates : ℕ) (is : IsLawfulText script text updates) → TellsJournal script text is.journal
-    tells updates is = subst (λ t. TellsJournal script t is.journal) is.spelled (lawful_told script is.journal run is.lawful is.sized)
+    tells updates is = subst (λ t. TellsJournal script t is.journal) is.spelled (lawful_is_told script is.journal run is.lawful)
 
     same_count : (updates others : ℕ) → IsLawfulText script text updates → IsLawfulText script text others → updates ≡ others
     same_count updates others one two =
@@ -81,7 +81,6 @@ module _ (script : ScriptData) where
   found_lawful journal text free unfolded tells = record {
     journal = journal;
     lawful = lawful_from script journal free (told_answered script journal tells.told) (all_by_round (IsUnfolded script.sections script.snapshots) journal.rounds unfolded);
-    sized = told_sized script journal tells.told;
     spelled = tells.spelled;
     counted = refl;
   }

@@ -7,7 +7,6 @@ use Rattle.event_script.specs.Lawful.{IsLawfulJournal, IsUnfolded}
 use Rattle.event_script.specs.Text.{journal_text, answer_lines}
 use Rattle.event_script.specs.declared.journal.Answer.{Answer}
 use Rattle.event_script.specs.declared.journal.Answer.TheVariants.{Unwind}
-use Rattle.journal_reader.specs.Sizes.{IsSized}
 use Rattle.journal_reader.specs.FormFlaw.{TellsJournal, FormFlaw}
 use Rattle.trace_check.specs.Departures.{IsDeparture}
 use Rattle.receipt_check.specs.Flaws.{IsFlawless, CountsFirst}
@@ -19,12 +18,10 @@ use Rattle.journal_check.specs.declared.verdict.Flaw.TheVariants as flaw
 use Rattle.journal_check.specs.declared.verdict.Verdict.{Verdict}
 use Rattle.journal_check.specs.declared.verdict.Verdict.TheVariants.{Lawful, Line}
 
--- The text is that of a lawful journal of the script, with so many updates. Its numbers have the
--- sizes that those of every program have.
+-- The text is that of a lawful journal of the script, with so many updates.
 pub record IsLawfulText (script : ScriptData) (text : List ℕ) (updates : ℕ) : Type 0 where
   pub journal : JournalData
   pub lawful : IsLawfulJournal script journal
-  pub sized : IsSized journal
   pub spelled : journal_text journal ≡ text
   pub counted : journal.updates ≡ updates
 
