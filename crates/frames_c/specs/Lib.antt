@@ -1,5 +1,4 @@
 pub mod Held
-pub mod Refusals
 pub mod Loads
 pub mod Fdes
 pub mod Rows

@@ -1,14 +1,7 @@
--- What reading leaves: a handle of the section, or why there is none.
-use Rattle.std.specs.Prelude.{◌≡◌, ℕ, ◌<◌, ◌^◌, List, length, Option, Some, None}
-use Rattle.frame_parse.specs.Sections.{SectionData, HasFdes}
+-- What reading leaves: a handle of the section.
+use Rattle.std.specs.Prelude.{◌≡◌, ℕ, List, Option, Some, None}
+use Rattle.c_sections.specs.Loads.{IsLoaded}
 use Rattle.frames_c.specs.Held.{LoadedData}
-
--- the bytes at an address are this section, whose places are numbers of four bytes
-pub record IsLoaded (address : ℕ) (bytes : List ℕ) (section : SectionData) : Type 0 where
-  pub address_kept : section.address ≡ address
-  pub bytes_kept : section.bytes ≡ bytes
-  pub found : HasFdes address bytes section.fdes
-  pub short : length bytes < 2 ^ 32
 
 -- it leads to that section
 abbrev pub LeadsToLoaded : ℕ → List ℕ → Option LoadedData → Type 0

@@ -1,18 +1,18 @@
 //! A section with its header is read in one call.
 
 ghost use Rattle.std.specs.Prelude.{◌≡◌, ◌⊎◌, ◌<◌, ◌^◌, length, true, false, IfOk, IfErr};
+ghost use Rattle.c_sections.specs.Refusals.{IsToldRefusal};
 ghost use Rattle.eh_hdr.specs.Headers.{IsHeader, IsRefusedHeader};
 ghost use Rattle.eh_hdr.specs.Tables.{IsSortedTable};
 ghost use Rattle.eh_hdr.specs.declared.fault.HeaderFault.TheVariants.{NoMemory};
 ghost use Rattle.frames_c.specs.Held.{IsVacant};
 ghost use Rattle.frames_c.specs.Loads.{LeadsToLoaded};
-ghost use Rattle.frames_c.specs.Refusals.{IsToldRefusal};
 ghost use Rattle.frames_c.specs.HeaderAnswers.{header_refused, IsHeaderTold, LeadsWithHeader};
 
 use crate::handle::SectionHandle;
-use crate::load::{read_section, shared};
-use crate::refusal::FramesRefusal;
+use crate::load::shared;
 use crate::share::LoadedSection;
+use c_sections::{FramesRefusal, read_section};
 use eh_hdr::{Header, HeaderFault, SearchTable};
 use frame_parse::Section;
 use std::alloc::Global;

@@ -2,30 +2,17 @@
 
 ghost use Rattle.std.specs.Prelude.{◌≡◌, true, false, length, None, IfOk, IfErr, IfSome};
 ghost use Rattle.frame_parse.specs.declared.fault.FrameFault.TheVariants.{NoMemory};
-ghost use Rattle.frames_c.specs.declared.refusal.LoadFault.TheVariants.{Frames};
+ghost use Rattle.c_sections.specs.declared.refusal.LoadFault.TheVariants.{Frames};
+ghost use Rattle.c_sections.specs.Loads.{IsLoaded};
+ghost use Rattle.c_sections.specs.Refusals.{IsLoadFault, IsToldRefusal};
 ghost use Rattle.frames_c.specs.Held.{IsHeld, IsVacant, held_section};
-ghost use Rattle.frames_c.specs.Loads.{IsLoaded, LeadsToLoaded, HasNoTable};
-ghost use Rattle.frames_c.specs.Refusals.{IsLoadFault, IsToldRefusal};
+ghost use Rattle.frames_c.specs.Loads.{LeadsToLoaded, HasNoTable};
 
 use crate::handle::SectionHandle;
-use crate::refusal::{FramesRefusal, LoadFault};
 use crate::share::{LoadedSection, SectionShare};
-use frame_parse::{FrameFault, Section};
+use c_sections::{FramesRefusal, LoadFault, read_section};
+use frame_parse::FrameFault;
 use std::alloc::Global;
-
-/// The section of bytes at an address.
-pub(crate) fn read_section(alloc: Global, address: u64, bytes: &[u8]) -> Result<Section, LoadFault>
-    ensures read { IfOk result (IsLoaded address bytes.now) }
-    ensures fault { IfErr result (IsLoadFault address bytes.now) }
-{
-    if bytes.len() > u32::MAX as usize {
-        return Err(LoadFault::Long);
-    }
-    match Section::read(alloc, address, bytes) {
-        Ok(section) => Ok(section),
-        Err(fault) => Err(LoadFault::Frames(fault)),
-    }
-}
 
 /// The first share of a section, in a box of its own.
 pub(crate) fn shared(

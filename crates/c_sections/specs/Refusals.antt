@@ -3,9 +3,9 @@ use Rattle.std.specs.Prelude.{◌≡◌, ◌⊎◌, ℕ, ◌<◌, ◌≤◌, ◌
 use Rattle.frame_parse.specs.declared.fault.FrameFault.{FrameFault}
 use Rattle.frame_parse.specs.declared.fault.FrameFault.TheVariants as faults
 use Rattle.frame_parse.specs.Sections.{IsRefused}
-use Rattle.frames_c.specs.declared.refusal.FramesRefusal.{FramesRefusal}
-use Rattle.frames_c.specs.declared.refusal.LoadFault.{LoadFault}
-use Rattle.frames_c.specs.declared.refusal.LoadFault.TheVariants.{Long, Frames}
+use Rattle.c_sections.specs.declared.refusal.FramesRefusal.{FramesRefusal}
+use Rattle.c_sections.specs.declared.refusal.LoadFault.{LoadFault}
+use Rattle.c_sections.specs.declared.refusal.LoadFault.TheVariants.{Long, Frames}
 
 -- a refusal by its kind, the first byte of its record, its place, and the byte or column refused
 abbrev pub refusal : ℕ → ℕ → ℕ → ℕ → FramesRefusal

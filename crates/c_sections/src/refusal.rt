@@ -1,7 +1,7 @@
 //! Why there is no section, as C is told.
 
 ghost use Rattle.std.specs.Prelude.{◌≡◌};
-ghost use Rattle.frames_c.specs.Refusals.{refusal_told, load_told};
+ghost use Rattle.c_sections.specs.Refusals.{refusal_told, load_told};
 
 use frame_parse::FrameFault;
 
@@ -18,7 +18,7 @@ pub struct FramesRefusal {
 
 /// Why there is no section.
 #[derive(Clone, Copy, Debug, PartialEq, Eq)]
-pub(crate) enum LoadFault {
+pub enum LoadFault {
     /// It has 2^32 bytes or more.
     Long,
     Frames(FrameFault),
@@ -36,7 +36,7 @@ impl FramesRefusal {
         }
     }
 
-    pub(crate) fn of(fault: FrameFault) -> FramesRefusal
+    fn of(fault: FrameFault) -> FramesRefusal
         ensures { result ≡ refusal_told fault }
     {
         match fault {
@@ -66,7 +66,8 @@ impl FramesRefusal {
         }
     }
 
-    pub(crate) fn of_load(fault: LoadFault) -> FramesRefusal
+    /// What C is told of it.
+    pub fn of_load(fault: LoadFault) -> FramesRefusal
         ensures { result ≡ load_told fault }
     {
         match fault {
