@@ -40,7 +40,7 @@ AnswersBoth t pc at answer k k' = (mid : CallerData)
 
 -- what is told of a member that was found
 abbrev pub hit_told : ℕ → Half → Member → ℕ → FdeFound
-hit_told low half m stamp = Hit half stamp m.span.first m.span.last (fde_address low m)
+hit_told low half m stamp = Hit half stamp m.span (fde_address low m)
 
 -- One try of each half was answered: a member of one was found, and its FDE is told; or neither has
 -- one, each at its own stamp.

@@ -1,6 +1,6 @@
 //! A reader, and its lookups.
 
-ghost use Rattle.std.specs.Prelude.{◌≡◌, Err, IfOk, IfErr, List};
+ghost use Rattle.std.specs.Prelude.{◌≡◌, Err, IfOk, IfErr, List, length};
 ghost use Rattle.std.specs.Arc.{arc_value};
 ghost use Rattle.array_publish.specs.Lookup.{LooksUp};
 ghost use Rattle.btree_lookup.specs.Tries.{TriesTree};
@@ -10,7 +10,7 @@ ghost use Rattle.word_rule.specs.Logs.{reader_log, reader_of};
 ghost use Rattle.fde_reader.specs.Readers.{AnswersHalf, FindsAgain, FindsFde, hit_told};
 
 use fde_members::fde_address;
-use reg_model::{Again, Found, Half, Member, NoMemory};
+use reg_model::{Again, Found, Half, Member, NoMemory, Span};
 use registry_core::Registry;
 use std::alloc::Global;
 use std::marker::Model;
@@ -24,8 +24,7 @@ pub enum FdeFound {
     Hit {
         half: Half,
         stamp: u32,
-        first: u64,
-        last: u64,
+        span: Span,
         fde: u64,
     },
     Miss {
@@ -41,8 +40,7 @@ impl FdeFound {
         FdeFound::Hit {
             half,
             stamp,
-            first: member.span.first(),
-            last: member.span.last(),
+            span: member.span,
             fde: fde_address(low, member),
         }
     }
@@ -79,6 +77,21 @@ impl FdeReader {
     {
         let me = registry.reader();
         FdeReader { registry, me, low }
+    }
+
+    /// A reader of a registry, by what it has seen.
+    pub fn of(registry: Arc<Registry, Global>, me: Reader, low: u64) -> FdeReader
+        requires { me.table ≡ (arc_value registry).table }
+        ensures { result ≡ record { words = arc_value registry; me = me; low = low } }
+    {
+        FdeReader { registry, me, low }
+    }
+
+    /// How many updates it has seen.
+    pub fn seen(&self) -> u32
+        ensures { result ≡ length self.now.me.log.past }
+    {
+        self.me.seen()
     }
 
     /// Another reader, which has seen what one has.

@@ -8,6 +8,7 @@ ghost use Rattle.btree_change.specs.Loads.{FoundNoRoom};
 ghost use Rattle.reg_model.specs.State.{IsLawful};
 ghost use Rattle.reg_model.specs.SpanData.{IsSpan};
 ghost use Rattle.reg_model.specs.declared.answer.Receipt.TheVariants as receipt;
+ghost use Rattle.word_rule.specs.Logs.{reader_of};
 ghost use Rattle.word_rule.specs.Places.{ALLOWANCE};
 ghost use Rattle.sole_writer.specs.Writers.{WriterAnswers, WriterStops, begun_call, plain_registry};
 
@@ -17,7 +18,7 @@ use registry_core::Registry;
 use std::alloc::Global;
 use std::marker::Model;
 use std::sync::Arc;
-use word_rule::Caller;
+use word_rule::{Caller, Reader};
 
 /// A registry and the only caller that updates it.
 #[derive(Drop)]
@@ -89,6 +90,18 @@ impl Writer {
             Ok(registry) => Ok(registry),
             Err(_) => Err(NoMemory),
         }
+    }
+
+    /// A reader that has seen what the writer has.
+    pub fn reader(&mut self) -> Reader
+        ensures reader { result ≡ record {
+          table = self.old.words.table;
+          left = 0;
+          log = reader_of self.old.me.log;
+        } }
+        ensures same { self.new ≡ self.old }
+    {
+        self.registry.reader_of(&mut self.me)
     }
 
     /// Whether a lock was found taken.
