@@ -1,0 +1,51 @@
+/* Updates take one mutex with all signals blocked, and a fork takes it too: so no lock of a library
+ * is ever held by a thread that a handler interrupted, or that a forked child doesn't have. That is
+ * why a lookup in either ends. */
+#define _GNU_SOURCE
+#include "dropin.h"
+#include <errno.h>
+#include <pthread.h>
+#include <signal.h>
+#include <stdio.h>
+#include <sys/syscall.h>
+#include <unistd.h>
+
+/* pthread_atfork's, whose last argument has the handlers go away when the library is finished. */
+int __register_atfork(void (*before)(void), void (*parent)(void), void (*child)(void), void *);
+
+/* The signals and the error number of the thread that has the mutex. */
+static pthread_mutex_t mutex = PTHREAD_MUTEX_INITIALIZER;
+static sigset_t blocked_before;
+static int error_before;
+static bool forks_are_watched;
+
+static void after_fork(void) {
+  renew_slots();
+  end_update();
+}
+
+void begin_update(void) {
+  int error = errno;
+  sigset_t all, before;
+  sigfillset(&all);
+  pthread_sigmask(SIG_SETMASK, &all, &before);
+  pthread_mutex_lock(&mutex);
+  blocked_before = before;
+  error_before = error;
+  if (!forks_are_watched)
+    forks_are_watched = !__register_atfork(begin_update, end_update, after_fork, NULL);
+}
+
+void end_update(void) {
+  sigset_t before = blocked_before;
+  errno = error_before;
+  pthread_mutex_unlock(&mutex);
+  pthread_sigmask(SIG_SETMASK, &before, NULL);
+}
+
+/* By no call at which a thread can be cancelled. */
+void say(const char *what, const void *where) {
+  char line[128];
+  int length = snprintf(line, sizeof line, "libfovradus_unwind: %s %p\n", what, where);
+  syscall(SYS_write, STDERR_FILENO, line, length);
+}

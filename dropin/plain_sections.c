@@ -1,0 +1,85 @@
+/* Sections that the proved library refuses: each a sorted list of its FDEs, asked last. */
+#include "dropin.h"
+
+struct plain {
+  struct leaving leaving;
+  _Atomic(struct plain *) next;
+  struct section section;
+  struct fde fdes[];
+};
+static _Atomic(struct plain *) first;
+
+static void sift(struct fde *fdes, size_t at, size_t count) {
+  for (size_t child; (child = 2 * at + 1) < count; at = child) {
+    if (child + 1 < count && fdes[child].first < fdes[child + 1].first) child++;
+    if (fdes[at].first >= fdes[child].first) return;
+    struct fde lower = fdes[at];
+    fdes[at] = fdes[child];
+    fdes[child] = lower;
+  }
+}
+
+/* By a heap, since the C library's qsort may take memory by malloc. */
+static void sort(struct fde *fdes, size_t count) {
+  for (size_t at = count / 2; at-- > 0;) sift(fdes, at, count);
+  for (size_t last = count; last-- > 1;) {
+    struct fde greatest = fdes[0];
+    fdes[0] = fdes[last];
+    fdes[last] = greatest;
+    sift(fdes, 0, last);
+  }
+  uint64_t reach = 0;
+  for (size_t at = 0; at < count; at++) {
+    uint64_t end = fdes[at].first + fdes[at].size;
+    fdes[at].reach = reach = end > reach ? end : reach;
+  }
+}
+
+bool put_plain(const struct section *section) {
+  struct plain *plain = take_memory(sizeof *plain + section->count * sizeof(struct fde));
+  if (plain == NULL) return false;
+  plain->section = *section;
+  read_fdes(&plain->section, plain->fdes);
+  sort(plain->fdes, plain->section.count);
+  atomic_init(&plain->next, atomic_load(&first));
+  atomic_store(&first, plain);
+  return true;
+}
+
+static void end_plain(struct leaving *plain) { give_memory(plain); }
+
+bool take_plain(const void *begin, void **ob) {
+  for (_Atomic(struct plain *) *at = &first; atomic_load(at) != NULL; at = &atomic_load(at)->next) {
+    struct plain *plain = atomic_load(at);
+    if (plain->section.begin != begin) continue;
+    *ob = plain->section.ob;
+    atomic_fetch_add(&takes, 1);
+    atomic_store(at, atomic_load(&plain->next));
+    plain->leaving.end = end_plain;
+    leave(&plain->leaving);
+    return true;
+  }
+  return false;
+}
+
+static const struct fde *search(const struct plain *plain, uint64_t pc) {
+  size_t low = 0, high = plain->section.count;
+  while (low < high) {
+    size_t middle = low + (high - low) / 2;
+    if (plain->fdes[middle].first <= pc) low = middle + 1;
+    else high = middle;
+  }
+  for (const struct fde *fde = plain->fdes + low; fde-- > plain->fdes && fde->reach > pc;)
+    if (pc - fde->first < fde->size) return fde;
+  return NULL;
+}
+
+const void *find_plain(uint64_t pc, struct dwarf_eh_bases *bases) {
+  for (struct plain *plain = atomic_load(&first); plain; plain = atomic_load(&plain->next)) {
+    const struct fde *fde = search(plain, pc);
+    if (fde == NULL) continue;
+    *bases = (struct dwarf_eh_bases){plain->section.text, plain->section.data, (void *)fde->first};
+    return fde->at;
+  }
+  return NULL;
+}

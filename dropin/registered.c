@@ -1,0 +1,55 @@
+/* Registered sections: in the libraries, or else plainly read. */
+#include "dropin.h"
+#include <string.h>
+
+/* All addresses that were ever registered are from the one on and before the other: a lookup of
+ * another address, as most frames of a throw have, asks nobody. */
+static _Atomic uint64_t lowest = UINT64_MAX, highest;
+_Atomic uint64_t takes;
+
+/* A miss is believed where nothing was begun to be taken out meanwhile: so who stands all the time
+ * is found, and an address is found that some section has at each moment. */
+const void *find_registered(uint64_t pc, struct dwarf_eh_bases *bases) {
+  if (pc < atomic_load(&lowest) || pc >= atomic_load(&highest)) return NULL;
+  const unsigned slot = lease();
+  const void *fde;
+  uint64_t before;
+  do {
+    before = atomic_load(&takes);
+    fde = find_in_libraries(slot, pc, bases);
+    if (fde == NULL) fde = find_plain(pc, bases);
+  } while (fde == NULL && atomic_load(&takes) != before);
+  give_back(slot);
+  return fde;
+}
+
+/* As in libgcc, what begins with a length of 0 isn't registered, and is given up without a word. */
+static bool is_empty(const void *begin) {
+  uint32_t length = 0;
+  if (begin != NULL) memcpy(&length, begin, sizeof length);
+  return length == 0;
+}
+
+void register_section(struct section section) {
+  if (is_empty(section.begin)) return;
+  read_fdes(&section, NULL);
+  const bool is_plain = section.is_array || section.text != NULL || section.data != NULL;
+  begin_update();
+  if (section.lowest < atomic_load(&lowest)) atomic_store(&lowest, section.lowest);
+  if (section.highest > atomic_load(&highest)) atomic_store(&highest, section.highest);
+  if ((is_plain || !put_section(&section)) && !put_plain(&section))
+    say("there is no memory to register", section.begin);
+  end_what_left();
+  end_update();
+}
+
+void *deregister_section(const void *begin) {
+  void *ob = NULL;
+  if (is_empty(begin)) return NULL;
+  begin_update();
+  if (!take_section(begin, &ob) && !take_plain(begin, &ob))
+    say("nothing is registered at", begin);
+  end_what_left();
+  end_update();
+  return ob;
+}
