@@ -1,6 +1,6 @@
-/* The keys of all sections that stand in libraries, each as often as it stands, in a table with open
- * addressing: a library that is full is emptied by them. A key for which there was no memory stays
- * where it is. */
+/* The keys of all sections that stand in libraries, each as often as it stands, in a table with
+ * open addressing: a library that is full is emptied by them. A key for which there was no memory
+ * stays where it is. */
 #include "dropin.h"
 #include <string.h>
 

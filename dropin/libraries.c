@@ -1,8 +1,10 @@
-/* The libraries that keep sections, in order: a section goes into the first that has room for it and
- * from which its FDEs are near. A full one is emptied into one eight times as large behind it, each
- * section put there before it is taken here: so a lookup, which goes along the list, finds it. */
+/* The libraries that keep sections, in order: a section goes into the first that has room for it
+ * and from which its FDEs are near. A full one is emptied into one eight times as large behind it,
+ * each section put there before it is taken here: so a lookup, which goes along the list, finds it.
+ * */
 #include "dropin.h"
 #include <sched.h>
+#include <stdalign.h>
 #include <string.h>
 
 enum { FEWEST_NODES = 64, MOST_NODES = 16384, TIMES = 8, MOST_LOADS = 1024, MOST_LIBRARIES = 14 };
@@ -11,18 +13,24 @@ enum { PATIENCE = 64 };
 static const uint64_t WINDOW = UINT32_MAX, HALF = (uint64_t)1 << 31, NEAR = -((uint64_t)1 << 31);
 
 struct library {
+  _Atomic(struct library *) next; /* which lookups read, apart from what updates write */
+  uint8_t apart[LINE - sizeof(void *)];
   struct leaving leaving;
-  _Atomic(struct library *) next;
   unwind_writer writer;
   unwind_limits limits;
   size_t sections;
-  uint32_t refuses; /* UNWIND_FULL or UNWIND_SPENT once it did, until a section is taken out; or 0 */
+  uint32_t refuses; /* UNWIND_FULL or UNWIND_SPENT, from then until a section is taken out; or 0 */
   struct {
     unwind_reader reader;
     uint8_t apart[LINE - sizeof(unwind_reader)];
   } slots[SLOTS];
 };
-static _Atomic(struct library *) first;
+static struct {
+  alignas(LINE) _Atomic(struct library *) library;
+} first;
+
+static struct library *first_library(void) { return atomic_load(&first.library); }
+static struct library *library_after(struct library *library) { return atomic_load(&library->next); }
 
 static bool make_reader(struct library *library, unsigned slot) {
   unwind_reader *reader = &library->slots[slot].reader;
@@ -31,7 +39,7 @@ static bool make_reader(struct library *library, unsigned slot) {
 }
 
 static void end_library(struct leaving *me) {
-  struct library *library = (struct library *)me;
+  struct library *library = (void *)((uint8_t *)me - offsetof(struct library, leaving));
   for (unsigned slot = 0; slot < SLOTS; slot++)
     if (library->slots[slot].reader.at) unwind_c_reader_drop(library->slots[slot].reader);
   unwind_c_drop(library->writer);
@@ -40,10 +48,10 @@ static void end_library(struct leaving *me) {
 
 static struct library *add_library(uint32_t nodes, uint64_t low) {
   const uint32_t loads = nodes < MOST_LOADS ? nodes : MOST_LOADS;
-  _Atomic(struct library *) *last = &first;
-  unsigned count = 0;
-  for (; atomic_load(last) != NULL; last = &atomic_load(last)->next) count++;
-  struct library *added = count < MOST_LIBRARIES ? take_memory(sizeof *added) : NULL;
+  _Atomic(struct library *) *last = &first.library;
+  unsigned libraries = 0;
+  for (; atomic_load(last) != NULL; last = &atomic_load(last)->next) libraries++;
+  struct library *added = libraries < MOST_LIBRARIES ? take_memory(sizeof *added) : NULL;
   if (added == NULL) return NULL;
   memset(added, 0, sizeof *added);
   added->limits = (unwind_limits){nodes, loads, low};
@@ -51,8 +59,9 @@ static struct library *add_library(uint32_t nodes, uint64_t low) {
     give_memory(added);
     return NULL;
   }
-  for (unsigned slot = 0; slot < SLOTS; slot++)
-    if (!make_reader(added, slot)) {
+  /* two that may share a line are of slots far from each other */
+  for (unsigned count = 0; count < SLOTS; count++)
+    if (!make_reader(added, count % 2 * (SLOTS / 2) + count / 2)) {
       end_library(&added->leaving);
       return NULL;
     }
@@ -62,7 +71,7 @@ static struct library *add_library(uint32_t nodes, uint64_t low) {
 
 static void drop_empty_ones(void) {
   struct library *library;
-  for (_Atomic(struct library *) *at = &first; (library = atomic_load(at)) != NULL;) {
+  for (_Atomic(struct library *) *at = &first.library; (library = atomic_load(at)) != NULL;) {
     if (library->sections == 0) {
       atomic_store(at, atomic_load(&library->next));
       library->leaving.end = end_library;
@@ -107,7 +116,7 @@ bool put_section(const struct section *section) {
     struct library *full = NULL;
     uint64_t low = section->distance - NEAR < WINDOW ? NEAR : section->distance - HALF;
     uint32_t nodes = FEWEST_NODES;
-    for (struct library *at = atomic_load(&first); at != NULL; at = atomic_load(&at->next)) {
+    for (struct library *at = first_library(); at != NULL; at = library_after(at)) {
       if (section->distance - at->limits.low >= WINDOW) continue;
       const uint32_t kind = put_into(at, section);
       if (kind == UNWIND_DONE) return true;
@@ -129,7 +138,7 @@ bool put_section(const struct section *section) {
 }
 
 bool take_section(const void *begin, void **ob) {
-  for (struct library *at = atomic_load(&first); at != NULL; at = atomic_load(&at->next)) {
+  for (struct library *at = first_library(); at != NULL; at = library_after(at)) {
     unwind_told told;
     atomic_fetch_add(&takes, 1);
     unwind_c_deregister(at->writer, (uintptr_t)begin, &told, &at->writer);
@@ -144,7 +153,7 @@ bool take_section(const void *begin, void **ob) {
 }
 
 const void *find_in_libraries(unsigned slot, uint64_t pc, struct dwarf_eh_bases *bases) {
-  for (struct library *at = atomic_load(&first); at != NULL; at = atomic_load(&at->next)) {
+  for (struct library *at = first_library(); at != NULL; at = library_after(at)) {
     unwind_reader *reader = &at->slots[slot].reader;
     unwind_found found;
     for (unsigned tries = 0;; tries++) {
@@ -162,7 +171,7 @@ const void *find_in_libraries(unsigned slot, uint64_t pc, struct dwarf_eh_bases 
 
 /* Those of a thread that a forked child doesn't have are left in the midst of a call. */
 bool renew_readers(unsigned slot) {
-  for (struct library *at = atomic_load(&first); at != NULL; at = atomic_load(&at->next))
+  for (struct library *at = first_library(); at != NULL; at = library_after(at))
     if (!make_reader(at, slot)) return false;
   return true;
 }

@@ -5,14 +5,15 @@
 #include <string.h>
 #include <sys/mman.h>
 
-/* Before each block stands its size with this head. One of a size below LARGE goes to the list of
- * its size when it is given back. No two blocks share a line: each lookup writes to its reader. */
+/* Before each block stands its size, with this head. Where that is below LARGE the block comes of a
+ * chunk, and goes to the list of its size when it is given back; else it is mapped by itself, one
+ * UNIT before its address. */
 struct head {
   size_t size;
-  struct head *next;
+  struct head *next; /* where the block begins, of one that was given back */
 };
-enum { PAGE = 4096, LARGE = 4096, CHUNK = 65536 };
-static struct head *given_back[LARGE / LINE];
+enum { HEAD = sizeof(size_t), UNIT = 16, PAGE = 4096, LARGE = PAGE, CHUNK = 16 * PAGE };
+static struct head *given_back[LARGE / UNIT];
 static uint8_t *chunk;
 static size_t chunk_left;
 
@@ -22,40 +23,45 @@ static void *map(size_t size) {
 }
 
 static struct head *take_small(size_t size) {
-  struct head *head = given_back[size / LINE];
+  struct head *head = given_back[size / UNIT];
   if (head != NULL) {
-    given_back[size / LINE] = head->next;
+    given_back[size / UNIT] = head->next;
     return head;
   }
   if (chunk_left < size) {
     uint8_t *more = map(CHUNK);
     if (more == NULL) return NULL;
-    chunk = more;
-    chunk_left = CHUNK;
+    chunk = more + UNIT - HEAD;
+    chunk_left = CHUNK - UNIT;
   }
   chunk_left -= size;
   return (struct head *)(chunk + chunk_left);
 }
 
-/* A block with a multiple of 16 as its address; NULL where there is no memory. */
+static struct head *take_large(size_t size) {
+  uint8_t *at = map(size);
+  return at != NULL ? (struct head *)(at + UNIT - HEAD) : NULL;
+}
+
+/* A block with a multiple of UNIT as its address; NULL where there is no memory. */
 void *take_memory(size_t size) {
-  if (size > PTRDIFF_MAX - PAGE) return NULL;
-  size_t step = size + sizeof(struct head) < LARGE ? LINE : PAGE;
-  size_t whole = (size + sizeof(struct head) + step - 1) / step * step;
-  struct head *head = whole < LARGE ? take_small(whole) : map(whole);
+  if (size > PTRDIFF_MAX - 2 * PAGE) return NULL;
+  size_t whole = (size + HEAD + UNIT - 1) / UNIT * UNIT;
+  if (whole >= LARGE) whole = (size + UNIT + PAGE - 1) / PAGE * PAGE;
+  struct head *head = whole < LARGE ? take_small(whole) : take_large(whole);
   if (head == NULL) return NULL;
   head->size = whole;
-  return head + 1;
+  return &head->next;
 }
 
 void give_memory(void *block) {
-  struct head *head = (struct head *)block - 1;
+  struct head *head = (struct head *)((uint8_t *)block - HEAD);
   if (head->size >= LARGE) {
-    munmap(head, head->size);
+    munmap((uint8_t *)block - UNIT, head->size);
     return;
   }
-  head->next = given_back[head->size / LINE];
-  given_back[head->size / LINE] = head;
+  head->next = given_back[head->size / UNIT];
+  given_back[head->size / UNIT] = head;
 }
 
 /* The three functions by which a Rattle library takes memory. What isn't there is still a pointer,
@@ -77,7 +83,7 @@ struct tried rattle_alloc(size_t size, size_t alignment) {
 
 struct tried rattle_realloc(void *block, size_t kept, size_t size, size_t alignment) {
   struct tried tried = {true, block};
-  if (size + sizeof(struct head) <= ((struct head *)block - 1)->size) return tried;
+  if (size + UNIT <= ((struct head *)((uint8_t *)block - HEAD))->size) return tried;
   tried = rattle_alloc(size, alignment);
   if (tried.ok) {
     memcpy(tried.at, block, kept);

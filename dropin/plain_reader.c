@@ -62,7 +62,8 @@ const uint8_t *read_pointer(uint8_t encoding, const uint8_t *at, const struct se
 
 /* How a CIE's FDEs write their addresses. */
 static uint8_t encoding_of(const uint8_t *cie) {
-  const uint8_t version = cie[8], *letter = cie + 9, *at = letter + strlen((const char *)letter) + 1;
+  const uint8_t version = cie[8], *letter = cie + 9;
+  const uint8_t *at = letter + strlen((const char *)letter) + 1;
   uint64_t passed;
   if (version >= 4) {
     if (at[0] != sizeof(void *) || at[1] != 0) return OMIT;
@@ -84,8 +85,8 @@ static uint8_t encoding_of(const uint8_t *cie) {
     }
 }
 
-/* Reads a record, and goes past it; false at the end. A CIE has no addresses, and neither has an FDE
- * that a linker threw away, whose first address is 0 as far as it was written. */
+/* Reads a record, and goes past it; false at the end. A CIE has no addresses, and neither has an
+ * FDE that a linker threw away, whose first address is 0 as far as it was written. */
 bool next_record(const uint8_t **at, const struct section *of, struct fde *fde) {
   const uint8_t *record = *at;
   uint32_t length;
@@ -106,7 +107,8 @@ bool next_record(const uint8_t **at, const struct section *of, struct fde *fde) 
 
 /* Tells what a section has, and writes its FDEs where there is a list for them. */
 void read_fdes(struct section *section, struct fde *into) {
-  const void *const *list = section->is_array ? section->begin : (const void *[]){section->begin, 0};
+  const void *const one[] = {section->begin, NULL};
+  const void *const *list = section->is_array ? section->begin : one;
   section->count = 0;
   section->lowest = UINT64_MAX;
   section->highest = section->distance = 0;

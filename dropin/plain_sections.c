@@ -9,25 +9,17 @@ struct plain {
 };
 static _Atomic(struct plain *) first;
 
-static void sift(struct fde *fdes, size_t at, size_t count) {
-  for (size_t child; (child = 2 * at + 1) < count; at = child) {
-    if (child + 1 < count && fdes[child].first < fdes[child + 1].first) child++;
-    if (fdes[at].first >= fdes[child].first) return;
-    struct fde lower = fdes[at];
-    fdes[at] = fdes[child];
-    fdes[child] = lower;
-  }
-}
-
-/* By a heap, since the C library's qsort may take memory by malloc. */
+/* Shell's way, since the C library's qsort may take memory by malloc. */
 static void sort(struct fde *fdes, size_t count) {
-  for (size_t at = count / 2; at-- > 0;) sift(fdes, at, count);
-  for (size_t last = count; last-- > 1;) {
-    struct fde greatest = fdes[0];
-    fdes[0] = fdes[last];
-    fdes[last] = greatest;
-    sift(fdes, 0, last);
-  }
+  size_t gap = 1;
+  while (gap < count / 3) gap = 3 * gap + 1;
+  for (; gap > 0; gap /= 3)
+    for (size_t next = gap; next < count; next++) {
+      const struct fde fde = fdes[next];
+      size_t at = next;
+      for (; at >= gap && fdes[at - gap].first > fde.first; at -= gap) fdes[at] = fdes[at - gap];
+      fdes[at] = fde;
+    }
   uint64_t reach = 0;
   for (size_t at = 0; at < count; at++) {
     uint64_t end = fdes[at].first + fdes[at].size;

@@ -1,16 +1,19 @@
 /* Registered sections: in the libraries, or else plainly read. */
 #include "dropin.h"
+#include <stdalign.h>
 #include <string.h>
 
 /* All addresses that were ever registered are from the one on and before the other: a lookup of
  * another address, as most frames of a throw have, asks nobody. */
-static _Atomic uint64_t lowest = UINT64_MAX, highest;
-_Atomic uint64_t takes;
+static struct {
+  alignas(LINE) _Atomic uint64_t lowest, highest;
+} bounds = {.lowest = UINT64_MAX};
+alignas(LINE) _Atomic uint64_t takes;
 
 /* A miss is believed where nothing was begun to be taken out meanwhile: so who stands all the time
  * is found, and an address is found that some section has at each moment. */
 const void *find_registered(uint64_t pc, struct dwarf_eh_bases *bases) {
-  if (pc < atomic_load(&lowest) || pc >= atomic_load(&highest)) return NULL;
+  if (pc < atomic_load(&bounds.lowest) || pc >= atomic_load(&bounds.highest)) return NULL;
   const unsigned slot = lease();
   const void *fde;
   uint64_t before;
@@ -35,8 +38,8 @@ void register_section(struct section section) {
   read_fdes(&section, NULL);
   const bool is_plain = section.is_array || section.text != NULL || section.data != NULL;
   begin_update();
-  if (section.lowest < atomic_load(&lowest)) atomic_store(&lowest, section.lowest);
-  if (section.highest > atomic_load(&highest)) atomic_store(&highest, section.highest);
+  if (section.lowest < bounds.lowest) atomic_store(&bounds.lowest, section.lowest);
+  if (section.highest > bounds.highest) atomic_store(&bounds.highest, section.highest);
   if ((is_plain || !put_section(&section)) && !put_plain(&section))
     say("there is no memory to register", section.begin);
   end_what_left();

@@ -1,5 +1,5 @@
--- errors.lua ERRORS: errors that pass compiled and interpreted frames, a C function (string.gsub) and
--- coroutines; each is caught with its own value.
+-- errors.lua ERRORS: errors that pass compiled and interpreted frames, a C function (string.gsub)
+-- and coroutines; each is caught with its own value.
 local errors = tonumber(arg[1]) or 20000
 
 local function go_down(depth, value)

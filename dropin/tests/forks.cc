@@ -1,6 +1,6 @@
-// forks CHILDREN: a thread that throws forks so many children, beside two threads that throw and one
-// that registers and gives up without pause. Each child throws, starts a thread that throws, registers
-// and gives up; one that doesn't end within two seconds hangs. Prints how many hang.
+// forks CHILDREN: a thread that throws forks so many children, beside two threads that throw and
+// one that registers and gives up without pause. Each child throws, starts a thread that throws,
+// registers and gives up; one that doesn't end within two seconds hangs. Prints how many hang.
 #include "generated.h"
 #include <atomic>
 #include <csignal>

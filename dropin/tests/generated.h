@@ -38,15 +38,15 @@ inline void check(bool is_right, const char *what, long number = 0) {
   if (!is_right) fail(what, number);
 }
 
-// A preloaded library that isn't there is left out with a word alone: so UNDER says what is meant to
-// be tested, the drop-in or libgcc, and it is asked for.
+// A preloaded library that isn't there is left out with a word alone: so UNDER says what is meant
+// to be tested, the drop-in or libgcc, and it is asked for.
 inline bool is_drop_in() {
   const char *under = std::getenv("UNDER");
   Dl_info info = {};
-  check(under != nullptr, "UNDER has to say libgcc or drop-in");
+  check(under != nullptr, "UNDER has to say libgcc, drop-in or linked");
   check(dladdr(reinterpret_cast<void *>(_Unwind_Find_FDE), &info) != 0, "whose lookup is it?");
   bool is = std::strstr(info.dli_fname, "libgcc_s") == nullptr;
-  check(is == !std::strcmp(under, "drop-in"), info.dli_fname);
+  check(is == (std::strcmp(under, "libgcc") != 0), info.dli_fname);
   return is;
 }
 
@@ -139,7 +139,8 @@ public:
     return cie_;
   }
 
-  // Of the generated code at an address, or of any other with so many bytes. Returns where it stands.
+  // Of the generated code at an address, or of any other with so many bytes. Returns where it
+  // stands.
   uint8_t *fde(const void *first, uint64_t size = sizeof code_bytes) {
     uint8_t *record = begin_record();
     put<uint32_t>(uint32_t(at_ - cie_));

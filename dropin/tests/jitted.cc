@@ -1,5 +1,6 @@
-// jitted THROWS: a program for LLVM's lli, which compiles it while it runs: two threads throw through
-// ten frames, so often, and count every value and destructor. It knows nothing of a registry.
+// jitted THROWS: a program for LLVM's lli, which compiles it while it runs: two threads throw
+// through ten frames, so often, and count every value and destructor. It knows nothing of a
+// registry.
 #include <cstdio>
 #include <cstdlib>
 #include <thread>

@@ -1,6 +1,6 @@
-// loaded FOLDER TURNS: loads FOLDER/loaded_library.so, throws across its callback, and unloads it, so
-// many times, beside a thread that throws through registered sections and one that registers and gives
-// up. The address of the library's function has no FDE when it is unloaded.
+// loaded FOLDER TURNS: loads FOLDER/loaded_library.so, throws across its callback, and unloads it,
+// so many times, beside a thread that throws through registered sections and one that registers and
+// gives up. The address of the library's function has no FDE when it is unloaded.
 #include "generated.h"
 #include <atomic>
 #include <string>
@@ -22,7 +22,8 @@ int main(int count, char **words) {
   is_drop_in();
   functions.put_all();
   std::thread thrower_thread([] {
-    for (uint64_t done = 0; !stop; done++) throw_through(functions.code(done % functions.count), done);
+    for (uint64_t done = 0; !stop; done++)
+      throw_through(functions.code(done % functions.count), done);
   });
   std::thread churner([] {
     for (uint64_t done = 0; !stop; done++) own.put(done % own.count), own.take(done % own.count);

@@ -1,5 +1,5 @@
-// many_threads THREADS: so many threads, a hundred at a time, with one throw each through a registered
-// section. Memory doesn't grow by them.
+// many_threads THREADS: so many threads, a hundred at a time, with one throw each through a
+// registered section. Memory doesn't grow by them.
 #include "generated.h"
 #include <thread>
 #include <unistd.h>

@@ -1,6 +1,6 @@
 // no_memory: registers sections while so little address space is left that memory runs out in the
-// midst, in a child for each of many limits. Those that are registered are found, the others are not,
-// none is lost while memory runs out, and all goes on when there is memory again.
+// midst, in a child for each of many limits. Those that are registered are found, the others are
+// not, none is lost while memory runs out, and all goes on when there is memory again.
 #include "generated.h"
 #include <sys/resource.h>
 #include <sys/wait.h>

@@ -1,8 +1,9 @@
-// profiler MILLISECONDS: a signal each half of a millisecond interrupts one of five threads in turn:
-// one that runs within generated code, two that throw through it, one that registers and gives up
-// without pause, and one that does either. In the first one's handler the stack is walked, and each
-// walk reaches its first function, through the generated code. In the others' addresses are looked up
-// in the midst of lookups and updates: libgcc's own walk can't begin in the midst of a throw.
+// profiler MILLISECONDS: a signal each half of a millisecond interrupts one of five threads in
+// turn: one that runs within generated code, two that throw through it, one that registers and
+// gives up without pause, and one that does either. In the first one's handler the stack is walked,
+// and each walk reaches its first function, through the generated code. In the others' addresses
+// are looked up in the midst of lookups and updates: libgcc's own walk can't begin in the midst of
+// a throw.
 #include "generated.h"
 #include <atomic>
 #include <cerrno>
@@ -38,8 +39,9 @@ static uint64_t spin(uint64_t value) {
   for (; !stop; done++) {
     const size_t at = next(state) % functions.count;
     if (number == 0) check(functions.code(at)(spin, done) == done + 1, "another answer");
-    if (number == 1 || number == 2 || (number == 4 && done % 2)) throw_through(functions.code(at), done);
-    if (number == 3 || (number == 4 && done % 2 == 0)) own.put(done % 8), own.take(done % 8);
+    const bool throws = number == 1 || number == 2 || (number == 4 && done % 2);
+    if (throws) throw_through(functions.code(at), done);
+    else if (number > 0) own.put(done % own.count), own.take(done % own.count);
   }
 }
 

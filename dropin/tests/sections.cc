@@ -1,6 +1,6 @@
-// sections: what is registered and given up, by tens of small cases, one after another; each leaves
-// nothing behind. Where libgcc 12 loses frames by its form, or ends the program, a case is asked of
-// the drop-in alone, which is said.
+// sections [MANY]: what is registered and given up, by small cases, one after another, of which
+// each leaves nothing behind, and at last by 120,000 sections or so many. Where libgcc 12 loses
+// frames by its form, or ends the program, a case is asked of the drop-in alone, which is said.
 #include "generated.h"
 #include <vector>
 
@@ -252,15 +252,17 @@ static void far_ones() {
   for (auto *begin : begins) __register_frame(begin);
   for (auto &[fde, place] : placed) check(finds(place + 5, fde, place), "a far one", place - code);
   for (auto *begin : begins) __deregister_frame(begin);
-  for (auto &[fde, place] : placed) check(finds(place + 5, nullptr, nullptr), "a far one, given up");
+  for (auto &one : placed) check(finds(one.second + 5, nullptr, nullptr), "a far one, given up");
   std::free(heap);
 }
 
+static size_t how_many = 120000;
+
 static void many() {
-  enum : size_t { MANY = 120000 };
-  const Functions functions(MANY);
+  const size_t all = how_many;
+  const Functions functions(all);
   auto all_are = [&](auto stands, const char *what) {
-    for (size_t i = 0; i < MANY; i++) {
+    for (size_t i = 0; i < all; i++) {
       const uint8_t *fde = functions.section(i) + 24;
       check(finds(functions.address(i) + i % 16, stands(i) ? fde : nullptr, functions.address(i)),
             what, long(i));
@@ -270,13 +272,13 @@ static void many() {
   functions.put_all();
   double put = seconds() - from;
   all_are([](size_t) { return true; }, "all of many");
-  for (size_t i = 0; i < MANY; i += 2) functions.take(i * 7919 % MANY / 2 * 2);
+  for (size_t i = 0; i < all; i += 2) functions.take(i * 7919 % all / 2 * 2);
   all_are([](size_t i) { return i % 2 == 1; }, "each second one of many");
-  for (size_t i = 0; i < MANY; i += 2) functions.put(i);
+  for (size_t i = 0; i < all; i += 2) functions.put(i);
   all_are([](size_t) { return true; }, "all of many, once more");
-  for (size_t i = MANY; i-- > 0;) functions.take(i);
+  for (size_t i = all; i-- > 0;) functions.take(i);
   all_are([](size_t) { return false; }, "none of many");
-  std::printf("  %d sections: %.2f us to register one\n", int(MANY), put / MANY * 1e6);
+  std::printf("  %zu sections: %.2f us to register one\n", all, put / double(all) * 1e6);
 }
 
 static void loaded_ones() {
@@ -290,8 +292,9 @@ static void loaded_ones() {
   check(finds(nullptr, nullptr, nullptr), "address 0 has no FDE");
 }
 
-int main() {
+int main(int count, char **words) {
   drop_in = is_drop_in();
+  if (count > 1) how_many = std::strtoul(words[1], nullptr, 10);
   static const struct {
     const char *name;
     void (*run)();
@@ -314,7 +317,7 @@ int main() {
       {"unknown ones given up", unknown_ones, false},
       {"far from their code", far_ones, true},
       {"loaded objects", loaded_ones, true},
-      {"120,000 sections", many, false},
+      {"many sections", many, false},
   };
   for (auto &one : cases) {
     bool is_asked = drop_in || one.of_libgcc;

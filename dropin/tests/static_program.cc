@@ -1,5 +1,5 @@
-// static_program THROWS: a static program, whose whole section its start-up code registers. It throws
-// through compiled and generated code, in one thread and in four, beside one that registers.
+// static_program THROWS: a static program, whose whole section its start-up code registers. It
+// throws through compiled and generated code, in one thread and in four, beside one that registers.
 #include "generated.h"
 #include <atomic>
 #include <thread>
