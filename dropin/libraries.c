@@ -30,7 +30,7 @@ static struct {
 } first;
 
 static struct library *first_library(void) { return atomic_load(&first.library); }
-static struct library *library_after(struct library *library) { return atomic_load(&library->next); }
+static struct library *next_library(struct library *library) { return atomic_load(&library->next); }
 
 static bool make_reader(struct library *library, unsigned slot) {
   unwind_reader *reader = &library->slots[slot].reader;
@@ -116,7 +116,7 @@ bool put_section(const struct section *section) {
     struct library *full = NULL;
     uint64_t low = section->distance - NEAR < WINDOW ? NEAR : section->distance - HALF;
     uint32_t nodes = FEWEST_NODES;
-    for (struct library *at = first_library(); at != NULL; at = library_after(at)) {
+    for (struct library *at = first_library(); at != NULL; at = next_library(at)) {
       if (section->distance - at->limits.low >= WINDOW) continue;
       const uint32_t kind = put_into(at, section);
       if (kind == UNWIND_DONE) return true;
@@ -138,7 +138,7 @@ bool put_section(const struct section *section) {
 }
 
 bool take_section(const void *begin, void **ob) {
-  for (struct library *at = first_library(); at != NULL; at = library_after(at)) {
+  for (struct library *at = first_library(); at != NULL; at = next_library(at)) {
     unwind_told told;
     atomic_fetch_add(&takes, 1);
     unwind_c_deregister(at->writer, (uintptr_t)begin, &told, &at->writer);
@@ -153,7 +153,7 @@ bool take_section(const void *begin, void **ob) {
 }
 
 const void *find_in_libraries(unsigned slot, uint64_t pc, struct dwarf_eh_bases *bases) {
-  for (struct library *at = first_library(); at != NULL; at = library_after(at)) {
+  for (struct library *at = first_library(); at != NULL; at = next_library(at)) {
     unwind_reader *reader = &at->slots[slot].reader;
     unwind_found found;
     for (unsigned tries = 0;; tries++) {
@@ -171,7 +171,7 @@ const void *find_in_libraries(unsigned slot, uint64_t pc, struct dwarf_eh_bases 
 
 /* Those of a thread that a forked child doesn't have are left in the midst of a call. */
 bool renew_readers(unsigned slot) {
-  for (struct library *at = first_library(); at != NULL; at = library_after(at))
+  for (struct library *at = first_library(); at != NULL; at = next_library(at))
     if (!make_reader(at, slot)) return false;
   return true;
 }

@@ -243,7 +243,7 @@ static void far_ones() {
   uint8_t *heap = static_cast<uint8_t *>(std::malloc(WINDOWS * EACH * 128)), *at = heap;
   for (int window = 0; window < WINDOWS; window++)
     for (int i = 0; i < EACH; i++) {
-      uint8_t *place = code + ((uint64_t(window) << 33) + 64 * i) - (uint64_t(1) << 40);
+      uint8_t *place = code + ((uint64_t(window) << 33) + 64 * i) + (uint64_t(1) << 40);
       Section writer(at);
       begins.push_back(writer.cie({1, "", 0}));
       placed.emplace_back(writer.fde(place, 48), place);
