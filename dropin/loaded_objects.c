@@ -1,45 +1,59 @@
-/* FDEs of loaded objects. The C library's list of them takes no lock, and a linker leaves a sorted
- * table in each: 'header, FDE' in four signed bytes each, from the header's address. */
+/* FDEs of loaded objects. The C library's list of them takes no lock, and linkers leave a sorted
+ * table in each. */
 #define _GNU_SOURCE
 #include "dropin.h"
 #include <dlfcn.h>
+#include <string.h>
 
-enum { VERSION = 1, NO_TABLE = 0xff, SORTED_TABLE = 0x3b };
-struct entry {
-  int32_t first, fde;
+/* The header of the table, as all linkers write it, and the table: both numbers of an entry count
+ * from the header on. */
+struct header {
+  uint8_t version, frames_encoding, count_encoding, table_encoding;
+  int32_t frames;
+  uint32_t count;
+  struct entry {
+    int32_t first, fde;
+  } table[];
 };
+static const struct header usual = {1, 0x1b, 0x03, 0x3b, 0, 0, {}};
+
+static const struct section no_bases;
 
 static const void *told(const struct fde *fde, struct dwarf_eh_bases *bases) {
   *bases = (struct dwarf_eh_bases){NULL, NULL, (void *)fde->first};
   return fde->at;
 }
 
+/* Where the table is missing, or has another form. */
+static const void *search_frames(uint64_t pc, const uint8_t *at, struct dwarf_eh_bases *bases) {
+  struct fde fde;
+  while (next_record(&at, &no_bases, &fde))
+    if (pc - fde.first < fde.size) return told(&fde, bases);
+  return NULL;
+}
+
 const void *find_loaded(uint64_t pc, struct dwarf_eh_bases *bases) {
-  static const struct section none;
   struct dl_find_object object;
   struct fde fde;
-  uint64_t frames, count = 0;
+  uint64_t frames;
   if (_dl_find_object((void *)pc, &object) != 0) return NULL;
-  const uint8_t *header = object.dlfo_eh_frame;
-  if (header == NULL || header[0] != VERSION) return NULL;
-  const uint8_t *at = read_pointer(header[1], header + 4, &none, &frames);
-  if (at == NULL) return NULL;
-  if (header[2] != NO_TABLE && header[3] == SORTED_TABLE)
-    at = read_pointer(header[2], at, &none, &count);
-  if (count == 0 || at == NULL || (uintptr_t)at % sizeof(int32_t) != 0) {
-    for (at = (const uint8_t *)frames; next_record(&at, &none, &fde);)
-      if (pc - fde.first < fde.size) return told(&fde, bases);
+  const struct header *header = object.dlfo_eh_frame;
+  if (header == NULL || header->version != usual.version) return NULL;
+  if (memcmp(header, &usual, offsetof(struct header, frames)) != 0 || header->count == 0) {
+    if (read_pointer(header->frames_encoding, (const uint8_t *)&header->frames, &no_bases, &frames))
+      return search_frames(pc, (const uint8_t *)frames, bases);
     return NULL;
   }
-  const struct entry *table = (const struct entry *)at;
   const int64_t wanted = (int64_t)(pc - (uintptr_t)header);
-  size_t low = 0;
-  while (count > 1) {
-    size_t half = count / 2;
-    low = table[low + half].first <= wanted ? low + half : low;
-    count -= half;
+  const struct entry *low = header->table, *high = low + header->count - 1;
+  if (wanted >= high->first) low = high;
+  while (low < high) {
+    const struct entry *middle = low + (high - low) / 2;
+    if (wanted < middle->first) high = middle;
+    else if (wanted >= middle[1].first) low = middle + 1;
+    else low = high = middle;
   }
-  at = header + table[low].fde;
-  next_record(&at, &none, &fde);
+  const uint8_t *at = (const uint8_t *)header + low->fde;
+  next_record(&at, &no_bases, &fde);
   return pc - fde.first < fde.size ? told(&fde, bases) : NULL;
 }

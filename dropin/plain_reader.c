@@ -31,14 +31,19 @@ static const uint8_t *read_leb128(const uint8_t *at, bool is_signed, uint64_t *v
     return at + sizeof number;              \
   } while (0)
 
-/* The byte after a number; NULL where its format isn't known. */
+static const uint8_t *skip_leb128(const uint8_t *at) {
+  while (*at++ & 0x80) continue;
+  return at;
+}
+
+/* The byte after a number; NULL where its format isn't known. Compilers write SDATA4. */
 static const uint8_t *read_number(uint8_t encoding, const uint8_t *at, uint64_t *value) {
+  if ((encoding & FORMAT) == SDATA4) READ(int32_t);
   switch (encoding == OMIT ? FORMAT : encoding & FORMAT) {
     case ULEB128: case SLEB128: return read_leb128(at, (encoding & FORMAT) == SLEB128, value);
     case UDATA2: READ(uint16_t);
     case SDATA2: READ(int16_t);
     case UDATA4: READ(uint32_t);
-    case SDATA4: READ(int32_t);
     case ABSPTR: case UDATA8: case SDATA8: READ(uint64_t);
     default: return NULL;
   }
@@ -70,9 +75,9 @@ static uint8_t encoding_of(const uint8_t *cie) {
     at += 2;
   }
   if (*letter != 'z') return ABSPTR;
-  at = read_leb128(read_leb128(at, false, &passed), true, &passed);    /* both factors */
-  at = version == 1 ? at + 1 : read_leb128(at, false, &passed);        /* the return address */
-  at = read_leb128(at, false, &passed);                                /* the length of all that */
+  at = skip_leb128(skip_leb128(at));                  /* both factors */
+  at = version == 1 ? at + 1 : skip_leb128(at);       /* the return address */
+  at = skip_leb128(at);                               /* the length of what the letters say */
   for (;;) switch (*++letter) {
       case 'R': return *at;
       case 'L': at++; break;
