@@ -1,7 +1,6 @@
 /* The libraries that keep sections, in order: a section goes into the first that has room for it
  * and from which its FDEs are near. A full one is emptied into one eight times as large behind it,
- * each section put there before it is taken here: so a lookup, which goes along the list, finds it.
- * */
+ * each section put there before it is taken here: so a lookup, which goes along them, finds it. */
 #include "dropin.h"
 #include <sched.h>
 #include <stdalign.h>
@@ -30,7 +29,7 @@ static struct {
 } first;
 
 static struct library *first_library(void) { return atomic_load(&first.library); }
-static struct library *next_library(struct library *library) { return atomic_load(&library->next); }
+static struct library *next_library(struct library *at) { return atomic_load(&at->next); }
 
 static bool make_reader(struct library *library, unsigned slot) {
   unwind_reader *reader = &library->slots[slot].reader;
