@@ -1,5 +1,5 @@
-// modules TURNS: four threads, each with a compiler of LLVM's ORC, add a module of a function, throw
-// through it and remove it, so often.
+// modules TURNS: four threads, each with a compiler of LLVM's ORC, add a module of a function,
+// throw through it and remove it, so often.
 #include "generated.h"
 #include <llvm-c/Core.h>
 #include <llvm-c/IRReader.h>
@@ -42,7 +42,8 @@ static void run(int turns) {
     LLVMOrcJITTargetAddress address;
     is_done(LLVMOrcLLJITAddLLVMIRModuleWithRT(compiler, tracker, read_module()));
     is_done(LLVMOrcLLJITLookup(compiler, &address, "code"));
-    for (int i = 0; i < 5; i++) throw_through(reinterpret_cast<Code *>(address), uint64_t(turn + i));
+    auto *code = reinterpret_cast<Code *>(address);
+    for (int i = 0; i < 5; i++) throw_through(code, uint64_t(turn + i));
     is_done(LLVMOrcResourceTrackerRemove(tracker));
     LLVMOrcReleaseResourceTracker(tracker);
   }
