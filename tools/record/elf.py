@@ -14,9 +14,11 @@ HEADER_BYTES = 64
 SEGMENT_BYTES = 56
 SECTION_BYTES = 64
 SEGMENT_LOAD = 1
+SEGMENT_NOTE = 4
 SEGMENT_EH_FRAME_HDR = 0x6474e550
 SECTION_ALLOCATED = 2
 MACHINE_X86_64 = 62
+NOTE_BUILD_ID = 3
 
 
 class NotFound(Exception):
@@ -70,11 +72,14 @@ class Space:
 
 
 class Object:
-    """An object in memory: its file's path, its segments, its bias, and its addresses."""
+    """An object in memory: its file's path and build, its segments, its bias, and its addresses."""
+
+    functions = {}  # its file tells them
 
     def __init__(self, path, header, segments, bias):
         loads = [segment for segment in segments if segment.kind == SEGMENT_LOAD]
         self.path = path
+        self.build = None
         self.header = header
         self.segments = segments
         self.loads = loads
@@ -107,6 +112,32 @@ def segments_of(data, count):
     return found
 
 
+def build_in(notes):
+    """The number that the linker gave the build, as digits, among a segment's notes, or None."""
+    start = 0
+    while start + 12 <= len(notes):
+        name_bytes, count, kind = struct.unpack_from("<III", notes, start)
+        name = notes[start + 12:start + 12 + name_bytes]
+        start += 12 + (name_bytes + 3) // 4 * 4
+        if kind == NOTE_BUILD_ID and name == b"GNU\0":
+            return notes[start:start + count].hex()
+        start += (count + 3) // 4 * 4
+    return None
+
+
+def build_of(space, found):
+    """The number of an object's build, or None."""
+    for segment in found.segments:
+        if segment.kind == SEGMENT_NOTE:
+            try:
+                build = build_in(space.read(found.bias + segment.address, segment.memory_bytes))
+            except NotFound:
+                build = None
+            if build:
+                return build
+    return None
+
+
 def object_at(space, start, path):
     """The object whose ELF header is mapped at `start`; None where it is none of x86-64."""
     try:
@@ -124,7 +155,9 @@ def object_at(space, start, path):
     first = [s for s in segments if s.kind == SEGMENT_LOAD and s.offset < PAGE]
     if not first:
         return None
-    return Object(path, header, segments, start - (first[0].address - first[0].offset))
+    found = Object(path, header, segments, start - (first[0].address - first[0].offset))
+    found.build = build_of(space, found)
+    return found
 
 
 def is_loaded(space, found):

@@ -5,8 +5,8 @@
     gdb -batch -p PID -x tools/record/record.py -ex 'stack-script NAME.script raise'
 
 The selected thread's stack, or those of all threads; with `raise` also the tables of call sites of
-its functions. Also writes NAME.frames, the frames as gdb unwinds them. README.md says what is in
-both.
+its functions. Also writes NAME.frames, the frames as gdb unwinds them, and NAME.images, where each
+image came from. README.md says what is in them.
 """
 
 import os
@@ -23,6 +23,7 @@ from eh_frame import SECTION_BYTES, read_section
 from elf import Mapping, NotFound, Space, objects_of, section_of
 from expressions import NoBytes
 from generated import Damaged, code_of, entries_of
+from images import Origin, origin_lines
 from script import MEMORY_BYTES, SCRIPT_BYTES, script_lines
 from stack import SAVED_BYTES, stack_ranges
 from tables import tables_of
@@ -165,14 +166,18 @@ def image_of(found, section, looks):
 
 
 def images_of(pairs, looks):
-    """The images of the objects."""
-    images = []
+    """The images of the objects, and where each came from."""
+    images, origins = [], []
     for found, section in pairs:
         try:
             images.append(image_of(found, section, looks))
         except CannotCut as fault:
             say(f"left out: {found.path}: its .eh_frame can't be cut: {fault}")
-    return images
+            continue
+        functions = {address - found.base: function
+                     for address, function in found.functions.items() if found.contains(address)}
+        origins.append(Origin(found.path, found.build, functions))
+    return images, origins
 
 
 def with_frames(pairs, looks):
@@ -289,20 +294,23 @@ def write_script(path, every_thread, for_raise):
     looks = [look for stack in stacks for look in stack.looks]
     if for_raise:
         pairs, generated = with_frames(pairs, looks), with_frames(generated, looks)
-    lines = script_lines(images_of(pairs, looks), images_of(generated, looks),
+    images, origins = images_of(pairs, looks)
+    registered, told = images_of(generated, looks)
+    lines = script_lines(images, registered,
                          [(stack.columns, stack.memory, stack.looks) for stack in stacks],
                          for_raise)
     if write_lines(path, lines) > SCRIPT_BYTES:
         say(f"a script above {SCRIPT_BYTES} bytes isn't run")
-    write_lines(os.path.splitext(path)[0] + ".frames",
-                [line for stack in stacks for line in stack.frame_lines()])
+    name = os.path.splitext(path)[0]
+    write_lines(f"{name}.frames", [line for stack in stacks for line in stack.frame_lines()])
+    write_lines(f"{name}.images", origin_lines(origins + told))
 
 
 class StackScript(gdb.Command):
     """stack-script NAME.script [all] [raise]: write the selected thread's stack, or all threads'.
 
-    NAME.script is the script, and NAME.frames has gdb's frames. With raise the images are fixed,
-    and the tables of call sites are written too."""
+    NAME.script is the script, NAME.frames has gdb's frames, and NAME.images where each image came
+    from. With raise the images are fixed, and the tables of call sites are written too."""
 
     def __init__(self):
         super().__init__("stack-script", gdb.COMMAND_STACK, gdb.COMPLETE_FILENAME)

@@ -44,11 +44,13 @@ static const unsigned char frames[] = {
 };
 enum { FIRST_ADDRESS = 36, LENGTH = 44 };
 
-static const char names[] = "\0.text\0.eh_frame\0.shstrtab";
+static const char names[] = "\0.text\0.eh_frame\0.strtab\0.symtab\0call_it";
+enum { TEXT = 1, EH_FRAME = 7, STRTAB = 17, SYMTAB = 25, CALL_IT = 33 };
 
 struct image {
     Elf64_Ehdr header;
-    Elf64_Shdr sections[4];
+    Elf64_Shdr sections[5];
+    Elf64_Sym symbols[2];
     unsigned char frames[sizeof frames];
     char names[sizeof names];
 };
@@ -82,11 +84,19 @@ static void tell_gdb(const unsigned char *code)
     image.header.e_shoff = offsetof(struct image, sections);
     image.header.e_ehsize = sizeof(Elf64_Ehdr);
     image.header.e_shentsize = sizeof(Elf64_Shdr);
-    image.header.e_shnum = 4;
+    image.header.e_shnum = 5;
     image.header.e_shstrndx = 3;
-    image.sections[1] = section(1, SHT_NOBITS, SHF_ALLOC | SHF_EXECINSTR, code, length);
-    image.sections[2] = section(7, SHT_PROGBITS, SHF_ALLOC, image.frames, sizeof frames);
-    image.sections[3] = section(17, SHT_STRTAB, 0, image.names, sizeof names);
+    image.sections[1] = section(TEXT, SHT_NOBITS, SHF_ALLOC | SHF_EXECINSTR, code, length);
+    image.sections[2] = section(EH_FRAME, SHT_PROGBITS, SHF_ALLOC, image.frames, sizeof frames);
+    image.sections[3] = section(STRTAB, SHT_STRTAB, 0, image.names, sizeof names);
+    image.sections[4] = section(SYMTAB, SHT_SYMTAB, 0, image.symbols, sizeof image.symbols);
+    image.sections[4].sh_entsize = sizeof(Elf64_Sym);
+    image.sections[4].sh_link = 3;
+    image.sections[4].sh_info = 1;
+    image.symbols[1].st_name = CALL_IT;
+    image.symbols[1].st_info = ELF64_ST_INFO(STB_GLOBAL, STT_FUNC);
+    image.symbols[1].st_shndx = 1;
+    image.symbols[1].st_size = length;
     entry.symfile_addr = (const char *)&image;
     entry.symfile_size = sizeof image;
     __jit_debug_descriptor.first_entry = __jit_debug_descriptor.relevant_entry = &entry;
