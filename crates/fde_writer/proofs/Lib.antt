@@ -1,0 +1,12 @@
+pub mod Counts
+pub mod Books
+pub mod Calls
+pub mod Gaining
+pub mod OneMember
+pub mod ManyMembers
+pub mod StackEnds
+pub mod Entered
+pub mod Keeping
+pub mod Endings
+pub mod Moved
+pub mod Telling

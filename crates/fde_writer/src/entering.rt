@@ -1,0 +1,55 @@
+//! A section is entered under its key, and its members are put.
+
+ghost use Rattle.std.specs.Prelude.{◌≡◌, ◌*◌, ◌<◌, ◌≤◌, All, IfOk, IfErr, false, length};
+ghost use Rattle.fde_writer.specs.Places.{PlaceData, placed_members};
+ghost use Rattle.fde_writer.specs.Puttings.{Enters, IsSectionFault};
+
+use crate::book::Book;
+use crate::outcome::Numbers;
+use crate::place::Place;
+use crate::putting::{PutFault, put_all};
+use crate::stack::Standing;
+use sole_writer::Writer;
+
+/// Why a section was not entered.
+#[derive(Clone, Copy, Debug, PartialEq, Eq)]
+pub enum SectionFault {
+    NoMemory,
+    NotPut { fault: PutFault },
+}
+
+/// Enters a section under its key, and puts its members, whose places are given anew. All memory is
+/// taken before the first update.
+pub fn enter(
+    client: &mut Writer,
+    book: &mut Book,
+    key: u64,
+    standing: Standing,
+    places: Vec<Place>,
+) -> Result<Numbers, SectionFault>
+    requires free { client.old.stuck ≡ false }
+    requires left { 3 * length standing.places ≤ client.old.me.left }
+    requires payloads { All (λ m. m.payload < client.old.words.terms.payloads)
+        (placed_members standing.places) }
+    requires places { places.items ≡ standing.places }
+    ensures enters { IfOk result
+        (λ numbers. Enters key standing numbers client.old client.new book.old book.new) }
+    ensures fault { IfErr result
+        (IsSectionFault standing client.old client.new book.old book.new) }
+{
+    match book.push(key, standing) {
+        Ok(()) => {}
+        Err(_) => return Err(SectionFault::NoMemory),
+    }
+    let mut places = places;
+    match put_all(client, &mut places) {
+        Ok(numbers) => {
+            book.settle(key, places);
+            Ok(numbers)
+        }
+        Err(fault) => {
+            book.pop(key);
+            Err(SectionFault::NotPut { fault })
+        }
+    }
+}
