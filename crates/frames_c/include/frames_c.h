@@ -12,9 +12,9 @@
  *     from the call that wrote it until it is freed. A call takes it by value and gives it back
  *     through `back`, which may be the same variable: frames_c_count(section, &section). Never pass
  *     one that was freed, or passed and not given back, and never read or copy what it leads to. No
- *     call can tell one that was freed: set the variable to {0}, and test its `at` where it may hold
- *     nothing. No call tests for {0} either: it reads at address 0 or a little above, at which most
- *     systems end the program.
+ *     call can tell one that was freed (valgrind does, with the call that freed it): set the
+ *     variable to {0}, and test its `at` where it may hold nothing. No call tests for {0} either: it
+ *     reads at address 0 or a little above, at which most systems end the program.
  *   - Each share of a section is used by one thread at a time. Threads with a share each don't
  *     meet. A share goes from one thread to another in order: by a lock, or by a thread's start or
  *     join.

@@ -16,9 +16,9 @@
  *     A call takes it by value and gives it back through `back`, which may be the same variable:
  *     registry_c_find(client, pc, &place, &client). Never pass one that was joined, closed, or
  *     passed and not given back, and never read or copy what it leads to. No call can tell one
- *     that was joined or closed: set the variable to {0}, and test its `at` where it may hold
- *     nothing. No call tests for {0} either: it reads at address 0 or a little above, at which most
- *     systems end the program.
+ *     that was joined or closed (valgrind does, with the call that freed it): set the variable to
+ *     {0}, and test its `at` where it may hold nothing. No call tests for {0} either: it reads at
+ *     address 0 or a little above, at which most systems end the program.
  *   - One call at a time is given a client. Each thread has one of its own (registry_c_split), and
  *     threads with a client each don't meet: no call waits. A client goes from one thread to
  *     another in order: by a lock, or by a thread's start or join.
