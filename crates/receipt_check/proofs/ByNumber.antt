@@ -1,9 +1,9 @@
 -- The updates, put in the places of their numbers.
-use Rattle.std.proofs.Common.{◌≡◌, ℕ, ◌+◌, ◌<◌, List, [], ◌∷◌, ◌++◌, length, get_or, take, replicate, Option, Some, None, Bool, true, false, ◌&&◌, cond, map, refl, sym, ◌∙◌, ap, add-one, arith}
+use Rattle.std.proofs.Common.{◌≡◌, ℕ, ◌+◌, ◌<◌, List, [], ◌∷◌, ◌++◌, length, get_or, take, replicate, Option, Some, None, Bool, true, false, ◌&&◌, cond, refl, sym, ◌∙◌, ap, add-one, arith}
 use Rattle.std.proofs.lemmas.List.{length-replicate, get_or-replicate, map_more}
 use Rattle.std.specs.Option.{option_and_then, option_or, option_to_list, is_some}
 use Rattle.std.specs.List.{find}
-use Rattle.reg_model.specs.Receipt.{moment, accepted}
+use Rattle.reg_model.specs.Receipt.{accepted}
 use Rattle.reg_model.specs.Numbers.{has_number, history_of}
 use Rattle.reg_model.specs.declared.answer.Update.{Update}
 use Rattle.reg_model.specs.declared.answer.Receipt.{Receipt}

@@ -1,14 +1,13 @@
 -- Members in a map by their first addresses.
-use Rattle.std.proofs.Common.{◌≡◌, ◌↔◌, ◌⊎◌, ℕ, ◌+◌, ◌-◌, ◌<◌, ◌≤◌, zero, suc, List, [], ◌∷◌, ◌++◌, length, get_or, Option, Some, None, Bool, true, false, not, cond, eqb, leb, ◌==◌, ◌&&◌, min, IsTrue, All, inl, inr, refl, sym, ◌∙◌, ap, subst, append_assoc, length-append, arith}
-use Rattle.std.specs.Option.{is_some, IsSome, IfSome, option_or}
-use Rattle.std.specs.List.{Contains, filter, find}
+use Rattle.std.proofs.Common.{◌≡◌, ◌↔◌, ◌⊎◌, ℕ, ◌+◌, ◌<◌, ◌≤◌, zero, suc, List, [], ◌∷◌, ◌++◌, length, get_or, Option, Some, None, Bool, true, false, not, cond, ◌==◌, min, IsTrue, All, inl, inr, refl, sym, ◌∙◌, ap, subst, length-append, arith}
+use Rattle.std.specs.Option.{is_some, IsSome, IfSome}
+use Rattle.std.specs.List.{Contains, find}
 use Rattle.std.specs.BTreeMap.{BTreeMap, get, btree_map_len}
 use Rattle.std.specs.Ordering.{nat_cmp, is_lt, is_gt}
 use Rattle.std.proofs.lemmas.Grind.{common_steps}
-use Rattle.std.proofs.lemmas.Bool.{cases_lt, cases_order, false≢true, and_parts, eqb-true, eq-eqb, ne_eqb, not-true, false_from_ne_true, cases_Bool, not_from_false}
+use Rattle.std.proofs.lemmas.Bool.{cases_lt, cases_order, false≢true, eqb-true, eq-eqb, ne_eqb, not-true, false_from_ne_true, cases_Bool, not_from_false}
 use Rattle.std.proofs.lemmas.List.{get_or_default}
-use Rattle.std.proofs.lemmas.List.Elements.{All-head, All-tail, All-cons, All-push, All-filter, filter_passes, All-contains, All-contains_itself, All-weaker, Contains-push, Contains-append_left, Contains-append_cases, Contains-push_cases}
-use Rattle.std.proofs.lemmas.List.Folds.{find-append}
+use Rattle.std.proofs.lemmas.List.Elements.{All-head, All-tail, All-push, All-filter, filter_passes, All-contains, All-contains_itself, All-weaker, Contains-push, Contains-append_left, Contains-append_cases, Contains-push_cases}
 use Rattle.reg_model.specs.SpanData.{SpanData, IsSpan, contains, Overlaps}
 use Rattle.reg_model.specs.State.{at_base, IsFree, AreDisjoint}
 use Rattle.reg_model.specs.History.{without}

@@ -1,11 +1,10 @@
 -- The first update that doesn't fit, found in the order of the turns.
-use Rattle.std.proofs.Common.{◌≡◌, ℕ, ◌+◌, ◌-◌, ◌<◌, ◌≤◌, List, length, get_or, take, map, Option, Some, None, Bool, true, false, ◌&&◌, ◌==◌, eqb, min, All, inl, inr, refl, sym, ◌∙◌, ap, subst, arith}
+use Rattle.std.proofs.Common.{◌≡◌, ℕ, ◌+◌, ◌-◌, ◌<◌, ◌≤◌, List, length, get_or, take, Option, Some, None, true, false, ◌&&◌, ◌==◌, All, inl, inr, refl, sym, ◌∙◌, ap, subst, arith}
 use Rattle.std.specs.Option.{is_some, IfSome}
 use Rattle.std.specs.List.{Contains}
-use Rattle.std.specs.List.Sorted.{IsPermutation, IsNonDecreasingBy}
 use Rattle.std.proofs.lemmas.Bool.{cases_lt, false≢true, and_parts, eqb-true, eq-eqb}
 use Rattle.std.proofs.lemmas.List.{get_or-take, get_or_read, take_all, length-take, length-map}
-use Rattle.std.proofs.lemmas.List.Elements.{All-map, All-weaker, All-contains, All-get_or, Contains-get_or}
+use Rattle.std.proofs.lemmas.List.Elements.{All-map, All-weaker, All-contains, Contains-get_or}
 use Rattle.std.proofs.lemmas.List.Sorted.{IsPermutation-sym, All-permutation, Contains-permutation}
 use Rattle.reg_model.specs.State.{State}
 use Rattle.reg_model.specs.History.{Fits, state_at}

@@ -1,11 +1,11 @@
 -- The states that a history goes through, one update after another.
-use Rattle.std.proofs.Common.{◌≡◌, ◌↔◌, ◌⊎◌, ℕ, ◌+◌, ◌-◌, ◌<◌, ◌≤◌, zero, suc, List, [], ◌∷◌, length, Option, Some, None, min, inl, inr, refl, sym, ◌∙◌, ap, subst, add-one, arith}
+use Rattle.std.proofs.Common.{◌≡◌, ◌↔◌, ◌⊎◌, ℕ, ◌+◌, ◌-◌, ◌<◌, ◌≤◌, zero, suc, List, [], ◌∷◌, length, Option, Some, None, min, inl, inr, sym, ◌∙◌, ap, subst, add-one, arith}
 use Rattle.std.specs.List.{slice_get}
 use Rattle.std.proofs.lemmas.Bool.{cases_lt}
 use Rattle.std.proofs.lemmas.List.{take_min}
 use Rattle.reg_model.specs.State.{State}
 use Rattle.reg_model.specs.History.{after, state_after, state_at}
-use Rattle.reg_model.specs.Receipt.{moment, accepted, made_before, IsRight, HadTenMembers, Holds}
+use Rattle.reg_model.specs.Receipt.{moment, accepted, made_before, HadTenMembers, Holds}
 use Rattle.reg_model.specs.declared.answer.Update.{Update}
 use Rattle.reg_model.specs.declared.answer.Inserted.TheVariants as inserted
 use Rattle.reg_model.specs.declared.answer.Receipt.{Receipt}

@@ -1,11 +1,12 @@
--- Lists of members, kept in maps by first addresses.
+-- Lists of members, kept in maps by first addresses; and lines, kept by numbers.
 use Rattle.std.specs.Prelude.{◌≡◌, ℕ, ◌<◌, ◌≤◌, List, ◌++◌, length, Option, Some, None, All}
-use Rattle.std.specs.Prelude.{Contains, IfSome}
+use Rattle.std.specs.Prelude.{Contains, IfSome, nat_lt, if◌then◌else◌, slice_index_or}
 use Rattle.std.specs.BTreeMap.{BTreeMap, get, btree_map_len}
 use Rattle.std.specs.Ordering.{nat_cmp}
 use Rattle.reg_model.specs.SpanData.{IsSpan}
 use Rattle.reg_model.specs.State.{State, AreDisjoint}
 use Rattle.reg_model.specs.declared.span.Member.{Member}
+use Rattle.receipt_check.specs.declared.least_lines.LeastLines.{LeastLines}
 use Rattle.receipt_check.specs.declared.member_map.MemberMap.{MemberMap}
 use Rattle.receipt_check.specs.declared.lists.Lists.{Lists}
 
@@ -37,3 +38,12 @@ pub record ShowsState (lists : Lists) (s : State) : Type 0 where
   pub loaded : Reflects lists.loaded s.loaded
   pub fixed : Reflects lists.fixed s.fixed
   pub loads : lists.loads ≡ s.loads
+
+-- the line that is kept for a number, by a table of the first numbers and a map of the others
+abbrev pub line_in : List (Option ℕ) → BTreeMap ℕ ℕ → ℕ → Option ℕ
+line_in table others number =
+    if nat_lt number (length table) then slice_index_or table number None
+    else get nat_cmp others number
+
+abbrev pub line_of : LeastLines → ℕ → Option ℕ
+line_of lines number = line_in lines.table.items lines.others number

@@ -4,8 +4,6 @@ use Rattle.std.specs.Prelude.{IfSome, if◌then◌else◌, slice_index_or}
 use Rattle.std.specs.List.{find}
 use Rattle.std.specs.List.Sorted.{IsPermutation, IsNonDecreasingBy}
 use Rattle.std.specs.Option.{option_and_then}
-use Rattle.std.specs.BTreeMap.{BTreeMap, get}
-use Rattle.std.specs.Ordering.{nat_cmp}
 use Rattle.reg_model.specs.State.{State}
 use Rattle.reg_model.specs.History.{Fits, state_at}
 use Rattle.reg_model.specs.Receipt.{moment, accepted, made_before, IsAtNumber, IsRight}
@@ -17,16 +15,16 @@ use Rattle.reg_model.specs.declared.answer.Receipt.TheVariants.{Register}
 use Rattle.receipt_check.specs.Flaws.{since_of}
 use Rattle.receipt_check.specs.Search.{IsSought, HasOtherNumber}
 use Rattle.receipt_check.specs.declared.account.Told.{Told}
+use Rattle.receipt_check.specs.declared.least_lines.LeastLines.{LeastLines}
 use Rattle.receipt_check.specs.declared.present.Present.{Present}
 use Rattle.receipt_check.specs.declared.turns.Turn.{Turn}
-use Rattle.receipt_check.specs.Maps.{ShowsState}
+use Rattle.receipt_check.specs.Maps.{ShowsState, line_of}
 
 -- ---- numbers
 
 -- of each number the least line of the updates that have it
-abbrev pub AreLines : List Told → BTreeMap ℕ ℕ → Type 0
-AreLines told lines =
-    (number : ℕ) → IsSought (HasOtherNumber number) told (get nat_cmp lines number)
+abbrev pub AreLines : List Told → LeastLines → Type 0
+AreLines told lines = (number : ℕ) → IsSought (HasOtherNumber number) told (line_of lines number)
 
 -- the update that was accepted first, in the order of the list, under a number
 abbrev pub first_numbered : ℕ → List Receipt → Option Update

@@ -21,7 +21,7 @@ pub fn history_in(alloc: Global, told: &[Told], updates: u32) -> Result<Vec<Upda
     ensures { IfOk result (λ history. history.items ≡ history_of (told_receipts told.now) updates) }
 {
     let places = places_of(alloc, told, updates as usize)?;
-    let mut history = Vec::new(alloc);
+    let mut history = Vec::with_capacity(alloc, places.len())?;
     for place in &places {
         add(&mut history, place)?;
     }
@@ -53,7 +53,7 @@ fn places_of(alloc: Global, told: &[Told], updates: usize) -> Result<Vec<Option<
 fn no_updates(alloc: Global, count: usize) -> Result<Vec<Option<Update>>, NoMemory>
     ensures { IfOk result (λ places. places.items ≡ replicate count None) }
 {
-    let mut places = Vec::new(alloc);
+    let mut places = Vec::with_capacity(alloc, count)?;
     for _place in 0..count {
         places.push(None)?;
     }

@@ -1,21 +1,19 @@
 //! The first line with a number that isn't its update's own.
 
-ghost use Rattle.std.specs.Prelude.{◌≡◌, ℕ, ◌<◌, ◌↔◌, ◌==◌, List, IsTrue, IfOk, OnOk, All};
-ghost use Rattle.std.specs.Prelude.{false, not};
-ghost use Rattle.std.specs.BTreeMap.{get};
-ghost use Rattle.std.specs.Ordering.{nat_cmp};
+ghost use Rattle.std.specs.Prelude.{◌≡◌, ℕ, ◌<◌, ◌↔◌, List, IsTrue, IfOk, OnOk, All, false, not};
 ghost use Rattle.reg_model.specs.Numbers.{has_number};
 ghost use Rattle.receipt_check.specs.Flaws.{HasOwnNumber};
+ghost use Rattle.receipt_check.specs.Maps.{line_of};
 ghost use Rattle.receipt_check.specs.Search.{IsSought, lower_line};
 ghost use Rattle.receipt_check.specs.Sweep.{AreLines};
 ghost use Rattle.receipt_check.specs.declared.account.Told.{Told};
 
 use crate::account::Told;
-use crate::firsts::lower;
+use crate::firsts::{accepted_in, lower};
+use crate::least_lines::LeastLines;
 use crate::receipts::{moment_of, update_in};
 use reg_model::NoMemory;
 use std::alloc::Global;
-use std::collections::BTreeMap;
 
 /// The first line with a number that isn't from 1 to `updates`, or that a line above has.
 pub fn first_misnumbered(
@@ -33,11 +31,12 @@ pub fn first_misnumbered(
     Ok(first)
 }
 
-/// The least line of each number.
-fn lines_of(alloc: Global, told: &[Told]) -> Result<BTreeMap<u32, u64>, NoMemory>
+/// The least line of each number. Where each update has one of its own, none is above how many
+/// there are.
+fn lines_of(alloc: Global, told: &[Told]) -> Result<LeastLines, NoMemory>
     ensures { IfOk result (AreLines told.now) }
 {
-    let mut lines = BTreeMap::new(alloc);
+    let mut lines = LeastLines::new(alloc, accepted_in(told).saturating_add(1))?;
     for row in told {
         put_line(&mut lines, row)?;
     }
@@ -45,32 +44,19 @@ fn lines_of(alloc: Global, told: &[Told]) -> Result<BTreeMap<u32, u64>, NoMemory
 }
 
 /// Keeps the line of an update, where none above it is kept for its number.
-fn put_line(lines: &mut BTreeMap<u32, u64>, row: &Told) -> Result<(), NoMemory>
-    ensures { OnOk result ((number : ℕ) → get nat_cmp lines.new number
-        ≡ lower_line (get nat_cmp lines.old number) row.now.line
+fn put_line(lines: &mut LeastLines, row: &Told) -> Result<(), NoMemory>
+    ensures { OnOk result ((number : ℕ) → line_of lines.new number
+        ≡ lower_line (line_of lines.old number) row.now.line
         (not (has_number number row.now.receipt))) }
 {
     if update_in(&row.receipt).is_some() {
-        return keep_line(lines, moment_of(&row.receipt), row.line);
+        return lines.keep(moment_of(&row.receipt), row.line);
     }
     Ok(())
 }
 
-/// Keeps a number's line, where none above it is kept.
-fn keep_line(lines: &mut BTreeMap<u32, u64>, number: u32, line: u64) -> Result<(), NoMemory>
-    ensures { OnOk result ((other : ℕ) → get nat_cmp lines.new other
-        ≡ lower_line (get nat_cmp lines.old other) line (not (number == other))) }
-{
-    let least = match lines.get(&number) {
-        Some(best) => line.min(*best),
-        None => line,
-    };
-    lines.insert(number, least)?;
-    Ok(())
-}
-
 /// Whether an accepted update has a number from 1 to `updates`, which no line above it has.
-fn has_own_number(lines: &BTreeMap<u32, u64>, updates: u32, row: &Told) -> bool
+fn has_own_number(lines: &LeastLines, updates: u32, row: &Told) -> bool
     ensures { (told : List Told) → AreLines told lines.now
         → (IsTrue result ↔ HasOwnNumber told updates row.now) }
 {
@@ -82,12 +68,12 @@ fn has_own_number(lines: &BTreeMap<u32, u64>, updates: u32, row: &Told) -> bool
 }
 
 /// Whether no line above has the number.
-fn is_new(lines: &BTreeMap<u32, u64>, line: u64, number: u32) -> bool
+fn is_new(lines: &LeastLines, line: u64, number: u32) -> bool
     ensures { (told : List Told) → AreLines told lines.now → (IsTrue result
         ↔ All (λ other. other.line < line → has_number number other.receipt ≡ false) told) }
 {
-    match lines.get(&number) {
-        Some(least) => line <= *least,
+    match lines.line_of(number) {
+        Some(least) => line <= least,
         None => true,
     }
 }

@@ -29,7 +29,7 @@ pub fn in_turn<'a>(alloc: Global, told: &'a [Told]) -> Result<Vec<Turn<'a>>, NoM
 fn turns_of<'a>(alloc: Global, told: &'a [Told]) -> Result<Vec<Turn<'a>>, NoMemory>
     ensures { IfOk result (λ turns. AreTurns told.now turns.items) }
 {
-    let mut turns = Vec::new(alloc);
+    let mut turns = Vec::with_capacity(alloc, told.len())?;
     for row in told {
         let before = before(&row.receipt);
         turns.push(Turn { before, row })?;

@@ -1,4 +1,4 @@
-use Rattle.std.proofs.Common.{◌≡◌, ◌↔◌, List, length, min, IsTrue, refl, ◌∙◌, ap, subst, arith}
+use Rattle.std.proofs.Common.{◌↔◌, List, length, min, IsTrue, ◌∙◌, ap, subst, arith}
 use Rattle.std.proofs.lemmas.List.{length-map}
 use Rattle.reg_model.specs.Receipt.{Holds}
 use Rattle.reg_model.specs.declared.answer.Update.{Update}

@@ -1,9 +1,8 @@
-use Rattle.std.proofs.Common.{◌≡◌, List, length, refl, sym, ◌∙◌, ap, subst, arith}
+use Rattle.std.proofs.Common.{List, length, sym, ◌∙◌, ap, subst, arith}
 use Rattle.std.proofs.lemmas.Bool.{false≢true}
 use Rattle.std.proofs.lemmas.List.Elements.{All-more}
 use Rattle.reg_model.specs.State.{State}
 use Rattle.reg_model.specs.History.{state_at}
-use Rattle.reg_model.specs.Receipt.{made_before}
 use Rattle.reg_model.specs.declared.answer.Update.{Update}
 use Rattle.receipt_check.specs.declared.turns.Turn.{Turn}
 use Rattle.receipt_check.specs.Flaws.{told_history}

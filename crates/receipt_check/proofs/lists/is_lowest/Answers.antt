@@ -1,4 +1,3 @@
-use Rattle.std.proofs.Common.{◌≤◌, All}
 use Rattle.std.specs.List.{Contains}
 use Rattle.reg_model.specs.SpanData.{Overlaps}
 use Rattle.reg_model.specs.State.{IsLowestOverlap}

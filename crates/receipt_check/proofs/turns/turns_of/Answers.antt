@@ -1,4 +1,4 @@
-use Rattle.std.proofs.Common.{List, take, refl, subst}
+use Rattle.std.proofs.Common.{List, refl, subst}
 use Rattle.std.proofs.lemmas.List.{take_all}
 use Rattle.receipt_check.specs.declared.account.Told.{Told}
 use Rattle.receipt_check.specs.Sweep.{AreTurns}
@@ -6,7 +6,7 @@ use Rattle.receipt_check.proofs.InTurn.{no_turns, turns_more}
 use Rattle.receipt_check.proofs.turns.turns_of.Goals as goal
 
 pub loop-row-init : goal.loop-row-init
-loop-row-init c = rw c.new-turns.ensures.items no_turns
+loop-row-init c = rw c.in_ok-turns.ensures.items no_turns
 
 pub loop-row-preserved : goal.loop-row-preserved
 loop-row-preserved c =

@@ -1,7 +1,7 @@
 use Rattle.std.proofs.Common.{◌↔◌, List, IsTrue, sym, subst}
 use Rattle.std.specs.List.{Contains}
 use Rattle.reg_model.specs.declared.span.Member.{Member}
-use Rattle.receipt_check.proofs.Halves.{listed_in_front, listed_behind}
+use Rattle.receipt_check.proofs.Halves.{listed_behind}
 use Rattle.receipt_check.proofs.member_map.MemberMap.is_listed.Goals as goal
 
 pub returns-else-is_apart : goal.returns-else-is_apart

@@ -1,4 +1,4 @@
-use Rattle.std.proofs.Common.{◌≡◌, ◌+◌, ◌++◌, [], ◌∷◌, List, take, sym, ◌∙◌, ap, subst}
+use Rattle.std.proofs.Common.{◌++◌, [], ◌∷◌, List, take, sym, ◌∙◌, ap, subst}
 use Rattle.std.proofs.lemmas.List.{take_more}
 use Rattle.reg_model.specs.declared.span.Member.{Member}
 use Rattle.receipt_check.specs.Maps.{Reflects}

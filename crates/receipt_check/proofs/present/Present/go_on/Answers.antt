@@ -1,4 +1,4 @@
-use Rattle.std.proofs.Common.{◌≡◌, ◌+◌, ◌∙◌, ap, refl, arith, length, min}
+use Rattle.std.proofs.Common.{◌+◌, ◌∙◌, ap, refl, arith, length}
 use Rattle.std.proofs.lemmas.Option.{slice_get_read}
 use Rattle.receipt_check.proofs.present.Present.go_on.Goals as goal
 
