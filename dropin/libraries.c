@@ -111,7 +111,7 @@ static uint32_t put_into(struct library *library, const struct section *section)
 
 /* False: no library takes it, however large, and it is to be read plainly. */
 bool put_section(const struct section *section) {
-  for (;;) {
+  for (unsigned round = 0; round < MOST_LIBRARIES; round++) {
     struct library *full = NULL;
     uint64_t low = section->distance - NEAR < WINDOW ? NEAR : section->distance - HALF;
     uint32_t nodes = FEWEST_NODES;
@@ -134,6 +134,7 @@ bool put_section(const struct section *section) {
       if (full->sections == 0) drop_empty_ones();
     }
   }
+  return false;
 }
 
 bool take_section(const void *begin, void **ob) {

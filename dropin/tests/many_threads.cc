@@ -5,7 +5,7 @@
 #include <unistd.h>
 #include <vector>
 
-enum { AT_A_TIME = 100, WARM = 500, MAY_GROW = 2 << 20 };
+enum { AT_A_TIME = 100, WARM = 3 * AT_A_TIME, MAY_GROW = 2 << 20 };
 
 static long resident() {
   long all = 0, pages = 0;
