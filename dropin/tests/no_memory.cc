@@ -7,7 +7,7 @@
 #include <unistd.h>
 #include <vector>
 
-enum : size_t { MANY = 4000, TRIED_IN_VAIN = 3 };
+enum : size_t { MANY = 2500, TRIED_IN_VAIN = 3 };
 static const Functions functions(MANY);
 
 static bool is_there(size_t i) {
@@ -50,7 +50,7 @@ static void run(long more) {
 int main() {
   if (!is_drop_in()) return 0;
   size_t right = 0, limits = 0;
-  for (long more = 0; more < 6 << 20; more += more < 200000 ? 12288 : 200000, limits++) {
+  for (long more = 0; more < 3 << 20; more += more < 200000 ? 20480 : 400000, limits++) {
     pid_t child = fork();
     if (child == 0) {
       run(more);
