@@ -253,9 +253,9 @@ uint64_t frames_c_step(frames_section section, frames_memory memory, frames_fram
 /* The same by bytes that the caller lends, from an address on, in place of recorded memory: nothing
  * is copied. `missing` is then an address of which they don't have all eight bytes. Nobody writes
  * them while the call runs: a thread lends of its own stack what stands above the call's own frame
- * alone (a signal's handler from the stack pointer on that the signal interrupted), and another
- * thread's while that one is stopped. What the call writes (`frame`, `back`) doesn't lie in them,
- * as a local variable of the caller may. */
+ * alone (a signal's handler what the signal interrupted: from 128 bytes below that stack pointer on,
+ * where registers stand that were just popped), and another thread's while that one is stopped. What
+ * the call writes (`frame`, `back`) doesn't lie in them, as a local variable of the caller may. */
 uint64_t frames_c_step_lent(frames_section section, uint64_t address, const uint8_t *stack,
                             size_t length, frames_frame *frame, frames_section *back)
     FRAMES_C_NONNULL;
