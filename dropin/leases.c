@@ -1,9 +1,10 @@
 /* A lookup leases a slot, in which it has readers for itself, by one compare-and-exchange, and
  * gives it back by one store. It takes the slot of its processor or the next free one: so nothing
  * is owed when a thread begins or ends, a handler in the midst of a lookup has another slot, and a
- * forked child another than those that it finds taken. * What is taken out of a list may still be
- * used by who leased a slot before. It ends when each slot was seen free since, for who leases one
- * later can't come to it. */
+ * forked child another than those that it finds taken.
+ *
+ * What is taken out of a list may still be used by who leased a slot before. It ends when each slot
+ * was seen free since, for who leases one later can't come to it. */
 #define _GNU_SOURCE
 #include "dropin.h"
 #include <pthread.h>

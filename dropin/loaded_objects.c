@@ -8,15 +8,14 @@
 /* The header of the table, as all linkers write it, and the table: both numbers of an entry count
  * from the header on. */
 struct header {
-  uint8_t version, frames_encoding, count_encoding, table_encoding;
+  uint8_t form[4]; /* the version, and the encodings of `frames`, `count` and the table */
   int32_t frames;
   uint32_t count;
   struct entry {
     int32_t first, fde;
   } table[];
 };
-static const struct header usual = {1, 0x1b, 0x03, 0x3b, 0, 0, {}};
-
+static const uint8_t usual[4] = {1, 0x1b, 0x03, 0x3b};
 static const struct section no_bases;
 
 static const void *told(const struct fde *fde, struct dwarf_eh_bases *bases) {
@@ -34,15 +33,16 @@ static const void *search_frames(uint64_t pc, const uint8_t *at, struct dwarf_eh
 
 const void *find_loaded(uint64_t pc, struct dwarf_eh_bases *bases) {
   struct dl_find_object object;
-  struct fde fde;
+  struct fde fde = {.size = 0};
   uint64_t frames;
   if (_dl_find_object((void *)pc, &object) != 0) return NULL;
   const struct header *header = object.dlfo_eh_frame;
-  if (header == NULL || header->version != usual.version) return NULL;
-  if (memcmp(header, &usual, offsetof(struct header, frames)) != 0 || header->count == 0) {
-    if (read_pointer(header->frames_encoding, (const uint8_t *)&header->frames, &no_bases, &frames))
-      return search_frames(pc, (const uint8_t *)frames, bases);
-    return NULL;
+  if (header == NULL || header->form[0] != usual[0]) return NULL;
+  if (memcmp(header->form, usual, sizeof usual) != 0 || header->count == 0 ||
+      (uintptr_t)header % sizeof(int32_t) != 0) {
+    if (read_pointer(header->form[1], (const uint8_t *)&header->frames, &no_bases, &frames) == NULL)
+      return NULL;
+    return search_frames(pc, (const uint8_t *)frames, bases);
   }
   const int64_t wanted = (int64_t)(pc - (uintptr_t)header);
   const struct entry *low = header->table, *high = low + header->count - 1;

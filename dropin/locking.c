@@ -10,7 +10,8 @@
 #include <sys/syscall.h>
 #include <unistd.h>
 
-/* pthread_atfork's, whose last argument has the handlers go away when the library is finished. */
+/* What pthread_atfork calls with a library's own handle, so that its handlers go when it is
+ * finished: without one they stay to the end. */
 int __register_atfork(void (*before)(void), void (*parent)(void), void (*child)(void), void *);
 
 /* The signals and the error number of the thread that has the mutex. */
@@ -45,7 +46,9 @@ void end_update(void) {
 
 /* By no call at which a thread can be cancelled. */
 void say(const char *what, const void *where) {
+  const int error = errno;
   char line[128];
-  int length = snprintf(line, sizeof line, "libfovradus_unwind: %s %p\n", what, where);
+  const int length = snprintf(line, sizeof line, "libfovradus_unwind: %s %p\n", what, where);
   syscall(SYS_write, STDERR_FILENO, line, length);
+  errno = error;
 }

@@ -110,8 +110,9 @@ bool next_record(const uint8_t **at, const struct section *of, struct fde *fde) 
   return true;
 }
 
-/* Tells what a section has, and writes its FDEs where there is a list for them. */
+/* Tells what a section has. Or writes its FDEs into a list, as many as were told before. */
 void read_fdes(struct section *section, struct fde *into) {
+  const size_t room = section->count;
   const void *const one[] = {section->begin, NULL};
   const void *const *list = section->is_array ? section->begin : one;
   section->count = 0;
@@ -121,6 +122,7 @@ void read_fdes(struct section *section, struct fde *into) {
     const uint8_t *at = *list;
     for (struct fde fde; next_record(&at, section, &fde);) {
       if (fde.size == 0) continue;
+      if (into != NULL && section->count == room) return;
       if (section->count == 0) section->distance = (uintptr_t)fde.at - fde.first;
       if (fde.first < section->lowest) section->lowest = fde.first;
       if (fde.first + fde.size > section->highest) section->highest = fde.first + fde.size;

@@ -40,19 +40,19 @@ void register_section(struct section section) {
   begin_update();
   if (section.lowest < bounds.lowest) atomic_store(&bounds.lowest, section.lowest);
   if (section.highest > bounds.highest) atomic_store(&bounds.highest, section.highest);
-  if ((is_plain || !put_section(&section)) && !put_plain(&section))
-    say("there is no memory to register", section.begin);
+  const bool is_put = (!is_plain && put_section(&section)) || put_plain(&section);
   end_what_left();
   end_update();
+  if (!is_put) say("there is no memory to register", section.begin);
 }
 
 void *deregister_section(const void *begin) {
   void *ob = NULL;
   if (is_empty(begin)) return NULL;
   begin_update();
-  if (!take_section(begin, &ob) && !take_plain(begin, &ob))
-    say("nothing is registered at", begin);
+  const bool is_taken = take_section(begin, &ob) || take_plain(begin, &ob);
   end_what_left();
   end_update();
+  if (!is_taken) say("nothing is registered at", begin);
   return ob;
 }
