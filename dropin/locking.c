@@ -1,6 +1,5 @@
 /* Updates take one mutex with all signals blocked, and a fork takes it too: so no lock of a library
- * is ever held by a thread that a handler interrupted, or that a forked child doesn't have. That is
- * why a lookup in either ends. */
+ * is ever held by a thread that a handler interrupted, or that a forked child doesn't have. */
 #define _GNU_SOURCE
 #include "dropin.h"
 #include <errno.h>
