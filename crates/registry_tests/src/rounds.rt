@@ -76,6 +76,31 @@ fn a_caller_learns_what_another_loaded(rt: HostRuntime) -> Result<(), Fail> {
     Ok(())
 }
 
+#[test]
+fn a_caller_with_nothing_is_spent(rt: HostRuntime) -> Result<(), Fail> {
+    let alloc = rt.alloc();
+    let (registry, mut a) = Registry::new(alloc, 4, 1, 1, Vec::new(alloc))?;
+    let (Some(one), Some(same), Some(last)) = (
+        member(0x1000, 0x20, 0),
+        member(0x1000, 0x20, 0),
+        member(0x2000, 0x20, 0),
+    ) else {
+        panic!(rt; "spans")
+    };
+    assert!(rt; registry.register(&rt, &mut a, one) == Inserted::Done { number: 1 });
+    let mut b = registry.words().split(alloc, &mut a, 0)?;
+    assert!(rt; registry.register(&rt, &mut b, same) == Inserted::Spent);
+    assert!(rt; registry.deregister(&rt, &mut b, 0x1000) == Removed::Spent);
+    assert!(rt; registry.load(&rt, &mut b, last) == Loading::Spent);
+    assert!(rt; registry.unload(&rt, &mut b, 0x1000) == Removed::Spent);
+    let Ok(()) = registry.words().join(alloc, &mut a, b) else {
+        panic!(rt; "no memory")
+    };
+    let accepted = registry.close(a);
+    assert!(rt; accepted == 1);
+    Ok(())
+}
+
 // Loads a member, finds it, and unloads it.
 fn take_part<R: Wait>(rt: &R, registry: &Registry, mut me: Caller, part: Member) -> (Caller, bool)
     requires table { me.table ≡ registry.now.table }
