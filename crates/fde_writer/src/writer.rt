@@ -6,6 +6,7 @@ ghost use Rattle.std.specs.Prelude.{IsTrue, ◌↔◌, ◌++◌, length, vec_len
 ghost use Rattle.std.specs.Arc.{arc_value};
 ghost use Rattle.fde_members.specs.Members.{AreNear, section_members};
 ghost use Rattle.sole_writer.specs.Writers.{plain_registry};
+ghost use Rattle.word_rule.specs.Logs.{reader_of};
 ghost use Rattle.word_rule.specs.Places.{ALLOWANCE};
 ghost use Rattle.fde_writer.specs.Outcomes.{IsDeregistration, IsGivenAway, IsMoving};
 ghost use Rattle.fde_writer.specs.Outcomes.{IsRegistration};
@@ -32,6 +33,7 @@ use std::alloc::Global;
 use std::marker::Model;
 use std::snapshot::Snapshot;
 use std::sync::Arc;
+use word_rule::Reader;
 
 /// A registry, and the sections whose members stand in it.
 #[derive(Drop)]
@@ -144,6 +146,18 @@ impl FdeWriter {
         ensures { IfOk result (λ registry. arc_value registry ≡ self.now.client.words) }
     {
         self.client.share()
+    }
+
+    /// A reader of it that has seen what the writer has.
+    pub fn reader(&mut self) -> Reader
+        ensures reader { result ≡ record {
+          table = self.old.client.words.table;
+          left = 0;
+          log = reader_of self.old.client.me.log;
+        } }
+        ensures same { self.new ≡ self.old }
+    {
+        self.client.reader()
     }
 
     /// Registers a section whole, or not at all, as the latest under a key. A member goes into the
