@@ -1,0 +1,141 @@
+-- What C is told of a call that registers a section, gives one up or moves one.
+use Rattle.std.specs.Prelude.{◌≡◌, ℕ, List, Result, Ok, Err}
+use Rattle.c_sections.specs.Loads.{IsLoaded}
+use Rattle.c_sections.specs.Refusals.{IsLoadFault, load_told}
+use Rattle.c_sections.specs.declared.refusal.FramesRefusal.{FramesRefusal}
+use Rattle.c_sections.specs.declared.refusal.LoadFault.{LoadFault}
+use Rattle.c_sections.specs.declared.refusal.LoadFault.TheVariants.{Frames}
+use Rattle.fde_writer.specs.Outcomes.{IsMoving, IsRegistration}
+use Rattle.fde_writer.specs.Sections.{FdeWriterData}
+use Rattle.fde_writer.specs.declared.outcome.Deregistration.{Deregistration}
+use Rattle.fde_writer.specs.declared.outcome.Deregistration.TheVariants as deregistration
+use Rattle.fde_writer.specs.declared.outcome.Moving.{Moving}
+use Rattle.fde_writer.specs.declared.outcome.Moving.TheVariants as moving
+use Rattle.fde_writer.specs.declared.outcome.Numbers.{Numbers}
+use Rattle.fde_writer.specs.declared.outcome.Registration.{Registration}
+use Rattle.fde_writer.specs.declared.outcome.Registration.TheVariants as registration
+use Rattle.frame_parse.specs.Sections.{SectionData}
+use Rattle.frame_parse.specs.declared.fault.FrameFault.TheVariants.{NoMemory}
+use Rattle.unwind_c.specs.declared.told.UnwindTold.{UnwindTold}
+
+-- the kinds of answers
+abbrev pub SECTION_DONE : ℕ
+SECTION_DONE = 0
+
+abbrev pub SECTION_REFUSED : ℕ
+SECTION_REFUSED = 1
+
+abbrev pub SECTION_FAR : ℕ
+SECTION_FAR = 2
+
+abbrev pub SECTION_SPENT : ℕ
+SECTION_SPENT = 3
+
+abbrev pub SECTION_NO_MEMORY : ℕ
+SECTION_NO_MEMORY = 4
+
+abbrev pub SECTION_OVERLAP : ℕ
+SECTION_OVERLAP = 5
+
+abbrev pub SECTION_FULL : ℕ
+SECTION_FULL = 6
+
+abbrev pub SECTION_STUCK : ℕ
+SECTION_STUCK = 7
+
+abbrev pub SECTION_UNKNOWN : ℕ
+SECTION_UNKNOWN = 8
+
+abbrev pub SECTION_LEFT : ℕ
+SECTION_LEFT = 9
+
+abbrev pub SECTION_INTO_STUCK : ℕ
+SECTION_INTO_STUCK = 10
+
+-- no bytes were refused
+abbrev pub no_refusal : FramesRefusal
+no_refusal = record { kind = 0; start = 0; at = 0; detail = 0 }
+
+-- a kind alone
+abbrev pub kind_told : ℕ → UnwindTold
+kind_told kind = record {
+  kind = kind;
+  first_number = 0;
+  last_number = 0;
+  note = 0;
+  distance = 0;
+  refusal = no_refusal;
+}
+
+-- and the numbers of updates, with a note
+abbrev pub kind_told_with : ℕ → Numbers → ℕ → UnwindTold
+kind_told_with kind numbers note = record (kind_told kind) {
+  first_number = numbers.first;
+  last_number = numbers.last;
+  note = note;
+}
+
+-- an FDE is so far from its code
+abbrev pub far_told : ℕ → UnwindTold
+far_told distance = record (kind_told SECTION_FAR) { distance = distance }
+
+-- of a registration; its note is the caller's own
+abbrev pub registration_told : Registration → UnwindTold
+registration_told (registration.Done numbers) = kind_told_with SECTION_DONE numbers 0
+registration_told (registration.Far distance) = far_told distance
+registration_told registration.Spent = kind_told SECTION_SPENT
+registration_told registration.NoMemory = kind_told SECTION_NO_MEMORY
+registration_told registration.Overlap = kind_told SECTION_OVERLAP
+registration_told registration.Full = kind_told SECTION_FULL
+registration_told registration.Stuck = kind_told SECTION_STUCK
+
+-- of a deregistration
+abbrev pub deregistration_told : Deregistration → UnwindTold
+deregistration_told (deregistration.Done note numbers) = kind_told_with SECTION_DONE numbers note
+deregistration_told deregistration.Unknown = kind_told SECTION_UNKNOWN
+deregistration_told deregistration.Stuck = kind_told SECTION_STUCK
+
+-- of a move: why the other writer refused it, and how it ended
+abbrev pub refused_move_told : Registration → UnwindTold
+refused_move_told registration.Stuck = kind_told SECTION_INTO_STUCK
+refused_move_told why = registration_told why
+
+abbrev pub moving_told : Moving → UnwindTold
+moving_told (moving.Done note numbers) = kind_told_with SECTION_DONE numbers note
+moving_told (moving.Left numbers) = kind_told_with SECTION_LEFT numbers 0
+moving_told moving.Unknown = kind_told SECTION_UNKNOWN
+moving_told (moving.Refused why) = refused_move_told why
+moving_told moving.Stuck = kind_told SECTION_STUCK
+
+-- of bytes that are no section
+abbrev pub refused_told : LoadFault → UnwindTold
+refused_told fault = record (kind_told SECTION_REFUSED) { refusal = load_told fault }
+
+-- the same, or want of memory while they were read
+abbrev pub fault_told : LoadFault → UnwindTold
+fault_told (Frames NoMemory) = kind_told SECTION_NO_MEMORY
+fault_told fault = refused_told fault
+
+-- Bytes at an address were read: what they are was registered; or they weren't read, and the writer
+-- is as it was.
+abbrev pub RegistersBytes : ℕ → ℕ → ℕ → List ℕ → FdeWriterData → FdeWriterData
+    → Result Registration LoadFault → Type 0
+RegistersBytes key note address bytes u u' (Ok answer) =
+    (s : SectionData) × IsLoaded address bytes s × IsRegistration key note s u u' answer
+RegistersBytes key note address bytes u u' (Err fault) =
+    IsLoadFault address bytes fault × (u' ≡ u)
+
+abbrev pub bytes_told : Result Registration LoadFault → UnwindTold
+bytes_told (Ok answer) = registration_told answer
+bytes_told (Err fault) = fault_told fault
+
+-- A call was answered, which is told so.
+abbrev pub TellsSection : {A : Type 0} → (FdeWriterData → FdeWriterData → A → Type 0)
+    → (A → UnwindTold) → UnwindTold → FdeWriterData → FdeWriterData → Type 0
+TellsSection {A} call told_of told u u' =
+    (answer : A) × (call u u' answer × (told ≡ told_of answer))
+
+-- The latest section under a key was moved to another library, or wasn't, which is told so.
+abbrev pub TellsMove : ℕ → FdeWriterData → FdeWriterData → UnwindTold → FdeWriterData
+    → FdeWriterData → Type 0
+TellsMove key v v' = TellsSection (λ u u' answer. IsMoving key u u' v v' answer) moving_told

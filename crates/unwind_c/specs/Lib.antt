@@ -1,0 +1,6 @@
+pub mod Answers
+pub mod Finds
+pub mod Handles
+pub mod Limits
+pub mod Readers
+pub mod Writers

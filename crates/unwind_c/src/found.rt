@@ -1,0 +1,89 @@
+//! What C is told of a lookup.
+
+ghost use Rattle.std.specs.Prelude.{◌≡◌};
+ghost use Rattle.unwind_c.specs.Finds.{fde_hit_told, found_fde_told, no_fde_told};
+
+use fde_reader::FdeFound;
+use reg_model::{Again, Half, Span};
+
+/// The FDE that covers an address: in which half it was found, at which stamp, the addresses of its
+/// range, and its own address; or that there is none, each half at its stamp. What isn't told is 0.
+#[repr(C)]
+#[derive(Clone, Copy, Debug, PartialEq, Eq)]
+pub struct UnwindFound {
+    pub kind: u32,
+    pub registered: u32,
+    pub loaded: u32,
+    pub first: u64,
+    pub size: u64,
+    pub fde: u64,
+}
+
+const MISS: u32 = 0;
+
+const REGISTERED: u32 = 1;
+
+const LOADED: u32 = 2;
+
+const AGAIN: u32 = 3;
+
+impl UnwindFound {
+    fn hit(half: Half, stamp: u32, span: &Span, fde: u64) -> UnwindFound
+        ensures { result ≡ fde_hit_told half stamp span.now fde }
+    {
+        let (first, last) = (span.first(), span.last());
+        let size = last - first + 1;
+        match half {
+            Half::Registered => UnwindFound {
+                kind: REGISTERED,
+                registered: stamp,
+                loaded: 0,
+                first,
+                size,
+                fde,
+            },
+            Half::Loaded => UnwindFound {
+                kind: LOADED,
+                registered: 0,
+                loaded: stamp,
+                first,
+                size,
+                fde,
+            },
+        }
+    }
+
+    fn none(kind: u32, registered: u32, loaded: u32) -> UnwindFound
+        ensures { result ≡ no_fde_told kind registered loaded }
+    {
+        UnwindFound {
+            kind,
+            registered,
+            loaded,
+            first: 0,
+            size: 0,
+            fde: 0,
+        }
+    }
+
+    pub(crate) fn of(answer: Result<FdeFound, Again>) -> UnwindFound
+        ensures { result ≡ found_fde_told answer }
+    {
+        match &answer {
+            Ok(
+                FdeFound::Hit {
+                    half,
+                    stamp,
+                    span,
+                    fde,
+                },
+            ) => UnwindFound::hit(*half, *stamp, span, *fde),
+            Ok(FdeFound::Miss { registered, loaded }) => UnwindFound::none(
+                MISS,
+                *registered,
+                *loaded,
+            ),
+            Err(_) => UnwindFound::none(AGAIN, 0, 0),
+        }
+    }
+}

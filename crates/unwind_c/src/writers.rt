@@ -1,0 +1,133 @@
+//! Libraries are made and dropped, and readers of them made.
+
+ghost use Rattle.std.specs.Prelude.{◌≡◌, IsSomeAnd, MatchResult, Ok, Err};
+ghost use Rattle.unwind_c.specs.Handles.{HandsBack, LeadsToNothing};
+ghost use Rattle.fde_writer.specs.Sections.{members_due};
+ghost use Rattle.unwind_c.specs.Limits.{IsNewLibrary, TellsNewLibrary};
+ghost use Rattle.unwind_c.specs.Writers.{LeadsToFdeWriter, MakesFdeReader};
+
+use crate::limits::{NewFault, UnwindLimits};
+use crate::reader_handle::FdeReaderHandle;
+use crate::writer_handle::FdeWriterHandle;
+use fde_reader::FdeReader;
+use fde_writer::FdeWriter;
+use std::alloc::Global;
+
+/// The writer of a new library.
+fn new_writer(alloc: Global, limits: &UnwindLimits) -> Result<Box<FdeWriter, Global>, NewFault>
+    ensures { MatchResult result (λ writer. IsNewLibrary limits.now (Ok writer.value))
+        (λ fault. IsNewLibrary limits.now (Err fault)) }
+{
+    limits.checked()?;
+    let Ok(writer) = FdeWriter::new(alloc, limits.nodes, limits.loads, limits.low) else {
+        return Err(NewFault::NoMemory);
+    };
+    match Box::new(alloc, writer) {
+        Ok(writer) => Ok(writer),
+        Err(_) => Err(NewFault::NoMemory),
+    }
+}
+
+/// Makes a library without sections, and its writer. What came of it: 0 that `out` has it, 1 that
+/// memory ran out, 2 that there may not be so many nodes, 3 not so many loads.
+#[unsafe(no_mangle)]
+pub extern "C" fn unwind_c_new(
+    alloc: Global,
+    limits: &UnwindLimits,
+    out: &mut FdeWriterHandle,
+) -> u64
+    requires out { LeadsToNothing out.old.held }
+    ensures { TellsNewLibrary limits.now result out.new.held }
+{
+    match new_writer(alloc, limits) {
+        Ok(writer) => {
+            *out = FdeWriterHandle::of(writer);
+            0
+        }
+        Err(NewFault::NoMemory) => 1,
+        Err(NewFault::Nodes) => 2,
+        Err(NewFault::Loads) => 3,
+    }
+}
+
+fn make_reader(writer: &mut FdeWriter, alloc: Global, out: &mut FdeReaderHandle) -> bool
+    requires { LeadsToNothing out.old.held }
+    ensures { MakesFdeReader result out.new.held writer.old writer.new }
+{
+    let Ok(registry) = writer.share() else {
+        return false;
+    };
+    let me = writer.reader();
+    let reader = FdeReader::of(registry, me, writer.low());
+    match Box::new(alloc, reader) {
+        Ok(reader) => {
+            *out = FdeReaderHandle::of(reader);
+            true
+        }
+        Err(_) => false,
+    }
+}
+
+/// Makes a reader that has seen what the writer has, which stays as it was. Whether `out` has it:
+/// it hasn't where memory ran out.
+#[unsafe(no_mangle)]
+pub extern "C" fn unwind_c_reader(
+    alloc: Global,
+    writer: FdeWriterHandle,
+    out: &mut FdeReaderHandle,
+    back: &mut FdeWriterHandle,
+) -> bool
+    requires writer { LeadsToFdeWriter writer.held }
+    requires out { LeadsToNothing out.old.held }
+    requires back { LeadsToNothing back.old.held }
+    ensures { HandsBack (MakesFdeReader result out.new.held) writer.held back.new.held }
+{
+    let mut open = writer.open(alloc);
+    let made = make_reader(&mut open, alloc, out);
+    *back = FdeWriterHandle::of(open);
+    made
+}
+
+/// How many update calls are left.
+#[unsafe(no_mangle)]
+pub extern "C" fn unwind_c_left(
+    alloc: Global,
+    writer: FdeWriterHandle,
+    back: &mut FdeWriterHandle,
+) -> u32
+    requires writer { LeadsToFdeWriter writer.held }
+    requires back { LeadsToNothing back.old.held }
+    ensures left { IsSomeAnd writer.held (λ u. result ≡ u.client.me.left) }
+    ensures back { back.new.held ≡ writer.held }
+{
+    let open = writer.open(alloc);
+    let left = open.left();
+    *back = FdeWriterHandle::of(open);
+    left
+}
+
+/// How many of them are due to what stands: one for each range.
+#[unsafe(no_mangle)]
+pub extern "C" fn unwind_c_due(
+    alloc: Global,
+    writer: FdeWriterHandle,
+    back: &mut FdeWriterHandle,
+) -> u32
+    requires writer { LeadsToFdeWriter writer.held }
+    requires back { LeadsToNothing back.old.held }
+    ensures due { IsSomeAnd writer.held (λ u. result ≡ members_due u) }
+    ensures back { back.new.held ≡ writer.held }
+{
+    let open = writer.open(alloc);
+    let due = open.due();
+    *back = FdeWriterHandle::of(open);
+    due
+}
+
+/// Frees a writer, and the library with the last of it and its readers.
+#[unsafe(no_mangle)]
+pub extern "C" fn unwind_c_drop(alloc: Global, writer: FdeWriterHandle)
+    requires { LeadsToFdeWriter writer.held }
+{
+    drop(writer.open(alloc));
+}
