@@ -31,6 +31,17 @@ pub record Change : Type 0 where
   pub held : Option (List ℕ)
   pub held_after : Option (List ℕ)
 
+-- what a run changed of its sink, beside these counts of reads that failed
+abbrev pub sink_change : {K : Type 0} → (K → ℕ) → (K → Option (List ℕ)) → K → K → ℕ → ℕ → Change
+sink_change faults written old new reads reads_after = record {
+  reads = reads;
+  reads_after = reads_after;
+  writes = faults old;
+  writes_after = faults new;
+  held = written old;
+  held_after = written new;
+}
+
 -- How a program may end with a status, by what that says of the devices. Its input is read where
 -- the words ask for that.
 abbrev pub EndsWith : {S : Type 0} → (S → List ℕ → Type 0) → Type 0 → Change → S → Ending → Type 0

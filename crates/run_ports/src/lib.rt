@@ -16,7 +16,7 @@ mod status;
 mod writing;
 
 pub use buffered::BufferedSink;
-pub use concluding::conclude;
+pub use concluding::{conclude, conclude_made};
 pub use memory::{MemorySink, MemorySource, SureSink, SureSource};
 pub use ports::{Failed, Sink, SinkFault, Source};
 pub use reading::{SCRIPT_LIMIT, TakeFault, take_up_to};
