@@ -3,13 +3,13 @@
 ghost use Rattle.std.specs.Prelude.{◌≡◌, ◌≢◌, ◌⊎◌, ℕ, ◌+◌, ◌≤◌, List, [], length, map, Option};
 ghost use Rattle.std.specs.Prelude.{IfSome};
 ghost use Rattle.std.specs.String.{string_bytes};
-ghost use Rattle.event_script.specs.FaultText.{fault_text};
 ghost use Rattle.event_script.specs.ScriptData.{ScriptData};
 ghost use Rattle.event_script.specs.Spelling.{IsScript};
 ghost use Rattle.journal_check.specs.TextFlaws.{IsVerdictOn};
 ghost use Rattle.journal_check.specs.declared.verdict.Verdict.{Verdict};
-ghost use Rattle.run_ports.specs.Endings.{Writes, WritesPart, Concludes};
+ghost use Rattle.run_ports.specs.Endings.{Writes, WritesPart, sink_change};
 ghost use Rattle.run_ports.specs.Ports.{Rose, HandsUpTo};
+ghost use Rattle.run_ports.specs.declared.status.Ending.{Ending};
 ghost use Rattle.check_run.specs.Parts.{script_part, journal_part};
 ghost use Rattle.check_run.specs.CheckOutcome.{IsCheckDue, IsDueFor, CheckEnds, CheckEndsFor};
 ghost use Rattle.check_run.specs.CheckStatuses.{check_ending_of, verdict_status};
@@ -18,10 +18,10 @@ use crate::parts::script_length;
 use crate::print::print_verdict;
 use crate::status::{CheckStatus, status_of};
 use event_script::laws::bytes_have_one_answer;
-use event_script::{Reason, Script, ScriptFault, print_fault, read};
+use event_script::{Script, ScriptFault, print_fault, read};
 use journal_check::laws::texts_have_one_verdict;
 use journal_check::{Verdict, check};
-use run_ports::{Sink, SinkFault, Source, TakeFault, conclude, take_up_to, write_piece};
+use run_ports::{Sink, Source, TakeFault, conclude, conclude_made, take_up_to};
 use std::alloc::Global;
 
 /// The greatest length of a script and a journal that is taken, in bytes.
@@ -116,16 +116,11 @@ fn end_of<S: Source, K: Sink>(
     ensures unread { map string_bytes words.now ≢ [] → source.new ≡ source.old }
     ensures taken { HandsUpTo (CHECK_LIMIT + 1) (S.remaining source.old) (S.remaining source.new) }
     ensures reads { result ≢ CheckStatus.ReadFault → S.faults source.new ≡ S.faults source.old }
-    ensures writes { result ≢ CheckStatus.WriteFault → K.faults sink.new ≡ K.faults sink.old }
+    ensures writes { check_ending_of result ≢ Ending.WriteFault
+        → K.faults sink.new ≡ K.faults sink.old }
     ensures ends { CheckEnds (map string_bytes words.now) (S.remaining source.old)
-        (record {
-          reads = S.faults source.old;
-          reads_after = S.faults source.new;
-          writes = K.faults sink.old;
-          writes_after = K.faults sink.new;
-          held = K.written sink.old;
-          held_after = K.written sink.new;
-        }) result }
+        (sink_change K.faults K.written sink.old sink.new
+        (S.faults source.old) (S.faults source.new)) result }
 {
     if words.is_empty() {
         check_source(alloc, source, sink)
@@ -140,16 +135,11 @@ fn check_source<S: Source, K: Sink>(alloc: Global, source: &mut S, sink: &mut K)
     requires sink { K.can_write sink.old }
     ensures taken { HandsUpTo (CHECK_LIMIT + 1) (S.remaining source.old) (S.remaining source.new) }
     ensures reads { result ≢ CheckStatus.ReadFault → S.faults source.new ≡ S.faults source.old }
-    ensures writes { result ≢ CheckStatus.WriteFault → K.faults sink.new ≡ K.faults sink.old }
+    ensures writes { check_ending_of result ≢ Ending.WriteFault
+        → K.faults sink.new ≡ K.faults sink.old }
     ensures ends { CheckEndsFor (S.remaining source.old)
-        (record {
-          reads = S.faults source.old;
-          reads_after = S.faults source.new;
-          writes = K.faults sink.old;
-          writes_after = K.faults sink.new;
-          held = K.written sink.old;
-          held_after = K.written sink.new;
-        }) result }
+        (sink_change K.faults K.written sink.old sink.new
+        (S.faults source.old) (S.faults source.new)) result }
 {
     let bytes = match take_up_to(alloc, source, CHECK_LIMIT) {
         Ok(bytes) => bytes,
@@ -166,23 +156,19 @@ fn check_source<S: Source, K: Sink>(alloc: Global, source: &mut S, sink: &mut K)
 fn check_input<K: Sink>(alloc: Global, bytes: &[u8], sink: &mut K) -> CheckStatus
     requires short { length bytes.now ≤ CHECK_LIMIT }
     requires sink { K.can_write sink.old }
-    ensures writes { result ≢ CheckStatus.WriteFault → K.faults sink.new ≡ K.faults sink.old }
+    ensures writes { check_ending_of result ≢ Ending.WriteFault
+        → K.faults sink.new ≡ K.faults sink.old }
     ensures ends { (input : Option (List ℕ)) (reads reads_after : ℕ)
         → IfSome input (λ had. had ≡ bytes.now)
         → CheckEndsFor input
-        (record {
-          reads = reads;
-          reads_after = reads_after;
-          writes = K.faults sink.old;
-          writes_after = K.faults sink.new;
-          held = K.written sink.old;
-          held_after = K.written sink.new;
-        }) result }
+        (sink_change K.faults K.written sink.old sink.new reads reads_after) result }
 {
     let (script, journal) = bytes.split_at(script_length(bytes));
     match read(alloc, script) {
         Ok(script) => check_text(alloc, &script, journal, sink),
-        Err(ScriptFault::Bad { line, reason }) => refuse(alloc, sink, line, reason),
+        Err(ScriptFault::Bad { line, reason }) => {
+            conclude_made(sink, print_fault(alloc, line, reason), CheckStatus::Script)
+        }
         Err(ScriptFault::NoMemory) => CheckStatus::NoMemory,
     }
 }
@@ -190,47 +176,17 @@ fn check_input<K: Sink>(alloc: Global, bytes: &[u8], sink: &mut K) -> CheckStatu
 /// Checks the text that follows a script.
 fn check_text<K: Sink>(alloc: Global, script: &Script, text: &[u8], sink: &mut K) -> CheckStatus
     requires { K.can_write sink.old }
-    ensures writes { result ≢ CheckStatus.WriteFault → K.faults sink.new ≡ K.faults sink.old }
+    ensures writes { check_ending_of result ≢ Ending.WriteFault
+        → K.faults sink.new ≡ K.faults sink.old }
     ensures ends { (input : Option (List ℕ)) (reads reads_after : ℕ)
         → IfSome input (λ bytes.
         (length bytes ≤ CHECK_LIMIT) × IsScript (script_part bytes) script.now)
         → IfSome input (λ bytes. journal_part bytes ≡ text.now)
         → CheckEndsFor input
-        (record {
-          reads = reads;
-          reads_after = reads_after;
-          writes = K.faults sink.old;
-          writes_after = K.faults sink.new;
-          held = K.written sink.old;
-          held_after = K.written sink.new;
-        }) result }
+        (sink_change K.faults K.written sink.old sink.new reads reads_after) result }
 {
-    let verdict = match check(alloc, script, text) {
-        Ok(verdict) => verdict,
-        Err(_) => return CheckStatus::NoMemory,
-    };
-    match print_verdict(alloc, verdict) {
-        Ok(line) => conclude(sink, &line, status_of(verdict)),
-        Err(_) => CheckStatus::NoMemory,
-    }
-}
-
-/// Writes the line that tells of a bad line of the script.
-fn refuse<K: Sink>(alloc: Global, sink: &mut K, line: u32, reason: Reason) -> CheckStatus
-    requires { K.can_write sink.old }
-    ensures sound { result ≢ CheckStatus.WriteFault → K.faults sink.new ≡ K.faults sink.old }
-    ensures concludes { Concludes check_ending_of (fault_text line reason) CheckStatus.Script
-        (record {
-          reads = 0;
-          reads_after = 0;
-          writes = K.faults sink.old;
-          writes_after = K.faults sink.new;
-          held = K.written sink.old;
-          held_after = K.written sink.new;
-        }) result }
-{
-    match print_fault(alloc, line, reason) {
-        Ok(text) => conclude(sink, &text, CheckStatus::Script),
+    match check(alloc, script, text) {
+        Ok(verdict) => conclude_made(sink, print_verdict(alloc, verdict), status_of(verdict)),
         Err(_) => CheckStatus::NoMemory,
     }
 }

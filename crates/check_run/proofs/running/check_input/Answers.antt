@@ -1,4 +1,5 @@
 use Rattle.std.proofs.Common.{◌≡◌, ◌≤◌, List, ℕ, length, take, drop, refl, ◌∙◌, sym, ap, subst}
+use Rattle.event_script.specs.FaultText.{fault_text}
 use Rattle.event_script.specs.Refusal.{IsFirstBad}
 use Rattle.event_script.specs.Spelling.{IsScript}
 use Rattle.run_ports.proofs.Endings.{ends_concluded}
@@ -31,4 +32,4 @@ returns-in-Err-Bad-clause-ends g c = λ input reads reads_after same.
     let first = subst (λ part. IsFirstBad part line reason) front bad in
     ends_concluded check_ending_of (IsDueFor input) (Unit {0}) _ _ status.Script _ refl
     (record { line = line; reason = reason; first = IfSome-same input bytes P same (c.requires.short, first); text_is = refl })
-    (rw (c.in-Err-Bad.line-is, c.in-Err-Bad.reason-is) at c.refuse.ensures.concludes)
+    (c.conclude_made.ensures.concludes (fault_text line reason) (rw (c.in-Err-Bad.line-is, c.in-Err-Bad.reason-is) at c.print_fault.ensures.text))

@@ -5,7 +5,6 @@ use Rattle.check_run.specs.CheckOutcome.{IsDueFor}
 use Rattle.check_run.specs.CheckStatuses.{check_ending_of}
 use Rattle.check_run.specs.declared.running.TheConstants.{CHECK_LIMIT}
 use Rattle.check_run.specs.declared.status.CheckStatus.TheVariants as status
-use Rattle.check_run.proofs.Endings.{check_write_told}
 use Rattle.check_run.proofs.running.check_source.Goals as goal
 
 pub returns-then-len-gt-CHECK_LIMIT-clause-ends : goal.returns-then-len-gt-CHECK_LIMIT-clause-ends
@@ -14,9 +13,6 @@ returns-then-len-gt-CHECK_LIMIT-clause-ends g c =
     ends_concluded check_ending_of (IsDueFor _) (Unit {0}) _ _ status.TooLong _ refl
     (Hands-longer CHECK_LIMIT _ _ c.in-Ok.bytes.items c.in-Ok.ensures.handed long, refl)
     c.conclude.ensures.concludes
-
-pub returns-then-len-gt-CHECK_LIMIT-clause-writes : goal.returns-then-len-gt-CHECK_LIMIT-clause-writes
-returns-then-len-gt-CHECK_LIMIT-clause-writes g c = λ other. c.conclude.ensures.sound (λ says. other (check_write_told c.conclude.result says))
 
 pub check_input-requires-clause-short : goal.check_input-requires-clause-short
 check_input-requires-clause-short g c =

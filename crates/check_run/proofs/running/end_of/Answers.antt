@@ -4,7 +4,7 @@ use Rattle.run_ports.proofs.Endings.{ends_concluded}
 use Rattle.check_run.specs.CheckOutcome.{IsCheckDue}
 use Rattle.check_run.specs.CheckStatuses.{check_ending_of}
 use Rattle.check_run.specs.declared.status.CheckStatus.TheVariants as status
-use Rattle.check_run.proofs.Endings.{ends_for, check_write_told, no_words, some_words}
+use Rattle.check_run.proofs.Endings.{ends_for, no_words, some_words}
 use Rattle.check_run.proofs.running.end_of.Goals as goal
 
 pub returns-then-is_empty-clause-ends : goal.returns-then-is_empty-clause-ends
@@ -20,6 +20,3 @@ returns-else-is_empty-clause-ends g c =
     let words = map string_bytes c.args.words.now in
     ends_concluded check_ending_of (IsCheckDue words _) (words ≡ []) _ _ status.Usage _ refl
     (some_words string_bytes c.args.words.now (sym c.is_empty.ensures ∙ c.if-is_empty.false), refl) c.conclude.ensures.concludes
-
-pub returns-else-is_empty-clause-writes : goal.returns-else-is_empty-clause-writes
-returns-else-is_empty-clause-writes g c = λ other. c.conclude.ensures.sound (λ says. other (check_write_told c.conclude.result says))
