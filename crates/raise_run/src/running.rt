@@ -3,11 +3,11 @@
 ghost use Rattle.std.specs.Prelude.{◌≡◌, ◌≢◌, ◌⊎◌, ℕ, ◌+◌, ◌<◌, ◌≤◌, List, length, map, Option};
 ghost use Rattle.std.specs.Prelude.{IfOk, IfSome, MatchBool, Some, None};
 ghost use Rattle.std.specs.String.{string_bytes};
-ghost use Rattle.event_script.specs.FaultText.{fault_text};
 ghost use Rattle.event_script.specs.ScriptData.{ScriptData};
 ghost use Rattle.event_script.specs.Spelling.{IsScript};
-ghost use Rattle.run_ports.specs.Endings.{Writes, WritesPart, Concludes};
+ghost use Rattle.run_ports.specs.Endings.{Writes, WritesPart, sink_change};
 ghost use Rattle.run_ports.specs.Ports.{Rose, HandsUpTo};
+ghost use Rattle.run_ports.specs.declared.status.Ending.{Ending};
 ghost use Rattle.run_ports.specs.declared.reading.TheConstants.{SCRIPT_LIMIT};
 ghost use Rattle.raise_run.specs.RaiseOutcome.{IsRaiseDue, RaiseEnds, RaiseEndsOf, SpellsScript};
 ghost use Rattle.raise_run.specs.RaiseOutcome.{no_snapshot_line};
@@ -20,10 +20,8 @@ use crate::raising::raise_in;
 use crate::status::RaiseStatus;
 use crate::words::{RaiseRequest, request_of};
 use event_script::laws::bytes_have_one_answer;
-use event_script::{Reason, Script, ScriptFault, print_fault, read};
-use run_ports::{
-    SCRIPT_LIMIT, Sink, SinkFault, Source, TakeFault, conclude, take_up_to, write_piece,
-};
+use event_script::{Script, ScriptFault, print_fault, read};
+use run_ports::{SCRIPT_LIMIT, Sink, Source, TakeFault, conclude, conclude_made, take_up_to};
 use std::alloc::{AllocError, Global};
 use std::fmt::Write;
 use std::sync::Wait;
@@ -114,16 +112,11 @@ fn end_of<R: Wait, S: Source, K: Sink>(
     ensures unread { request_of (map string_bytes words.now) ≡ None → source.new ≡ source.old }
     ensures taken { HandsUpTo (SCRIPT_LIMIT + 1) (S.remaining source.old) (S.remaining source.new) }
     ensures reads { result ≢ RaiseStatus.ReadFault → S.faults source.new ≡ S.faults source.old }
-    ensures writes { result ≢ RaiseStatus.WriteFault → K.faults sink.new ≡ K.faults sink.old }
+    ensures writes { raise_ending_of result ≢ Ending.WriteFault
+        → K.faults sink.new ≡ K.faults sink.old }
     ensures ends { RaiseEnds (map string_bytes words.now) (S.remaining source.old)
-        (record {
-          reads = S.faults source.old;
-          reads_after = S.faults source.new;
-          writes = K.faults sink.old;
-          writes_after = K.faults sink.new;
-          held = K.written sink.old;
-          held_after = K.written sink.new;
-        }) result }
+        (sink_change K.faults K.written sink.old sink.new
+        (S.faults source.old) (S.faults source.new)) result }
 {
     match request_of(words) {
         Some(request) => raise_source(rt, alloc, &request, source, sink),
@@ -147,16 +140,11 @@ fn raise_source<R: Wait, S: Source, K: Sink>(
     requires sink { K.can_write sink.old }
     ensures taken { HandsUpTo (SCRIPT_LIMIT + 1) (S.remaining source.old) (S.remaining source.new) }
     ensures reads { result ≢ RaiseStatus.ReadFault → S.faults source.new ≡ S.faults source.old }
-    ensures writes { result ≢ RaiseStatus.WriteFault → K.faults sink.new ≡ K.faults sink.old }
+    ensures writes { raise_ending_of result ≢ Ending.WriteFault
+        → K.faults sink.new ≡ K.faults sink.old }
     ensures ends { RaiseEndsOf request.now (S.remaining source.old)
-        (record {
-          reads = S.faults source.old;
-          reads_after = S.faults source.new;
-          writes = K.faults sink.old;
-          writes_after = K.faults sink.new;
-          held = K.written sink.old;
-          held_after = K.written sink.new;
-        }) result }
+        (sink_change K.faults K.written sink.old sink.new
+        (S.faults source.old) (S.faults source.new)) result }
 {
     let bytes = match take_up_to(alloc, source, SCRIPT_LIMIT) {
         Ok(bytes) => bytes,
@@ -168,7 +156,9 @@ fn raise_source<R: Wait, S: Source, K: Sink>(
     }
     match read(alloc, &bytes) {
         Ok(script) => raise_script(rt, alloc, &script, request, sink),
-        Err(ScriptFault::Bad { line, reason }) => refuse(alloc, sink, line, reason),
+        Err(ScriptFault::Bad { line, reason }) => {
+            conclude_made(sink, print_fault(alloc, line, reason), RaiseStatus::Script)
+        }
         Err(ScriptFault::NoMemory) => RaiseStatus::NoMemory,
     }
 }
@@ -182,22 +172,17 @@ fn raise_script<R: Wait, K: Sink>(
     sink: &mut K,
 ) -> RaiseStatus
     requires sink { K.can_write sink.old }
-    ensures writes { result ≢ RaiseStatus.WriteFault → K.faults sink.new ≡ K.faults sink.old }
+    ensures writes { raise_ending_of result ≢ Ending.WriteFault
+        → K.faults sink.new ≡ K.faults sink.old }
     ensures ends { (input : Option (List ℕ)) (reads reads_after : ℕ) → SpellsScript input script.now
         → RaiseEndsOf request.now input
-        (record {
-          reads = reads;
-          reads_after = reads_after;
-          writes = K.faults sink.old;
-          writes_after = K.faults sink.new;
-          held = K.written sink.old;
-          held_after = K.written sink.new;
-        }) result }
+        (sink_change K.faults K.written sink.old sink.new reads reads_after) result }
 {
     if has_snapshot(script, request.snapshot) {
         raise_named(rt, alloc, script, request, sink)
     } else {
-        miss(alloc, sink, request.snapshot)
+        let line = print_missing(alloc, request.snapshot);
+        conclude_made(sink, line, RaiseStatus::NoSnapshot)
     }
 }
 
@@ -218,45 +203,15 @@ fn raise_named<R: Wait, K: Sink>(
 ) -> RaiseStatus
     requires named { request.now.snapshot < length script.now.snapshots }
     requires sink { K.can_write sink.old }
-    ensures writes { result ≢ RaiseStatus.WriteFault → K.faults sink.new ≡ K.faults sink.old }
+    ensures writes { raise_ending_of result ≢ Ending.WriteFault
+        → K.faults sink.new ≡ K.faults sink.old }
     ensures ends { (input : Option (List ℕ)) (reads reads_after : ℕ) → SpellsScript input script.now
         → RaiseEndsOf request.now input
-        (record {
-          reads = reads;
-          reads_after = reads_after;
-          writes = K.faults sink.old;
-          writes_after = K.faults sink.new;
-          held = K.written sink.old;
-          held_after = K.written sink.new;
-        }) result }
+        (sink_change K.faults K.written sink.old sink.new reads reads_after) result }
 {
     let snapshot = &script.snapshots[request.snapshot as usize];
-    let raised = match raise_in(rt, alloc, script, snapshot, request) {
-        Ok(raised) => raised,
-        Err(_) => return RaiseStatus::NoMemory,
-    };
-    match print_raised(alloc, &raised) {
-        Ok(text) => conclude(sink, &text, RaiseStatus::Done),
-        Err(_) => RaiseStatus::NoMemory,
-    }
-}
-
-/// Writes the line that tells of a bad line of the script.
-fn refuse<K: Sink>(alloc: Global, sink: &mut K, line: u32, reason: Reason) -> RaiseStatus
-    requires { K.can_write sink.old }
-    ensures sound { result ≢ RaiseStatus.WriteFault → K.faults sink.new ≡ K.faults sink.old }
-    ensures concludes { Concludes raise_ending_of (fault_text line reason) RaiseStatus.Script
-        (record {
-          reads = 0;
-          reads_after = 0;
-          writes = K.faults sink.old;
-          writes_after = K.faults sink.new;
-          held = K.written sink.old;
-          held_after = K.written sink.new;
-        }) result }
-{
-    match print_fault(alloc, line, reason) {
-        Ok(text) => conclude(sink, &text, RaiseStatus::Script),
+    match raise_in(rt, alloc, script, snapshot, request) {
+        Ok(raised) => conclude_made(sink, print_raised(alloc, &raised), RaiseStatus::Done),
         Err(_) => RaiseStatus::NoMemory,
     }
 }
@@ -268,24 +223,4 @@ fn print_missing(alloc: Global, number: u32) -> Result<Vec<u8>, AllocError>
     let mut text = String::new(alloc);
     write!(text, "no snapshot {number}\n")?;
     Ok(text.into_bytes())
-}
-
-/// Writes the line that tells of a snapshot that isn't there.
-fn miss<K: Sink>(alloc: Global, sink: &mut K, number: u32) -> RaiseStatus
-    requires { K.can_write sink.old }
-    ensures sound { result ≢ RaiseStatus.WriteFault → K.faults sink.new ≡ K.faults sink.old }
-    ensures concludes { Concludes raise_ending_of (no_snapshot_line number) RaiseStatus.NoSnapshot
-        (record {
-          reads = 0;
-          reads_after = 0;
-          writes = K.faults sink.old;
-          writes_after = K.faults sink.new;
-          held = K.written sink.old;
-          held_after = K.written sink.new;
-        }) result }
-{
-    match print_missing(alloc, number) {
-        Ok(text) => conclude(sink, &text, RaiseStatus::NoSnapshot),
-        Err(_) => RaiseStatus::NoMemory,
-    }
 }

@@ -5,7 +5,7 @@ use Rattle.raise_run.specs.RaiseOutcome.{IsRaiseDue}
 use Rattle.raise_run.specs.RaiseStatuses.{raise_ending_of}
 use Rattle.raise_run.specs.Words.{request_of}
 use Rattle.raise_run.specs.declared.status.RaiseStatus.TheVariants as status
-use Rattle.raise_run.proofs.Endings.{ends_of, raise_write_told}
+use Rattle.raise_run.proofs.Endings.{ends_of}
 use Rattle.raise_run.proofs.running.end_of.Goals as goal
 
 pub returns-in-Some-clause-ends : goal.returns-in-Some-clause-ends
@@ -16,6 +16,3 @@ pub returns-in-None-clause-ends : goal.returns-in-None-clause-ends
 returns-in-None-clause-ends g c =
     let words = map string_bytes c.args.words.now in
     ends_concluded raise_ending_of (IsRaiseDue words _) (request_of words ≢ None) _ _ status.Usage _ refl (sym c.in-None.ensures, refl) c.conclude.ensures.concludes
-
-pub returns-in-None-clause-writes : goal.returns-in-None-clause-writes
-returns-in-None-clause-writes g c = λ other. c.conclude.ensures.sound (λ says. other (raise_write_told c.conclude.result says))
