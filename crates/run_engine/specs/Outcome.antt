@@ -16,7 +16,7 @@ use Rattle.run_ports.specs.Ports.{Rose, Gains, GainsPart}
 use Rattle.run_ports.specs.declared.reading.TheConstants.{SCRIPT_LIMIT}
 use Rattle.run_engine.specs.Statuses.{ending_of}
 use Rattle.run_engine.specs.declared.status.Status.{Status}
-use Rattle.run_engine.specs.declared.status.Status.TheVariants.{Done, Usage, Script, ReadFault}
+use Rattle.run_engine.specs.declared.status.Status.TheVariants.{Done, Usage, Script}
 use Rattle.run_engine.specs.declared.status.Status.TheVariants.{WriteFault, NoMemory, TooLong}
 
 abbrev pub usage_line : List ℕ

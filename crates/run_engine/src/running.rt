@@ -3,12 +3,12 @@
 ghost use Rattle.std.specs.Prelude.{◌≡◌, ◌≢◌, ◌⊎◌, ◌+◌, ℕ, ◌≤◌, length, map, IfSome, List};
 ghost use Rattle.event_script.specs.ScriptData.{ScriptData};
 ghost use Rattle.event_script.specs.Spelling.{IsScript};
-ghost use Rattle.event_script.specs.FaultText.{fault_text};
 ghost use Rattle.std.specs.String.{string_bytes};
 ghost use Rattle.command_line.specs.CommandLine.{IsCommandLine};
 ghost use Rattle.script_generator.specs.Generator.{IsImageCount};
 ghost use Rattle.run_ports.specs.Ports.{Rose, HandsUpTo};
-ghost use Rattle.run_ports.specs.Endings.{Writes, WritesPart, Concludes};
+ghost use Rattle.run_ports.specs.declared.status.Ending.{Ending};
+ghost use Rattle.run_ports.specs.Endings.{Writes, WritesPart, sink_change};
 ghost use Rattle.run_engine.specs.Outcome.{IsDue, Ends, EndsGenerated};
 ghost use Rattle.run_engine.specs.Statuses.{ending_of};
 ghost use Rattle.run_ports.specs.declared.reading.TheConstants.{SCRIPT_LIMIT};
@@ -19,8 +19,10 @@ use crate::status::Status;
 use crate::writing::{write_journal, write_summary};
 use command_line::{Command, command_of};
 use event_script::laws::bytes_have_one_answer;
-use event_script::{Reason, ScriptFault, print_fault, read};
-use run_ports::{SCRIPT_LIMIT, Sink, SinkFault, Source, TakeFault, conclude, take_up_to};
+use event_script::{ScriptFault, print_fault, read};
+use run_ports::{
+    SCRIPT_LIMIT, Sink, SinkFault, Source, TakeFault, conclude, conclude_made, take_up_to,
+};
 use script_generator::generate;
 use std::alloc::Global;
 use std::sync::Wait;
@@ -115,16 +117,10 @@ fn end_of<R: Threads + Wait + Sync, S: Source, K: Sink, G: Gate + Sync>(
         → source.new ≡ source.old }
     ensures taken { HandsUpTo (SCRIPT_LIMIT + 1) (S.remaining source.old) (S.remaining source.new) }
     ensures reads { result ≢ Status.ReadFault → S.faults source.new ≡ S.faults source.old }
-    ensures writes { result ≢ Status.WriteFault → K.faults sink.new ≡ K.faults sink.old }
+    ensures writes { ending_of result ≢ Ending.WriteFault → K.faults sink.new ≡ K.faults sink.old }
     ensures ends { Ends (map string_bytes words.now) (S.remaining source.old)
-        (record {
-          reads = S.faults source.old;
-          reads_after = S.faults source.new;
-          writes = K.faults sink.old;
-          writes_after = K.faults sink.new;
-          held = K.written sink.old;
-          held_after = K.written sink.new;
-        }) result }
+        (sink_change K.faults K.written sink.old sink.new
+        (S.faults source.old) (S.faults source.new)) result }
 {
     match command_of(alloc, words) {
         Ok(Some(Command::Run)) => run_source(rt, alloc, source, sink, gate),
@@ -150,17 +146,11 @@ fn run_source<R: Threads + Wait + Sync, S: Source, K: Sink, G: Gate + Sync>(
     requires sink { K.can_write sink.old }
     ensures taken { HandsUpTo (SCRIPT_LIMIT + 1) (S.remaining source.old) (S.remaining source.new) }
     ensures reads { result ≢ Status.ReadFault → S.faults source.new ≡ S.faults source.old }
-    ensures writes { result ≢ Status.WriteFault → K.faults sink.new ≡ K.faults sink.old }
+    ensures writes { ending_of result ≢ Ending.WriteFault → K.faults sink.new ≡ K.faults sink.old }
     ensures ends { (words : List (List ℕ)) → IsCommandLine words Command.Run
         → Ends words (S.remaining source.old)
-        (record {
-          reads = S.faults source.old;
-          reads_after = S.faults source.new;
-          writes = K.faults sink.old;
-          writes_after = K.faults sink.new;
-          held = K.written sink.old;
-          held_after = K.written sink.new;
-        }) result }
+        (sink_change K.faults K.written sink.old sink.new
+        (S.faults source.old) (S.faults source.new)) result }
 {
     let bytes = match take_up_to(alloc, source, SCRIPT_LIMIT) {
         Ok(bytes) => bytes,
@@ -172,7 +162,9 @@ fn run_source<R: Threads + Wait + Sync, S: Source, K: Sink, G: Gate + Sync>(
     }
     let script = match read(alloc, &bytes) {
         Ok(script) => script,
-        Err(ScriptFault::Bad { line, reason }) => return refuse(alloc, sink, line, reason),
+        Err(ScriptFault::Bad { line, reason }) => {
+            return conclude_made(sink, print_fault(alloc, line, reason), Status::Script);
+        }
         Err(ScriptFault::NoMemory) => return Status::NoMemory,
     };
     drop(bytes);
@@ -197,16 +189,9 @@ fn run_generated<R: Threads + Wait + Sync, K: Sink, G: Gate + Sync>(
 ) -> Status
     requires count { IsImageCount count }
     requires sink { K.can_write sink.old }
-    ensures writes { result ≢ Status.WriteFault → K.faults sink.new ≡ K.faults sink.old }
+    ensures writes { ending_of result ≢ Ending.WriteFault → K.faults sink.new ≡ K.faults sink.old }
     ensures ends { EndsGenerated count
-        (record {
-          reads = 0;
-          reads_after = 0;
-          writes = K.faults sink.old;
-          writes_after = K.faults sink.new;
-          held = K.written sink.old;
-          held_after = K.written sink.new;
-        }) result }
+        (sink_change K.faults K.written sink.old sink.new 0 0) result }
 {
     let script = match generate(alloc, count) {
         Ok(script) => script,
@@ -220,25 +205,5 @@ fn run_generated<R: Threads + Wait + Sync, K: Sink, G: Gate + Sync>(
         Ok(()) => Status::Done,
         Err(SinkFault::Failed) => Status::WriteFault,
         Err(SinkFault::NoMemory) => Status::NoMemory,
-    }
-}
-
-/// Writes the line that tells of a bad line of the script.
-fn refuse<K: Sink>(alloc: Global, sink: &mut K, line: u32, reason: Reason) -> Status
-    requires { K.can_write sink.old }
-    ensures sound { result ≢ Status.WriteFault → K.faults sink.new ≡ K.faults sink.old }
-    ensures concludes { Concludes ending_of (fault_text line reason) Status.Script
-        (record {
-          reads = 0;
-          reads_after = 0;
-          writes = K.faults sink.old;
-          writes_after = K.faults sink.new;
-          held = K.written sink.old;
-          held_after = K.written sink.new;
-        }) result }
-{
-    match print_fault(alloc, line, reason) {
-        Ok(text) => conclude(sink, &text, Status::Script),
-        Err(_) => Status::NoMemory,
     }
 }

@@ -1,4 +1,5 @@
 use Rattle.std.proofs.Common.{◌<◌, ◌≤◌, List, ℕ, length, vec_len, refl, inr, arith}
+use Rattle.event_script.specs.FaultText.{fault_text}
 use Rattle.event_script.specs.Refusal.{IsFirstBad}
 use Rattle.event_script.specs.Spelling.{IsScript}
 use Rattle.event_script.specs.Text.{journal_text}
@@ -10,7 +11,6 @@ use Rattle.run_engine.specs.Outcome.{IsDue}
 use Rattle.run_engine.specs.Statuses.{ending_of}
 use Rattle.run_ports.proofs.Endings.{ends_concluded}
 use Rattle.run_ports.proofs.Pieces.{Hands-longer, IfSome-same}
-use Rattle.run_engine.proofs.Endings.{write_told}
 use Rattle.run_engine.proofs.running.run_source.Goals as goal
 
 pub returns-then-len-gt-SCRIPT_LIMIT-clause-ends : goal.returns-then-len-gt-SCRIPT_LIMIT-clause-ends
@@ -28,7 +28,7 @@ returns-in-Err-Bad-clause-ends g c = λ words is.
     let P : List ℕ → Type 0 = λ had. (length had ≤ SCRIPT_LIMIT) × IsFirstBad had c.in-Err-Bad.line c.in-Err-Bad.reason in
     ends_concluded ending_of (IsDue words _) (IsCommandLine words Run) _ _ status.Script _ refl
     (is, record { line = c.in-Err-Bad.line; reason = c.in-Err-Bad.reason; first = IfSome-same _ bytes.items P (c.in-Ok.ensures.all within) (short, rw (← c.deref.ensures.value) (rw c.in-Err-Bad.field-0-is at c.in-Err-Bad.ensures.bad)); text_is = refl })
-    c.refuse.ensures.concludes
+    (c.conclude_made.ensures.concludes (fault_text c.in-Err-Bad.line c.in-Err-Bad.reason) c.print_fault.ensures.text)
 
 pub returns-in-Err-Failed-write_journal-clause-ends : goal.returns-in-Err-Failed-write_journal-clause-ends
 returns-in-Err-Failed-write_journal-clause-ends g c = λ words is.
@@ -78,6 +78,3 @@ returns-clause-ends g c = λ words is.
       ),
       c.in-Err-NoMemory-write_journal.ensures.err,
     )
-
-pub returns-then-len-gt-SCRIPT_LIMIT-clause-writes : goal.returns-then-len-gt-SCRIPT_LIMIT-clause-writes
-returns-then-len-gt-SCRIPT_LIMIT-clause-writes g c = λ other. c.conclude.ensures.sound (λ says. other (write_told c.conclude.result says))
