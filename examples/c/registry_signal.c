@@ -1,5 +1,6 @@
-/* Lookups and updates in a signal handler that interrupts updates, and in a forked child, each by a
- * client of its own. Status 0: each was answered rightly, or said that it was busy. */
+/* Lookups and updates in a signal handler that interrupts updates, by a client of its own and by a
+ * reader, and lookups by both in a forked child. Status 0: each was answered rightly, or said that
+ * it was busy. */
 #define _GNU_SOURCE
 #include "registry_c.h"
 #include <signal.h>
@@ -11,17 +12,26 @@
 enum { CODE = 0x4000, STAYS = 0x2000, OWN = 0x8000, SIGNALS = 300 };
 
 static registry_client client, in_handler;
+static registry_reader reader;
 static volatile sig_atomic_t signals, wrong, not_answered;
 
 /* What stays is found; what comes and goes is there or not. */
+static void judge(const registry_place *place, uint32_t payload, bool stays) {
+  if (place->kind == REGISTRY_FIND_AGAIN) not_answered++;
+  else if (place->kind != REGISTRY_REGISTERED) wrong += stays;
+  else wrong += place->member.payload != payload;
+}
+
 static void look_up(registry_client *mine) {
   registry_place place;
   registry_c_find(*mine, STAYS + 1, &place, mine);
-  if (place.kind == REGISTRY_FIND_AGAIN) not_answered++;
-  else if (place.kind != REGISTRY_REGISTERED || place.member.payload != 1) wrong++;
+  judge(&place, 1, true);
   registry_c_find(*mine, CODE + 1, &place, mine);
-  if (place.kind == REGISTRY_FIND_AGAIN) not_answered++;
-  else if (place.kind == REGISTRY_REGISTERED && place.member.payload != 2) wrong++;
+  judge(&place, 2, false);
+  registry_c_reader_find(reader, STAYS + 1, &place, &reader);
+  judge(&place, 1, true);
+  registry_c_reader_find(reader, CODE + 1, &place, &reader);
+  judge(&place, 2, false);
 }
 
 /* A range of the handler's own: it is there after every second accepted update. */
@@ -63,6 +73,7 @@ static bool start(void) {
   const registry_member none = {0};
   if (registry_c_new(&limits, &none, 0, &client) != REGISTRY_NEW) return false;
   if (registry_c_split(client, 1 << 20, &in_handler, &client) != REGISTRY_SPLIT) return false;
+  if (!registry_c_reader(client, &reader, &client)) return false;
   struct sigaction action = {.sa_handler = on_signal};
   const struct itimerval often = {{0, 1000}, {0, 1000}};
   if (!put(STAYS, 1) || sigaction(SIGALRM, &action, NULL)) return false;
@@ -91,6 +102,7 @@ int main(void) {
   if (child_status()) return 4;
   if (registry_c_join(client, in_handler, &client, &in_handler) != REGISTRY_JOINED) return 5;
   if (!registry_c_close(client, &seen)) return 6;
+  if (registry_c_reader_drop(reader) > seen) return 7;
   printf("%u updates, %d signals, %d not answered, %d wrong\n", seen, (int)signals,
          (int)not_answered, (int)wrong);
   return wrong != 0;
