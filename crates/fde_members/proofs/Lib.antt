@@ -1,4 +1,3 @@
-pub mod Ends
 pub mod Listing
 pub mod Hits
 pub mod Covers

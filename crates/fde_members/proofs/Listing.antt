@@ -11,7 +11,7 @@ use Rattle.frame_parse.specs.Sections.{SectionData}
 use Rattle.fde_members.specs.Members.{AreNear, IsFaultOf, IsMembersFault, is_kept, is_near, fde_member, members_at, section_members}
 use Rattle.fde_members.specs.declared.members.MembersFault.{MembersFault}
 use Rattle.fde_members.specs.declared.members.MembersFault.TheVariants.{Far, NoMemory}
-use Rattle.fde_members.proofs.Ends.{Ends}
+use Rattle.frame_parse.specs.Keeping.{EndsLow}
 
 pub no_member_of : (low address : ℕ) (f : FdeRecord) → is_kept f ≡ false → members_at low address (f ∷ []) ≡ []
 no_member_of low address f out = ap (λ (b : Bool). map (fde_member low address) (cond b (f ∷ []) [])) out
@@ -60,8 +60,8 @@ fault_told low s i f items NoMemory at so_far near of = tt
 fault_told low s i f items (Far d) at so_far near of =
     (fde_member low s.address f, far_found low s.address s.fdes i f (section_members low s) items at so_far near of.0 of.1, of.2)
 
-pub ends_at : (fdes : List FdeRecord) (i : ℕ) (f : FdeRecord) → All Ends fdes → slice_get fdes i ≡ Some f → Ends f
-ends_at fdes i f all at = subst Ends (get_or_from_slice_get fdes i f f at) (all i f (slice_get_within fdes i f at))
+pub ends_at : (fdes : List FdeRecord) (i : ℕ) (f : FdeRecord) → All EndsLow fdes → slice_get fdes i ≡ Some f → EndsLow f
+ends_at fdes i f all at = subst EndsLow (get_or_from_slice_get fdes i f f at) (all i f (slice_get_within fdes i f at))
 
 pub all_listed : (low address : ℕ) (fdes : List FdeRecord) (i : ℕ) (whole items : List Member) → i ≡ length fdes → whole ≡ items ++ members_at low address (drop i fdes) → items ≡ whole
 all_listed low address fdes i whole items end so_far =

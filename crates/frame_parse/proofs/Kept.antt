@@ -1,7 +1,9 @@
 -- The programs of a section's FDEs stand in its bytes, as they were read.
-use Rattle.std.proofs.Common.{◌≡◌, ℕ, zero, suc, ◌+◌, ◌-◌, ◌<◌, List, [], ◌∷◌, ◌++◌, length, get_or, Bool, true, false, cond, Option, Some, None, Ok, Err, nat_lt, nat_eq, refl, sym, ap, subst, ◌∙◌, append_assoc, length-append, arith, inl, inr}
+use Rattle.std.proofs.Common.{◌≡◌, ℕ, zero, suc, ◌+◌, ◌-◌, List, [], ◌∷◌, ◌++◌, length, Bool, true, false, cond, Option, Some, None, Ok, Err, nat_lt, nat_eq, refl, sym, ap, subst, ◌∙◌, append_assoc, length-append, arith, inl, inr}
 use Rattle.std.specs.Prelude.{slice_get}
+use Rattle.std.specs.List.{All}
 use Rattle.std.proofs.lemmas.List.{append-nil}
+use Rattle.std.proofs.lemmas.List.Elements.{All-nil, All-cons, All-tail, All-append}
 use Rattle.frame_parse.specs.declared.fault.RecordFault.{RecordFault}
 use Rattle.frame_parse.specs.declared.fault.RecordFault.TheVariants as faults
 use Rattle.frame_parse.specs.declared.records.Extent.{Extent}
@@ -17,7 +19,9 @@ use Rattle.eh_bytes.specs.Grammar.{given, found}
 use Rattle.frame_parse.specs.Programs.{most_remembered, context_of, effect_of, effect, step, top, below_top, initial_state, first_state, PlacedProgramData, HasPlacedSteps, initial_of, text_in, IsExtent, HasPrograms}
 use Rattle.frame_parse.specs.Steps.{left_of_initial, HaveOneCie, HaveOneProgram}
 use Rattle.eh_bytes.specs.Steps.{AreSteps}
-use Rattle.frame_parse.specs.Sections.{FdeData, AreRecords, fdes_of, IsSection, HasFdes, covers, first_cover}
+use Rattle.frame_parse.specs.Sections.{FdeData, AreRecords, with_record, fdes_of, IsSection, HasFdes}
+use Rattle.frame_parse.specs.Keeping.{CieKept, EndsLow, RecordKept}
+use Rattle.frame_parse.proofs.Ends.{record_ends}
 use Rattle.frame_parse.specs.Records.{cie, fde, cie_from, cie_after, content, record_at, whole_record}
 
 -- ---- what a step doesn't look at
@@ -130,14 +134,6 @@ fde_place section start end p c front f s =
     let found : f.program ≡ made = sym (ap (λ (k : FdeRecord). k.program) s3.5.1) in
     (found ∙ ap (λ (q : ℕ). record { at = q; end = end }) place, sym (ap (λ (k : FdeRecord). k.cie) s3.5.1))
 
--- the initial instructions of a CIE stand in the bytes
-pub record CieKept (section : ℕ) (bytes : List ℕ) (c : CieRecord) : Type 0 where
-  pub text : List ℕ
-  pub inside : IsExtent bytes c.initial text
-  pub steps : List PlacedStep
-  pub last : State
-  pub spelled : AreSteps (step (context_of section c Initial)) c.initial.at initial_state text steps last
-
 -- a text after others, up to the end of its record
 extent : (bytes before head body text after : List ℕ) (p at end : ℕ) → bytes ≡ before ++ (text ++ after) → text ≡ head ++ body → p ≡ length before → at ≡ p + length head → end ≡ p + length text
     → IsExtent bytes (record { at = at; end = end }) body
@@ -171,14 +167,6 @@ content_cie section p earlier start end text bytes before after c s whole place 
 
 -- ---- FDEs, with their CIEs among the earlier ones
 
-abbrev pub AllKept : ℕ → List ℕ → List CieRecord → Type 0
-AllKept section bytes [] = Unit {0}
-AllKept section bytes (c ∷ cs) = CieKept section bytes c × AllKept section bytes cs
-
-AllKept-end : (section : ℕ) (bytes : List ℕ) (cs : List CieRecord) (c : CieRecord) → AllKept section bytes cs → CieKept section bytes c → AllKept section bytes (cs ++ c ∷ [])
-AllKept-end section bytes [] c all kept = (kept, tt)
-AllKept-end section bytes (d ∷ cs) c all kept = (all.0, AllKept-end section bytes cs c all.1 kept)
-
 found_spells : (o : Option CieRecord) (f : RecordFault) (p : ℕ) (text : List ℕ) (c : CieRecord) → (found o f).Spells p text c → (text ≡ []) × (o ≡ Some c)
 found_spells None f p text c a = absurd a
 found_spells (Some d) f p text c a = (a.0, ap (λ (k : CieRecord). Some k) a.1)
@@ -187,11 +175,11 @@ kept_choice : (section : ℕ) (bytes : List ℕ) (b : Bool) (d c : CieRecord) (o
 kept_choice section bytes true d c o kept more e = subst (λ (k : CieRecord). CieKept section bytes k) (let same : d ≡ c = cc in same) kept
 kept_choice section bytes false d c o kept more e = more e
 
-cie_from-kept : (section : ℕ) (bytes : List ℕ) (cs : List CieRecord) (place : ℕ) (c : CieRecord) → AllKept section bytes cs → cie_from cs place ≡ Some c → CieKept section bytes c
+cie_from-kept : (section : ℕ) (bytes : List ℕ) (cs : List CieRecord) (place : ℕ) (c : CieRecord) → All (CieKept section bytes) cs → cie_from cs place ≡ Some c → CieKept section bytes c
 cie_from-kept section bytes [] place c all e = absurd cc
-cie_from-kept section bytes (d ∷ cs) place c all e = kept_choice section bytes (nat_eq d.start place) d c (cie_from cs place) all.0 (cie_from-kept section bytes cs place c all.1) e
+cie_from-kept section bytes (d ∷ cs) place c all e = kept_choice section bytes (nat_eq d.start place) d c (cie_from cs place) (all 0 d (omega arith)) (cie_from-kept section bytes cs place c (All-tail (CieKept section bytes) d cs all)) e
 
-kept_after : (section : ℕ) (bytes : List ℕ) (b : Bool) (cs : List CieRecord) (place : ℕ) (c : CieRecord) → AllKept section bytes cs → cond b None (cie_from cs place) ≡ Some c → CieKept section bytes c
+kept_after : (section : ℕ) (bytes : List ℕ) (b : Bool) (cs : List CieRecord) (place : ℕ) (c : CieRecord) → All (CieKept section bytes) cs → cond b None (cie_from cs place) ≡ Some c → CieKept section bytes c
 kept_after section bytes true cs place c all e = absurd cc
 kept_after section bytes false cs place c all e = cie_from-kept section bytes cs place c all e
 
@@ -212,7 +200,7 @@ programs_of section bytes text f steps t kept inside a =
       initial_spelled = (moved f.first kept.last, moved_steps.1);
     }
 
-content_fde : (section p : ℕ) (earlier : List CieRecord) (start end : ℕ) (text bytes before after : List ℕ) (f : FdeRecord) → AllKept section bytes earlier → (content section earlier start end).Spells p text (Fde f)
+content_fde : (section p : ℕ) (earlier : List CieRecord) (start end : ℕ) (text bytes before after : List ℕ) (f : FdeRecord) → All (CieKept section bytes) earlier → (content section earlier start end).Spells p text (Fde f)
     → bytes ≡ before ++ (text ++ after) → p ≡ length before → end ≡ p + length text → HasPrograms section bytes f
 unfolding content
 content_fde section p earlier start end text bytes before after f all s whole place size =
@@ -278,46 +266,44 @@ body_of section p earlier front bytes before after r s whole place =
       size = omega (arith, held.4.1, held.5.0, ap length held.4.0);
     }
 
-abbrev pub AllPrograms : ℕ → List ℕ → List FdeRecord → Type 0
-AllPrograms section bytes [] = Unit {0}
-AllPrograms section bytes (f ∷ fs) = HasPrograms section bytes f × AllPrograms section bytes fs
+-- a record by itself, by CIEs that were kept
+pub record_kept : (section p : ℕ) (earlier : List CieRecord) (bytes before front after : List ℕ) (r : Record) → bytes ≡ before ++ (front ++ after) → p ≡ length before → All (CieKept section bytes) earlier
+    → (whole_record section earlier).Spells p front r → RecordKept section bytes r
+record_kept section p earlier bytes before front after (Cie c) whole place all s =
+    let b = body_of section p earlier front bytes before after (Cie c) s whole place in
+    content_cie section b.at earlier b.start b.end b.text bytes b.before b.after c b.spelled b.whole b.place b.size
+record_kept section p earlier bytes before front after (Fde f) whole place all s =
+    let b = body_of section p earlier front bytes before after (Fde f) s whole place in
+    (content_fde section b.at earlier b.start b.end b.text bytes b.before b.after f all b.spelled b.whole b.place b.size, record_ends section p earlier front f s)
 
-records_kept : (section p : ℕ) (earlier : List CieRecord) (text : List ℕ) (rs : List Record) (bytes before after : List ℕ) → AllKept section bytes earlier → AreRecords section p earlier text rs
-    → bytes ≡ before ++ (text ++ after) → p ≡ length before → AllPrograms section bytes (fdes_of rs)
-records_kept section p earlier text [] bytes before after all s whole place = tt
-records_kept section p earlier text (Cie c ∷ rs) bytes before after all s whole place =
+-- with the CIEs up to and with it
+pub kept_with : (section : ℕ) (bytes : List ℕ) (earlier : List CieRecord) (r : Record) → All (CieKept section bytes) earlier → RecordKept section bytes r → All (CieKept section bytes) (with_record earlier r)
+kept_with section bytes earlier (Cie c) all kept = All-append (CieKept section bytes) earlier (c ∷ []) all (All-cons (CieKept section bytes) c [] kept (All-nil (CieKept section bytes)))
+kept_with section bytes earlier (Fde f) all kept = all
+
+kept_fdes : (section : ℕ) (bytes : List ℕ) (r : Record) (rs : List Record) → RecordKept section bytes r → All (HasPrograms section bytes) (fdes_of rs) × All EndsLow (fdes_of rs)
+    → All (HasPrograms section bytes) (fdes_of (r ∷ rs)) × All EndsLow (fdes_of (r ∷ rs))
+kept_fdes section bytes (Cie c) rs kept more = more
+kept_fdes section bytes (Fde f) rs kept more = (All-cons (HasPrograms section bytes) f (fdes_of rs) kept.0 more.0, All-cons EndsLow f (fdes_of rs) kept.1 more.1)
+
+records_kept : (section p : ℕ) (earlier : List CieRecord) (text : List ℕ) (rs : List Record) (bytes before after : List ℕ) → All (CieKept section bytes) earlier → AreRecords section p earlier text rs
+    → bytes ≡ before ++ (text ++ after) → p ≡ length before → All (HasPrograms section bytes) (fdes_of rs) × All EndsLow (fdes_of rs)
+records_kept section p earlier text [] bytes before after all s whole place = (All-nil (HasPrograms section bytes), All-nil EndsLow)
+records_kept section p earlier text (r ∷ rs) bytes before after all s whole place =
     let first : bytes ≡ before ++ (s.0 ++ (s.1 ++ after)) = whole ∙ ap (λ (l : List ℕ). before ++ (l ++ after)) s.2 ∙ ap (λ (l : List ℕ). before ++ l) (append_assoc s.0 s.1 after) in
-    let b = body_of section p earlier s.0 bytes before (s.1 ++ after) (Cie c) s.3 first place in
-    let kept = content_cie section b.at earlier b.start b.end b.text bytes b.before b.after c b.spelled b.whole b.place b.size in
-    records_kept section (p + length s.0) (earlier ++ c ∷ []) s.1 rs bytes (before ++ s.0) after (AllKept-end section bytes earlier c all kept) s.4 (first ∙ sym (append_assoc before s.0 (s.1 ++ after))) (omega (arith, length-append before s.0))
-records_kept section p earlier text (Fde f ∷ rs) bytes before after all s whole place =
-    let first : bytes ≡ before ++ (s.0 ++ (s.1 ++ after)) = whole ∙ ap (λ (l : List ℕ). before ++ (l ++ after)) s.2 ∙ ap (λ (l : List ℕ). before ++ l) (append_assoc s.0 s.1 after) in
-    let b = body_of section p earlier s.0 bytes before (s.1 ++ after) (Fde f) s.3 first place in
-    let kept = content_fde section b.at earlier b.start b.end b.text bytes b.before b.after f all b.spelled b.whole b.place b.size in
-    (kept, records_kept section (p + length s.0) earlier s.1 rs bytes (before ++ s.0) after all s.4 (first ∙ sym (append_assoc before s.0 (s.1 ++ after))) (omega (arith, length-append before s.0)))
+    let kept = record_kept section p earlier bytes before s.0 (s.1 ++ after) r first place all s.3 in
+    let more = records_kept section (p + length s.0) (with_record earlier r) s.1 rs bytes (before ++ s.0) after (kept_with section bytes earlier r all kept) s.4 (first ∙ sym (append_assoc before s.0 (s.1 ++ after))) (omega (arith, length-append before s.0)) in
+    kept_fdes section bytes r rs kept more
 
 -- ---- sections
 
-pub section_kept : (section : ℕ) (bytes : List ℕ) (fdes : List FdeRecord) → HasFdes section bytes fdes → AllPrograms section bytes fdes
+pub section_kept : (section : ℕ) (bytes : List ℕ) (fdes : List FdeRecord) → HasFdes section bytes fdes → All (HasPrograms section bytes) fdes × All EndsLow fdes
 unfolding HasFdes IsSection
 section_kept section bytes fdes s =
-    let rs = s.0 in
-    subst (λ (fs : List FdeRecord). AllPrograms section bytes fs) s.2 (records_kept section 0 [] s.1.0 rs bytes [] s.1.1 tt s.1.3 s.1.2 refl)
+    let kept = records_kept section 0 [] s.1.0 s.0 bytes [] s.1.1 (All-nil (CieKept section bytes)) s.1.3 s.1.2 refl in
+    subst (λ (fs : List FdeRecord). All (HasPrograms section bytes) fs × All EndsLow fs) s.2 kept
 
-pub programs_at : (section : ℕ) (bytes : List ℕ) (fs : List FdeRecord) (i : ℕ) (d : FdeRecord) → AllPrograms section bytes fs → i < length fs → HasPrograms section bytes (get_or fs i d)
-programs_at section bytes [] i d all lt = absurd (omega arith)
-programs_at section bytes (f ∷ fs) zero d all lt = all.0
-programs_at section bytes (f ∷ fs) (suc i) d all lt = programs_at section bytes fs i d all.1 (omega arith)
-
-cover_choice : (section : ℕ) (bytes : List ℕ) (b : Bool) (g f : FdeRecord) (o : Option FdeRecord) → HasPrograms section bytes g → (o ≡ Some f → HasPrograms section bytes f) → cond b (Some g) o ≡ Some f → HasPrograms section bytes f
-cover_choice section bytes true g f o has more e = subst (λ (k : FdeRecord). HasPrograms section bytes k) (let same : g ≡ f = cc in same) has
-cover_choice section bytes false g f o has more e = more e
-
-pub programs_of_cover : (section : ℕ) (bytes : List ℕ) (fs : List FdeRecord) (pc : ℕ) (f : FdeRecord) → AllPrograms section bytes fs → first_cover pc fs ≡ Some f → HasPrograms section bytes f
-programs_of_cover section bytes [] pc f all e = absurd cc
-programs_of_cover section bytes (g ∷ gs) pc f all e = cover_choice section bytes (covers pc g) g f (first_cover pc gs) all.0 (programs_of_cover section bytes gs pc f all.1) e
-
-pub programs_of_index : (section : ℕ) (bytes : List ℕ) (fs : List FdeRecord) (i : ℕ) (f : FdeRecord) → AllPrograms section bytes fs → slice_get fs i ≡ Some f → HasPrograms section bytes f
+pub programs_of_index : (section : ℕ) (bytes : List ℕ) (fs : List FdeRecord) (i : ℕ) (f : FdeRecord) → All (HasPrograms section bytes) fs → slice_get fs i ≡ Some f → HasPrograms section bytes f
 programs_of_index section bytes [] i f all e = absurd cc
-programs_of_index section bytes (g ∷ gs) zero f all e = subst (λ (k : FdeRecord). HasPrograms section bytes k) (let same : g ≡ f = cc in same) all.0
-programs_of_index section bytes (g ∷ gs) (suc i) f all e = programs_of_index section bytes gs i f all.1 e
+programs_of_index section bytes (g ∷ gs) zero f all e = subst (λ (k : FdeRecord). HasPrograms section bytes k) (let same : g ≡ f = cc in same) (all 0 g (omega arith))
+programs_of_index section bytes (g ∷ gs) (suc i) f all e = programs_of_index section bytes gs i f (All-tail (HasPrograms section bytes) g gs all) e

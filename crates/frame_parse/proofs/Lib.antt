@@ -5,6 +5,7 @@ pub mod SoFar
 pub mod ProgramParts
 pub mod RecordWholes
 pub mod StepsLeft
+pub mod Ends
 pub mod Kept
 pub mod Orders
 pub mod Blocks

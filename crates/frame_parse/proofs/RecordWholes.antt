@@ -26,7 +26,7 @@ content_whole section earlier start end =
     (then_whole _ _ (cie_exact section start end) (λ c. give_whole _ (λ s. Cie (record c { offset = s.offset })) (steps_from_whole _ initial_state (steps_sound (context_of section c Initial)))))
     (then_whole _ _ (found_exact (cie_after earlier at id) (NoCie at)) (λ c. then_whole _ _ (fde_exact section start end c) (λ f. give_whole _ (λ s. Fde f) (steps_from_whole _ (first_state c f.first) (steps_sound (context_of section c Own))))))))
 
-record_length_exact : (start : ℕ) → IsExact (record_length start)
+pub record_length_exact : (start : ℕ) → IsExact (record_length start)
 unfolding record_length
 record_length_exact start =
     then_exact _ _ (lift_exact (λ f. Short start) _ (fixed_exact 4)) (λ n. when_exact (n == extended_length) _ _ (lift_exact (λ f. Short start) _ (fixed_exact 8)) (give_exact n))

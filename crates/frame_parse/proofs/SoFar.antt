@@ -108,13 +108,13 @@ among-one [] c i lt = absurd (omega arith)
 among-one (d ∷ ds) c zero lt = refl
 among-one (d ∷ ds) c (suc i) lt = among-one ds c i (omega arith)
 
-among-end : (cies : List CieRecord) (c : CieRecord) (fs : List FdeEntry) → All (HasCie (length cies)) fs → map (fde_among (cies ++ c ∷ [])) fs ≡ map (fde_among cies) fs
+pub among-end : (cies : List CieRecord) (c : CieRecord) (fs : List FdeEntry) → All (HasCie (length cies)) fs → map (fde_among (cies ++ c ∷ [])) fs ≡ map (fde_among cies) fs
 among-end cies c [] all = refl
 among-end cies c (f ∷ fs) all =
     ap (λ (d : CieRecord). with_cie d f ∷ map (fde_among (cies ++ c ∷ [])) fs) (among-one cies c f.cie (all 0 f (omega arith)))
     ∙ ap (λ (rs : List FdeRecord). fde_among cies f ∷ rs) (among-end cies c fs (λ k d lt. all (suc k) d (omega arith)))
 
-within-end : (cies : List CieRecord) (c : CieRecord) (fs : List FdeEntry) → All (HasCie (length cies)) fs → All (HasCie (length (cies ++ c ∷ []))) fs
+pub within-end : (cies : List CieRecord) (c : CieRecord) (fs : List FdeEntry) → All (HasCie (length cies)) fs → All (HasCie (length (cies ++ c ∷ []))) fs
 within-end cies c fs all = λ k d lt. let h = all k d lt in omega (arith, h, length-append cies (c ∷ []))
 
 -- ---- from record to record

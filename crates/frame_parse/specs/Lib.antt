@@ -4,6 +4,7 @@ pub mod InstructionEncodings
 pub mod Fields
 pub mod Records
 pub mod Sections
+pub mod Keeping
 pub mod Lookups
 pub mod Reading
 pub mod Programs

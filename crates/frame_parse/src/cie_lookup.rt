@@ -33,8 +33,8 @@ fn cie_from(cies: &[CieRecord], place: usize) -> Option<usize>
     }
 }
 
-/// The number of the CIE to which a distance leads back from a place.
-pub(crate) fn cie_after(cies: &[CieRecord], at: usize, distance: usize) -> Option<usize>
+/// The number of the CIE to which a distance leads back from a place, of CIEs in order of bytes.
+pub fn cie_after(cies: &[CieRecord], at: usize, distance: usize) -> Option<usize>
     requires { IsAscending (starts cies.now) }
     ensures value { option_map (λ i. slice_index_or cies.now i no_cie) result
         ≡ cie_after cies.now at distance }

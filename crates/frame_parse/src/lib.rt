@@ -19,15 +19,21 @@ mod program_state;
 mod records;
 mod section;
 
+pub use cie_lookup::cie_after;
 pub use fault::{FrameFault, RecordFault};
 pub use fde::Fde;
 pub use instructions::{
     Context, Instruction, InstructionWith, Operation, PlacedInstruction, PlacedReadRule,
     PlacedStep, ProgramKind, ReadRule, ReadRuleWith, Step, StepWith, lent_expr,
 };
-pub use laws::{initial_instructions_are_the_cies, steps_are_ordered};
+pub use laws::{
+    initial_instructions_are_the_cies, records_are_kept, records_stand, steps_are_ordered,
+};
 pub use placed_program::PlacedProgram;
 pub use program::Program;
 pub use program_state::{Remembered, State};
-pub use records::{Augmentation, CieRecord, Entry, Extent, FdeEntry};
-pub use section::{Section, one_answer, section_is_answered};
+pub use records::{
+    Augmentation, CieRecord, Entry, Extent, FdeEntry, four_bytes, pointer, range, record_length,
+    whole_record,
+};
+pub use section::{Section, is_end, one_answer, section_is_answered};

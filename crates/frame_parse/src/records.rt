@@ -20,7 +20,9 @@ pub use augmentation::Augmentation;
 use cie::cie;
 use eh_bytes::Cursor;
 use fde::fde;
-use fields::{data, four_bytes};
+pub use fde::range;
+use fields::data;
+pub use fields::{four_bytes, pointer};
 
 /// A part of the section's bytes, by places.
 #[derive(Clone, Copy, Debug, PartialEq, Eq)]
@@ -132,7 +134,7 @@ fn length8(cursor: &mut Cursor, start: usize) -> Result<u64, RecordFault>
 
 /// How many bytes follow in a record that begins at `start`.
 #[tactic(auto, unfolding(crate::specs::Records::record_length))]
-fn record_length(cursor: &mut Cursor, start: usize) -> Result<u64, RecordFault>
+pub fn record_length(cursor: &mut Cursor, start: usize) -> Result<u64, RecordFault>
     ensures read { Gives (λ n. n) (record_length start).read cursor.old result cursor.new }
     ensures moves { OnOk result (length cursor.new.bytes < length cursor.old.bytes) }
 {
@@ -166,7 +168,7 @@ fn record_at(
 
 /// The record at the cursor. A refusal names its first byte.
 #[tactic(auto, unfolding(crate::specs::Records::whole_record))]
-pub(crate) fn whole_record(
+pub fn whole_record(
     cursor: &mut Cursor,
     section: u64,
     earlier: &[CieRecord],

@@ -7,6 +7,8 @@ ghost use Rattle.std.specs.Option.{option_map};
 ghost use Rattle.frame_parse.specs.Entries.{fde_among, HasCie};
 ghost use Rattle.frame_parse.specs.Sections.{is_end, HasFdes, IsRefused, first_cover, HasOneAnswer};
 ghost use Rattle.frame_parse.specs.Sections.{fde_starts, IsAscending};
+ghost use Rattle.frame_parse.specs.Keeping.{KeepsFdes, EndsLow};
+ghost use Rattle.frame_parse.specs.Programs.{HasPrograms};
 ghost use Rattle.frame_parse.specs.Reading.{IsAnswered};
 
 use crate::fault::FrameFault;
@@ -15,11 +17,11 @@ use crate::fde_lookup::FdeList;
 use crate::records::{CieRecord, Entry, FdeEntry, whole_record};
 use byteorder::{ByteOrder, LittleEndian};
 use eh_bytes::Cursor;
-use std::alloc::Global;
+use std::alloc::{AllocError, Global};
 use std::marker::Model;
 
-/// Whether the records end here.
-fn is_end(rest: &[u8]) -> bool
+/// Whether a section's records end here.
+pub fn is_end(rest: &[u8]) -> bool
     ensures { result ≡ is_end rest.now }
 {
     rest.is_empty() || (4 <= rest.len() && LittleEndian::read_u32(rest) == 0)
@@ -47,7 +49,7 @@ fn entries_of(
             Entry::Fde(fde) => fdes.push(fde)?,
         }
     }
-    Ok((cies, without_spare_room(fdes)))
+    Ok((cies, fdes))
 }
 
 /// The same FDEs. Room for twice as many and more isn't kept.
@@ -61,7 +63,7 @@ fn without_spare_room(fdes: Vec<FdeEntry>) -> Vec<FdeEntry>
     fdes
 }
 
-/// A section of `.eh_frame` whose records were all read.
+/// A section of `.eh_frame`: its bytes, and FDEs that were read in them.
 #[derive(Drop)]
 pub struct Section {
     address: u64,
@@ -70,13 +72,14 @@ pub struct Section {
 }
 
 impl Model for Section {
-    ghost use Rattle.frame_parse.specs.Sections.{SectionData, HasFdes};
+    ghost use Rattle.frame_parse.specs.Keeping.{KeepsFdes};
+    ghost use Rattle.frame_parse.specs.Sections.{SectionData};
 
     ghost Value = { SectionData };
 
     ghost view = { λ s. record { address = s.address; bytes = s.bytes.items; fdes = s.fdes } };
 
-    ghost invariant = { λ s. HasFdes s.address s.bytes.items s.fdes };
+    ghost invariant = { λ s. KeepsFdes s.address s.bytes.items s.fdes };
 }
 
 impl Section {
@@ -90,7 +93,24 @@ impl Section {
             ⊎ IsRefused address bytes.now f) }
     {
         let (cies, fdes) = entries_of(alloc, address, bytes)?;
-        let fdes = FdeList::new(alloc, cies, fdes)?;
+        Ok(Section::of_records(alloc, address, bytes, cies, fdes)?)
+    }
+
+    /// The section of FDEs that stand in its bytes in this order, each with the number of its CIE.
+    pub fn of_records(
+        alloc: Global,
+        address: u64,
+        bytes: &[u8],
+        cies: Vec<CieRecord>,
+        fdes: Vec<FdeEntry>,
+    ) -> Result<Section, AllocError>
+        requires cies { All (HasCie (length cies.items)) fdes.items }
+        requires kept { KeepsFdes address bytes.now (map (fde_among cies.items) fdes.items) }
+        ensures address { IfOk result (λ s. s.address ≡ address) }
+        ensures bytes { IfOk result (λ s. s.bytes ≡ bytes.now) }
+        ensures fdes { IfOk result (λ s. s.fdes ≡ map (fde_among cies.items) fdes.items) }
+    {
+        let fdes = FdeList::new(alloc, cies, without_spare_room(fdes))?;
         let bytes = Vec::from_slice(alloc, bytes)?;
         Ok(Section {
             address,
@@ -118,11 +138,13 @@ impl Section {
         self.fdes.len()
     }
 
-    /// Every section has the FDEs of its bytes, and their places ascend among them.
+    /// Of every section: its FDEs' programs stand in its bytes, their places ascend among them, and
+    /// their addresses end below 2^64.
     pub fn known(&self)
-        ensures fdes { HasFdes self.now.address self.now.bytes self.now.fdes }
+        ensures programs { All (HasPrograms self.now.address self.now.bytes) self.now.fdes }
         ensures ascending { IsAscending (fde_starts self.now.fdes) }
         ensures within { All (λ f. f.start < length self.now.bytes) self.now.fdes }
+        ensures ends { All EndsLow self.now.fdes }
     {
         let _ = &self.bytes;
     }

@@ -10,8 +10,10 @@ use super::{CieRecord, Extent, FdeEntry};
 use crate::fault::RecordFault;
 use eh_bytes::{Cursor, DW_EH_PE_omit};
 
+/// How many addresses an FDE covers from a first one on, in its CIE's encoding. A number with a
+/// sign, or one with which the addresses end past 2^64, is refused.
 #[tactic(auto, unfolding(crate::specs::Records::range))]
-fn range(cursor: &mut Cursor, encoding: u8, first: u64) -> Result<u64, RecordFault>
+pub fn range(cursor: &mut Cursor, encoding: u8, first: u64) -> Result<u64, RecordFault>
     ensures { Gives (λ x. x) (range encoding first).read cursor.old result cursor.new }
 {
     let at = cursor.at();

@@ -35,9 +35,9 @@ pub(crate) fn byte(cursor: &mut Cursor) -> Result<u8, RecordFault>
     field(cursor.u8())
 }
 
-/// Four bytes, the lowest first.
+/// A number of four bytes, the lowest first.
 #[inline(always)]
-pub(crate) fn four_bytes(cursor: &mut Cursor) -> Result<u32, RecordFault>
+pub fn four_bytes(cursor: &mut Cursor) -> Result<u32, RecordFault>
     ensures { Gives (λ x. x) (field (fixed 4)).read cursor.old result cursor.new }
 {
     field(cursor.u32())
@@ -97,8 +97,9 @@ fn base(section: u64, encoding: u8, at: usize) -> u64
     }
 }
 
+/// An address in an encoding, in a section at this address. Nothing is read through it.
 #[tactic(auto, unfolding(crate::specs::Fields::pointer))]
-pub(crate) fn pointer(cursor: &mut Cursor, section: u64, encoding: u8) -> Result<u64, RecordFault>
+pub fn pointer(cursor: &mut Cursor, section: u64, encoding: u8) -> Result<u64, RecordFault>
     ensures { Gives (λ x. x) (pointer section encoding).read cursor.old result cursor.new }
 {
     let at = cursor.at();

@@ -3,14 +3,13 @@ use Rattle.std.specs.List.{All}
 use Rattle.std.proofs.lemmas.List.Elements.{All-append, All-same}
 use Rattle.std.proofs.lemmas.Result.{err_from_is_err_and}
 use Rattle.fde_members.specs.Members.{IsFaultOf, is_near, members_at, section_members}
-use Rattle.fde_members.proofs.Ends.{section_ends}
 use Rattle.fde_members.proofs.Listing.{ends_at, fault_told, listed_more}
 use Rattle.fde_members.proofs.members.section_members.Goals as goal
 
 pub add_member-requires : goal.add_member-requires
 add_member-requires c =
     let s = c.args.section.now in
-    ends_at s.fdes c.loop-index.index c.fde-fde.result.entry (section_ends s.address s.bytes s.fdes c.known.ensures.fdes) c.fde-fde.ensures.entry
+    ends_at s.fdes c.loop-index.index c.fde-fde.result.entry c.known.ensures.ends c.fde-fde.ensures.entry
 
 pub loop-index-preserved : goal.loop-index-preserved
 loop-index-preserved c =

@@ -33,7 +33,7 @@ pub returns-clause-found : goal.returns-clause-found
 returns-clause-found c =
     let was = c.loop-cursor in
     let done : is_end was.cursor.bytes ≡ true = ap is_end (sym c.rest.ensures) ∙ sym c.loop-cursor-test.ensures in
-    rw c.without_spare_room.ensures (all_read c.args.section c.args.bytes.now was.cursor was.cies.items was.fdes.items was.invariant done)
+    all_read c.args.section c.args.bytes.now was.cursor was.cies.items was.fdes.items was.invariant done
 
 pub returns-clause-cies : goal.returns-clause-cies
-returns-clause-cies c = rw c.without_spare_room.ensures c.loop-cursor.invariant.within
+returns-clause-cies c = c.loop-cursor.invariant.within

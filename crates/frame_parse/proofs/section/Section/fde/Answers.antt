@@ -1,4 +1,4 @@
-use Rattle.frame_parse.proofs.Kept.{section_kept, programs_of_index}
+use Rattle.frame_parse.proofs.Kept.{programs_of_index}
 use Rattle.frame_parse.specs.Entries.{with_cie}
 use Rattle.frame_parse.proofs.section.Section.fde.Goals as goal
 
@@ -6,4 +6,4 @@ pub new-requires : goal.new-requires
 new-requires c =
     let s = c.self.inside in
     rw c.deref.ensures.value
-    (programs_of_index s.address s.bytes.items s.fdes c.args.index (with_cie c.get.result.0.now c.get.result.1.now) (section_kept s.address s.bytes.items s.fdes c.self.invariant) c.get.ensures)
+    (programs_of_index s.address s.bytes.items s.fdes c.args.index (with_cie c.get.result.0.now c.get.result.1.now) c.self.invariant.programs c.get.ensures)
