@@ -2,15 +2,16 @@
 
 ghost use Rattle.std.specs.Prelude.{◌≡◌, ◌≤◌, ◌++◌, ◌∷◌, [], OnOk, OnErr, IfOk, IfErr};
 ghost use Rattle.stack_walk.specs.Modules.{IsModuleFault, modules_end};
+ghost use Rattle.stack_walk.specs.StackWalks.{GoesUp};
 ghost use Rattle.frames_c.specs.StackLines.{module_section};
 
 use crate::row_share::TableShare;
 use crate::share::SectionShare;
 use frame_expr::{Regs, WordSource};
-use stack_walk::{ModuleFault, Modules, SharedSource, StepSource};
+use stack_walk::{ModuleFault, Modules, SharedSource, StepSource, WalkEnd, take_step};
 use std::alloc::{AllocError, Global};
 use std::marker::Model;
-use unwind_step::{FoundStep, step_at};
+use unwind_step::{FoundStep, Frame, step_at};
 
 /// A share of what tells the frames of a module: its section, or the table of its rows.
 #[derive(Drop)]
@@ -28,6 +29,27 @@ impl StepSource for ModuleRows {
             ModuleRows::Table { share } => step_at(&share.rows(), look, regs, memory),
         }
     }
+
+    #[inline(always)]
+    fn go_up<M: WordSource>(&self, frame: &mut Frame, memory: &M) -> Option<WalkEnd> {
+        match self {
+            ModuleRows::Section { share } => go_up_by_section(share, frame, memory),
+            ModuleRows::Table { share } => share.rows().go_up(frame, memory),
+        }
+    }
+}
+
+/// A frame becomes the one before by the instructions of its FDE.
+#[inline(never)]
+fn go_up_by_section<M: WordSource>(
+    share: &SectionShare,
+    frame: &mut Frame,
+    memory: &M,
+) -> Option<WalkEnd>
+    ensures { GoesUp share.now.section (M.regions memory.now) frame.old result frame.new }
+{
+    let step = step_at(share.loaded(), frame.look(), &frame.regs, memory);
+    take_step(step, frame)
 }
 
 impl SharedSource for ModuleRows {

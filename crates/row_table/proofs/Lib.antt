@@ -6,3 +6,4 @@ pub mod Lookups
 pub mod Numbers
 pub mod CourseLaws
 pub mod Initials
+pub mod FollowedRows

@@ -4,3 +4,4 @@ pub mod Transitions
 pub mod Courses
 pub mod Making
 pub mod Initials
+pub mod Followed

@@ -1,6 +1,6 @@
 //! Rows, as a table lends them.
 
-ghost use Rattle.std.specs.Prelude.{◌≡◌, slice_index_or};
+ghost use Rattle.std.specs.Prelude.{◌≡◌, List, ℕ, slice_index_or};
 ghost use Rattle.frame_rows.specs.declared.rule.RuleWith.TheVariants.{Unset};
 ghost use Rattle.frame_rows.specs.Expressions.{HasExpressions};
 ghost use Rattle.frame_rows.specs.Rules.{rule_told, cfa_rule_told, lent_row};
@@ -35,6 +35,14 @@ impl<'t> LentRow<'t> {
         ensures { result ≡ lent_row bytes.now placed.now }
     {
         LentRow { bytes, placed }
+    }
+
+    /// Its rules, where they stand.
+    #[inline(always)]
+    pub(crate) fn placed(&self) -> &'t PlacedRow
+        ensures { (bytes : List ℕ) × (self.now ≡ lent_row bytes result.now) }
+    {
+        self.placed
     }
 
     /// The same row, copied out of the table.

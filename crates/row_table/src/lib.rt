@@ -9,6 +9,7 @@ mod cie_rows;
 mod course;
 mod distinct_rows;
 mod fault;
+mod following;
 mod instructions;
 mod kept_states;
 mod lent_row;

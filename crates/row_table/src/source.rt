@@ -2,11 +2,15 @@
 
 ghost use Rattle.std.specs.Prelude.{◌≡◌};
 ghost use Rattle.row_table.specs.Tables.{IsRowTableOf};
+ghost use Rattle.stack_walk.specs.StackWalks.{GoesUp};
 
+use crate::following::{Followed, follow};
 use crate::table::RowTable;
+use frame_expr::{Regs, WordSource};
 use frame_parse::Section;
+use stack_walk::{StepSource, WalkEnd, take_step};
 use std::marker::Model;
-use unwind_step::{FdeRow, RowSource};
+use unwind_step::{AddressKind, FdeRow, FoundStep, Frame, RowSource, step_at};
 
 /// A section, and the table that was made of it.
 #[derive(Drop)]
@@ -49,4 +53,40 @@ impl RowSource for SectionRows<'_> {
             }),
         }
     }
+}
+
+impl StepSource for SectionRows<'_> {
+    ghost section = { λ r. r };
+
+    fn step_at<M: WordSource>(&self, look: u64, regs: &Regs, memory: &M) -> Option<FoundStep> {
+        step_at(self, look, regs, memory)
+    }
+
+    #[inline(always)]
+    fn go_up<M: WordSource>(&self, frame: &mut Frame, memory: &M) -> Option<WalkEnd> {
+        let Some(found) = self.table.row_at(self.section, frame.look()) else {
+            return Some(WalkEnd::NoFde);
+        };
+        match follow(&found.row, memory, &mut frame.regs) {
+            Followed::Frame => {
+                frame.address = AddressKind::before(found.fde.signal());
+                None
+            }
+            Followed::NoBytes { address } => Some(WalkEnd::NoBytes { address }),
+            Followed::Rare => go_up_by_copy(self, frame, memory),
+        }
+    }
+}
+
+/// A frame becomes the one before by a row that is copied, whatever its rules.
+#[cold]
+#[inline(never)]
+fn go_up_by_copy<M: WordSource>(
+    rows: &SectionRows<'_>,
+    frame: &mut Frame,
+    memory: &M,
+) -> Option<WalkEnd>
+    ensures { GoesUp rows.now (M.regions memory.now) frame.old result frame.new }
+{
+    take_step(step_at(rows, frame.look(), &frame.regs, memory), frame)
 }

@@ -1,8 +1,10 @@
 -- Walks along a stack: from a frame to its callers, with a line for each.
-use Rattle.std.specs.Prelude.{◌≡◌, ℕ, Bool, List, [], ◌∷◌, slice_index}
+use Rattle.std.specs.Prelude.{◌≡◌, ℕ, Bool, List, [], ◌∷◌, Option, Some, None, slice_index}
 use Rattle.frame_expr.specs.Regions.{RegionData}
 use Rattle.frame_expr.specs.Registers.{stack_pointer_column, return_address_column}
+use Rattle.frame_parse.specs.Sections.{SectionData, first_cover}
 use Rattle.unwind_step.specs.Backtrace.{address_kind, lookup_address}
+use Rattle.unwind_step.specs.Sources.{IsStepIn}
 use Rattle.unwind_step.specs.declared.frame.Frame.{Frame}
 use Rattle.unwind_step.specs.declared.next.Stepped.{Stepped}
 use Rattle.unwind_step.specs.declared.next.Stepped.TheVariants as stepped
@@ -24,6 +26,25 @@ shown_as f = record {
   sp = slice_index f.regs.columns stack_pointer_column;
   address = f.address;
 }
+
+-- what comes of a frame by the section of its code
+abbrev pub ComesBy : SectionData → List RegionData → Frame → Bool → Stepped → Type 0
+ComesBy s memory f signal outcome = IsStepIn s (look_of f) f.regs.columns memory outcome signal
+
+-- By the section of its code a frame becomes the one before; or it stays, and this is why.
+abbrev pub GoesUp : SectionData → List RegionData → Frame → Option WalkEnd → Frame → Type 0
+GoesUp s memory f None new =
+    (signal : Bool) × ComesBy s memory f signal (stepped.Frame new.regs)
+    × (new.address ≡ address_kind signal)
+GoesUp s memory f (Some NoModule) new = ⊥
+GoesUp s memory f (Some NoFde) new = (new ≡ f) × (first_cover (look_of f) s.fdes ≡ None)
+GoesUp s memory f (Some NoRow) new =
+    (new ≡ f) × ((signal : Bool) × ComesBy s memory f signal stepped.NoRow)
+GoesUp s memory f (Some Undefined) new =
+    (new ≡ f) × ((signal : Bool) × ComesBy s memory f signal stepped.Undefined)
+GoesUp s memory f (Some (NoBytes a)) new =
+    (new ≡ f) × ((signal : Bool) × ComesBy s memory f signal (stepped.NoBytes a))
+GoesUp s memory f (Some Room) new = ⊥
 
 -- what comes of a frame by the module of its address
 abbrev pub ComesOf : List ModuleData → List RegionData → Frame → Bool → Stepped → Type 0

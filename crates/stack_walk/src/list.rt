@@ -7,13 +7,16 @@ ghost use Rattle.frame_parse.specs.Sections.{SectionData, first_cover};
 ghost use Rattle.unwind_step.specs.Sources.{IsStepIn};
 ghost use Rattle.stack_walk.specs.Modules.{AreModulesFrom, IsModuleFault, has_code_at, module_at};
 ghost use Rattle.stack_walk.specs.Modules.{modules_end, module_end};
+ghost use Rattle.stack_walk.specs.StackWalks.{GoesUp};
 
+use crate::going_up::take_step;
 use crate::modules::{ModuleList, ModuleStep};
+use crate::shown::WalkEnd;
 use frame_expr::{Regs, WordSource};
 use frame_parse::Section;
 use std::alloc::{AllocError, AllocFailed, Global};
 use std::marker::Model;
-use unwind_step::{FoundStep, step_at};
+use unwind_step::{FoundStep, Frame, step_at};
 
 /// What tells what comes of the frames in a section.
 pub trait StepSource {
@@ -25,6 +28,11 @@ pub trait StepSource {
         ensures { MatchOption result (first_cover look (section self.now).fdes ≡ None)
             (λ found. IsStepIn (section self.now) look regs.now.columns (M.regions memory.now)
             found.outcome found.signal) };
+
+    /// A frame whose code is the section's becomes the one before. Where there is none, it stays
+    /// and the answer says why.
+    fn go_up<M: WordSource>(&self, frame: &mut Frame, memory: &M) -> Option<WalkEnd>
+        ensures { GoesUp (section self.now) (M.regions memory.now) frame.old result frame.new };
 }
 
 impl StepSource for Section {
@@ -32,6 +40,10 @@ impl StepSource for Section {
 
     fn step_at<M: WordSource>(&self, look: u64, regs: &Regs, memory: &M) -> Option<FoundStep> {
         step_at(self, look, regs, memory)
+    }
+
+    fn go_up<M: WordSource>(&self, frame: &mut Frame, memory: &M) -> Option<WalkEnd> {
+        take_step(step_at(self, frame.look(), &frame.regs, memory), frame)
     }
 }
 
@@ -227,5 +239,12 @@ impl<T: StepSource> ModuleList for Modules<T> {
             None => ModuleStep::NoFde,
             Some(step) => ModuleStep::Found { step },
         }
+    }
+
+    fn go_up<M: WordSource>(&self, frame: &mut Frame, memory: &M) -> Option<WalkEnd> {
+        let Some(module) = module_of(&self.list, frame.look()) else {
+            return Some(WalkEnd::NoModule);
+        };
+        module.source.go_up(frame, memory)
     }
 }

@@ -1,12 +1,12 @@
 //! Walks from a frame to its callers.
 
-ghost use Rattle.std.specs.Prelude.{◌≡◌, ◌<◌, ◌≤◌, IfOk, IfErr, length, map, take, drop};
-ghost use Rattle.stack_walk.specs.StackWalks.{EndsWalk, StepsTo, WalksStack, shown_as};
+ghost use Rattle.std.specs.Prelude.{◌≡◌, ◌<◌, ◌≤◌, length, map, take, drop};
+ghost use Rattle.stack_walk.specs.StackWalks.{WalksStack, shown_as};
 
-use crate::modules::{ModuleList, ModuleStep};
+use crate::modules::ModuleList;
 use crate::shown::{ShownFrame, WalkEnd, WalkLine};
 use frame_expr::WordSource;
-use unwind_step::{AddressKind, FoundStep, Frame, Stepped};
+use unwind_step::Frame;
 
 /// How many lines a walk has, and why there are no more.
 #[derive(Clone, Copy, Debug, PartialEq, Eq)]
@@ -22,32 +22,6 @@ fn shown_as(frame: &Frame) -> ShownFrame
         pc: frame.regs.columns[16],
         sp: frame.regs.columns[7],
         address: frame.address,
-    }
-}
-
-/// The frame before, or why there is none.
-fn frame_before<N: ModuleList, M: WordSource>(
-    modules: &N,
-    memory: &M,
-    frame: &Frame,
-) -> Result<Frame, WalkEnd>
-    ensures next { IfOk result (StepsTo (N.modules modules.now) (M.regions memory.now) frame.now) }
-    ensures end { IfErr result (λ end. EndsWalk (N.modules modules.now) (M.regions memory.now)
-        frame.now end frame.now) }
-{
-    let FoundStep { outcome, signal } = match modules.step(frame.look(), &frame.regs, memory) {
-        ModuleStep::NoModule => return Err(WalkEnd::NoModule),
-        ModuleStep::NoFde => return Err(WalkEnd::NoFde),
-        ModuleStep::Found { step } => step,
-    };
-    match outcome {
-        Stepped::Frame { regs } => Ok(Frame {
-            regs,
-            address: AddressKind::before(signal),
-        }),
-        Stepped::NoRow => Err(WalkEnd::NoRow),
-        Stepped::Undefined => Err(WalkEnd::Undefined),
-        Stepped::NoBytes { address } => Err(WalkEnd::NoBytes { address }),
     }
 }
 
@@ -71,9 +45,8 @@ pub fn walk<N: ModuleList, M: WordSource, L: WalkLine>(
     'frames: loop {
         lines[count] = L::of(&shown_as(frame));
         count += 1;
-        match frame_before(modules, memory, frame) {
-            Err(end) => return Walked { count, end },
-            Ok(next) => *frame = next,
+        if let Some(end) = modules.go_up(frame, memory) {
+            return Walked { count, end };
         }
         if count == lines.len() {
             return Walked {

@@ -1,0 +1,147 @@
+//! Registers of the frame before, by a row where it stands in a table. Most rows have but frequent
+//! rules, and of those none is copied: a register whose rule doesn't change it isn't touched.
+
+ghost use Rattle.std.specs.Prelude.{◌≡◌, ◌≢◌, ◌<◌, List, ℕ, Ok, Err, slice_index};
+ghost use Rattle.std.specs.Prelude.{IfSome, length, slice_index_or};
+ghost use Rattle.frame_expr.specs.Regions.{RegionData};
+ghost use Rattle.frame_parse.specs.Blocks.{block_in};
+ghost use Rattle.frame_rows.specs.declared.rule.RuleWith.TheVariants.{Unset};
+ghost use Rattle.frame_rows.specs.Rules.{lent_row, rule_told};
+ghost use Rattle.unwind_step.specs.NextFrame.{AreRestored, FailsFirst, Leads};
+ghost use Rattle.unwind_step.specs.Rules.{IsCfa, IsRestored};
+ghost use Rattle.row_table.specs.Followed.{FollowsRow};
+ghost use Rattle.row_table.specs.declared.following.Followed.TheVariants.{Frame, NoBytes};
+
+use crate::lent_row::LentRow;
+use frame_expr::{Regs, WordSource};
+use frame_rows::{PlacedCfaRule, PlacedRow, PlacedRule};
+
+/// What came of registers by frequent rules.
+#[derive(Clone, Copy, Debug, PartialEq, Eq)]
+pub(crate) enum Followed {
+    /// They are those of the frame before.
+    Frame,
+    /// The eight bytes at an address aren't there.
+    NoBytes { address: u64 },
+    /// There is another rule.
+    Rare,
+}
+
+/// Restores a column by a frequent rule, where it stands.
+#[inline(always)]
+fn restore<M: WordSource>(
+    column: usize,
+    rule: &PlacedRule,
+    cfa: u64,
+    memory: &M,
+    regs: &mut Regs,
+) -> Followed
+    requires { column < 17 }
+    // Of the registers before, only its own number matters.
+    ensures restored { result ≡ Frame → (bytes old : List ℕ)
+        → slice_index old column ≡ slice_index regs.old.columns column
+        → IsRestored column (rule_told (block_in bytes) rule.now) cfa old (M.regions memory.now)
+        (Ok (slice_index regs.new.columns column)) }
+    ensures fails { (address : ℕ) → result ≡ NoBytes address → (bytes old : List ℕ)
+        → IsRestored column (rule_told (block_in bytes) rule.now) cfa old (M.regions memory.now)
+        (Err (record { address = address })) }
+    ensures others { (r : ℕ) → r ≢ column
+        → slice_index regs.new.columns r ≡ slice_index regs.old.columns r }
+    ensures count { length regs.new.columns ≡ 17 }
+{
+    match rule {
+        PlacedRule::Unset if column == 7 => regs.columns[column] = cfa,
+        PlacedRule::Unset | PlacedRule::Undefined | PlacedRule::Same => {}
+        PlacedRule::Offset { by } => {
+            let address = cfa.wrapping_add(*by);
+            match memory.word(address) {
+                Some(number) => regs.columns[column] = number,
+                None => return Followed::NoBytes { address },
+            }
+        }
+        _ => return Followed::Rare,
+    }
+    Followed::Frame
+}
+
+/// The rule of a column.
+#[inline(always)]
+fn rule_of(row: &PlacedRow, column: usize) -> &PlacedRule
+    requires { column < 17 }
+    ensures { result.now ≡ slice_index_or row.now.columns column Unset }
+{
+    &row.columns[column]
+}
+
+/// Restores all columns by frequent rules, from the first one on.
+#[inline(always)]
+fn restore_all<M: WordSource>(row: &PlacedRow, cfa: u64, memory: &M, regs: &mut Regs) -> Followed
+    ensures restored { result ≡ Frame → (bytes : List ℕ) → AreRestored 17
+        (lent_row bytes row.now) cfa regs.old.columns (M.regions memory.now) regs.new.columns }
+    ensures fails { (address : ℕ) → result ≡ NoBytes address → (bytes : List ℕ) → FailsFirst
+        (lent_row bytes row.now) cfa regs.old.columns (M.regions memory.now)
+        (record { address = address }) }
+    ensures count { length regs.new.columns ≡ 17 }
+{
+    for column in 0..17usize {
+        match restore(column, rule_of(row, column), cfa, memory, regs) {
+            Followed::Frame => {}
+            other => return other,
+        }
+    }
+    Followed::Frame
+}
+
+/// The number in a column; those above 16 have none.
+#[inline(always)]
+fn column_of(regs: &Regs, column: usize) -> u64
+    ensures { result ≡ slice_index regs.now.columns column }
+{
+    match regs.columns.get(column) {
+        Some(number) => *number,
+        None => 0,
+    }
+}
+
+/// The CFA of a row that leads to a frame, where its rule and that of the return address are
+/// frequent ones.
+#[inline(always)]
+fn cfa_of(row: &PlacedRow, regs: &Regs) -> Option<u64>
+    ensures leads { IfSome result (λ _. (bytes : List ℕ) → Leads (lent_row bytes row.now)) }
+    ensures cfa { IfSome result (λ cfa. (bytes : List ℕ) (memory : List RegionData)
+        → IsCfa (lent_row bytes row.now).cfa regs.now.columns memory (Ok cfa)) }
+{
+    let PlacedRule::Offset { .. } = rule_of(row, 16) else {
+        return None;
+    };
+    match row.cfa {
+        PlacedCfaRule::Offset { column, by } => {
+            Some(column_of(regs, column as usize).wrapping_add(by))
+        }
+        PlacedCfaRule::Missing | PlacedCfaRule::Expression { .. } => None,
+    }
+}
+
+/// The registers become those of the frame before, where the row has but frequent rules and the
+/// memory all bytes. Else they stay.
+#[inline(always)]
+pub(crate) fn follow<M: WordSource>(row: &LentRow<'_>, memory: &M, regs: &mut Regs) -> Followed
+    ensures { FollowsRow row.now (M.regions memory.now) regs.old result regs.new }
+{
+    let placed = row.placed();
+    let Some(cfa) = cfa_of(placed, regs) else {
+        return Followed::Rare;
+    };
+    let kept = *regs;
+    match restore_all(placed, cfa, memory, regs) {
+        Followed::Frame => Followed::Frame,
+        Followed::NoBytes { address } => {
+            *regs = kept;
+            Followed::NoBytes { address }
+        }
+        Followed::Rare => {
+            *regs = kept;
+            Followed::Rare
+        }
+    }
+}
