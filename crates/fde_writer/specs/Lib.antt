@@ -1,6 +1,9 @@
 pub mod Seen
 pub mod Places
 pub mod Standing
+pub mod PlaceForms
+pub mod Forms
+pub mod Layers
 pub mod Sections
 pub mod Runs
 pub mod Puttings

@@ -1,10 +1,8 @@
 -- The sections that stand under keys.
-use Rattle.std.specs.Prelude.{◌≡◌, ◌≢◌, ◌+◌, ◌⊎◌, ℕ, List, [], Contains}
-use Rattle.std.specs.BTreeMap.{is_at}
+use Rattle.std.specs.Prelude.{◌≡◌, ◌≢◌, ◌+◌, ◌⊎◌, ℕ, List, [], Contains, eqb}
 use Rattle.std.specs.List.{flat_map, sum_by}
 use Rattle.std.specs.Map.{lookup, values_of}
 use Rattle.std.specs.Option.{unwrap_or}
-use Rattle.std.specs.Ordering.{nat_cmp}
 use Rattle.frame_parse.specs.Sections.{SectionData}
 use Rattle.fde_writer.specs.Places.{PlaceData, placed_members}
 
@@ -20,7 +18,7 @@ Standings = List (ℕ × List StandingData)
 
 -- the sections that stand under a key
 abbrev pub standing_under : ℕ → Standings → List StandingData
-standing_under key stands = unwrap_or (lookup (is_at (nat_cmp key)) stands) []
+standing_under key stands = unwrap_or (lookup (eqb key) stands) []
 
 -- those of all keys
 abbrev pub all_standing : Standings → List StandingData

@@ -1,22 +1,24 @@
 //! The sections that stand, by their keys.
 
-ghost use Rattle.std.specs.Prelude.{◌≡◌, ◌++◌, ◌∷◌, [], ◌<◌, length, IfErr, OnOk, OnErr};
-ghost use Rattle.std.specs.Prelude.{IfSome, IfNone, List, IsTrue, Some, None};
-ghost use Rattle.std.specs.BTreeMap.{is_at};
+ghost use Rattle.std.specs.Prelude.{◌≡◌, ◌++◌, ◌∷◌, [], length, IfErr, OnOk, OnErr};
+ghost use Rattle.std.specs.Prelude.{IfSome, IfNone, List, IsTrue, None, eqb, ◌≢◌, ◌↔◌};
 ghost use Rattle.std.specs.Map.{lookup};
-ghost use Rattle.std.specs.Ordering.{nat_cmp};
+ghost use Rattle.fde_writer.specs.Places.{PlaceData};
 ghost use Rattle.fde_writer.specs.Standing.{Rewrites, StandingData, Standings, standing_under};
 
-use crate::place::Place;
-use crate::stack::{Stack, Standing};
+use crate::places::Places;
+use crate::stack::Stack;
+use crate::standing::Standing;
 use std::alloc::Global;
-use std::collections::BTreeMap;
+use std::collections::HashMap;
 use std::marker::Model;
 
-/// Under each key the sections that stand. No key stands for none.
+/// Under each key the sections that stand. No key stands for none. A section alone under its key,
+/// with one member, stands in the table itself, which wants some 15 bytes beside it: a tree would
+/// leave half of each leaf empty where keys ascend.
 #[derive(Drop)]
 pub struct Book {
-    stands: BTreeMap<u64, Stack>,
+    stands: HashMap<u64, Stack>,
     alloc: Global,
 }
 
@@ -32,7 +34,7 @@ impl Book {
     pub fn new(alloc: Global) -> Book
         ensures { result ≡ [] }
     {
-        let stands = BTreeMap::new(alloc);
+        let stands = HashMap::new(alloc);
         Book { stands, alloc }
     }
 
@@ -43,26 +45,23 @@ impl Book {
         ensures back { IfErr result (λ x. x ≡ standing) }
         ensures err { OnErr result (self.new ≡ self.old) }
     {
+        let alloc = self.alloc;
         match self.stands.get_mut(&key) {
-            Some(stack) => stack.push(standing),
+            Some(stack) => stack.push(alloc, standing),
             None => self.begin(key, standing),
         }
     }
 
     /// Adds the first section under a key.
     fn begin(&mut self, key: u64, standing: Standing) -> Result<(), Standing>
-        requires { lookup (is_at (nat_cmp key)) self.old ≡ None }
+        requires { lookup (eqb key) self.old ≡ None }
         ensures pushes { OnOk result (Rewrites key [] (standing ∷ []) self.old self.new) }
         ensures back { IfErr result (λ x. x ≡ standing) }
         ensures err { OnErr result (self.new ≡ self.old) }
     {
-        let stack = match Stack::of(self.alloc, standing) {
-            Ok(stack) => stack,
-            Err(standing) => return Err(standing),
-        };
-        match self.stands.insert(key, stack) {
+        match self.stands.insert(key, Stack::of(standing)) {
             Ok(_) => Ok(()),
-            Err(failed) => Err(only_one(failed.value.1)),
+            Err(failed) => Err(failed.value.1.into_only()),
         }
     }
 
@@ -84,17 +83,37 @@ impl Book {
             (standing_under key self.new) self.old self.new) }
         ensures none { IfNone result ((standing_under key self.old ≡ []) × (self.new ≡ self.old)) }
     {
-        match self.pop_stack(key) {
-            Some(standing) => {
-                self.forget_empty(key);
-                Some(standing)
-            }
-            None => None,
+        if self.has_one(key) {
+            return Some(self.pop_only(key));
+        }
+        self.pop_one_of_more(key)
+    }
+
+    /// Whether one section stands under a key, and no more.
+    fn has_one(&self, key: u64) -> bool
+        ensures { IsTrue result ↔ (length (standing_under key self.now) ≡ 1) }
+    {
+        match self.stands.get(&key) {
+            Some(stack) => stack.is_one(),
+            None => false,
         }
     }
 
-    /// The same, where its stack may be left without any.
-    fn pop_stack(&mut self, key: u64) -> Option<Standing>
+    /// Takes the only section under a key out.
+    fn pop_only(&mut self, key: u64) -> Standing
+        requires { length (standing_under key self.old) ≡ 1 }
+        ensures { Rewrites key (standing_under key self.new ++ result ∷ [])
+            (standing_under key self.new) self.old self.new }
+    {
+        match self.stands.remove(&key) {
+            Some(stack) => stack.into_only(),
+            None => unreachable!(),
+        }
+    }
+
+    /// Takes the latest section under a key out, of none or of several.
+    fn pop_one_of_more(&mut self, key: u64) -> Option<Standing>
+        requires { length (standing_under key self.old) ≢ 1 }
         ensures pops { IfSome result (λ x. Rewrites key (standing_under key self.new ++ x ∷ [])
             (standing_under key self.new) self.old self.new) }
         ensures none { IfNone result ((standing_under key self.old ≡ []) × (self.new ≡ self.old)) }
@@ -106,50 +125,17 @@ impl Book {
         stack.pop()
     }
 
-    /// Lets go of a stack that has none.
-    fn forget_empty(&mut self, key: u64)
-        ensures { Rewrites key (standing_under key self.old) (standing_under key self.old)
-            self.old self.new }
-    {
-        if !self.is_empty(key) {
-            return;
-        }
-        self.stands.remove(&key);
-    }
-
-    /// Whether an empty stack is there.
-    fn is_empty(&self, key: u64) -> bool
-        ensures { IsTrue result → lookup (is_at (nat_cmp key)) self.now ≡ Some [] }
-    {
-        match self.stands.get(&key) {
-            Some(stack) => stack.is_empty(),
-            None => false,
-        }
-    }
-
     /// Tells the places of the latest section's members.
-    pub fn settle(&mut self, key: u64, places: Vec<Place>)
+    pub fn settle(&mut self, key: u64, places: Places)
         ensures { (earlier : List StandingData) (x : StandingData)
             → standing_under key self.old ≡ earlier ++ x ∷ []
             → Rewrites key (earlier ++ x ∷ [])
-            (earlier ++ record x { places = places.items } ∷ []) self.old self.new }
+            (earlier ++ record x { places = places } ∷ []) self.old self.new }
     {
         let stack = match self.stands.get_mut(&key) {
             Some(stack) => stack,
             None => return,
         };
         stack.settle(places);
-    }
-}
-
-/// The section of a stack that has one.
-fn only_one(stack: Stack) -> Standing
-    requires { 0 < length stack }
-    ensures { (x : StandingData) → stack ≡ x ∷ [] → result ≡ x }
-{
-    let mut stack = stack;
-    match stack.pop() {
-        Some(standing) => standing,
-        None => unreachable!(),
     }
 }

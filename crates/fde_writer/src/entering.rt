@@ -6,9 +6,9 @@ ghost use Rattle.fde_writer.specs.Puttings.{Enters, IsSectionFault};
 
 use crate::book::Book;
 use crate::outcome::Numbers;
-use crate::place::Place;
-use crate::putting::{PutFault, put_all};
-use crate::stack::Standing;
+use crate::places::Places;
+use crate::putting::PutFault;
+use crate::standing::Standing;
 use sole_writer::Writer;
 
 /// Why a section was not entered.
@@ -25,13 +25,13 @@ pub fn enter(
     book: &mut Book,
     key: u64,
     standing: Standing,
-    places: Vec<Place>,
+    places: Places,
 ) -> Result<Numbers, SectionFault>
     requires free { client.old.stuck ≡ false }
     requires left { 3 * length standing.places ≤ client.old.me.left }
     requires payloads { All (λ m. m.payload < client.old.words.terms.payloads)
         (placed_members standing.places) }
-    requires places { places.items ≡ standing.places }
+    requires places { places ≡ standing.places }
     ensures enters { IfOk result
         (λ numbers. Enters key standing numbers client.old client.new book.old book.new) }
     ensures fault { IfErr result
@@ -42,7 +42,7 @@ pub fn enter(
         Err(_) => return Err(SectionFault::NoMemory),
     }
     let mut places = places;
-    match put_all(client, &mut places) {
+    match places.put(client) {
         Ok(numbers) => {
             book.settle(key, places);
             Ok(numbers)

@@ -16,9 +16,11 @@ pub mod laws;
 mod moving;
 mod outcome;
 mod place;
+mod places;
 mod putting;
 mod seen;
 mod stack;
+mod standing;
 mod writer;
 
 pub use outcome::{Deregistration, Moving, Numbers, Registration};

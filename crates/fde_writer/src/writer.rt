@@ -19,10 +19,10 @@ use crate::book::Book;
 use crate::entering::{SectionFault, enter};
 use crate::moving::{have_spans, moved_members};
 use crate::outcome::{Deregistration, Moving, Numbers, Registration};
-use crate::place::{Place, registered_places};
+use crate::places::Places;
 use crate::putting::{PutFault, take_back};
 use crate::seen::SeenSection;
-use crate::stack::Standing;
+use crate::standing::Standing;
 use fde_members::laws::payloads_lead;
 use fde_members::{MembersFault, section_members};
 use frame_parse::Section;
@@ -211,10 +211,10 @@ impl FdeWriter {
         if !self.has_calls(members.len()) {
             return Registration::Spent;
         }
-        let Ok(places) = registered_places(self.alloc, members) else {
+        let Ok(places) = Places::registered(self.alloc, members) else {
             return Registration::NoMemory;
         };
-        let Ok(entered) = registered_places(self.alloc, members) else {
+        let Ok(entered) = Places::registered(self.alloc, members) else {
             return Registration::NoMemory;
         };
         self.stand(key, Standing::new(note, entered, section), places)
@@ -231,13 +231,13 @@ impl FdeWriter {
     }
 
     /// Registers a section whose members are at hand.
-    fn stand(&mut self, key: u64, standing: Standing, places: Vec<Place>) -> Registration
+    fn stand(&mut self, key: u64, standing: Standing, places: Places) -> Registration
         requires free { self.old.client.stuck ≡ false }
         requires left { self.old.client.me.left < 2 ^ 32 }
         requires near { AreNear (section_members self.old.low standing.section) }
         requires enough { members_due self.old + 3 * length standing.places
             ≤ self.old.client.me.left }
-        requires places { places.items ≡ standing.places }
+        requires places { places ≡ standing.places }
         requires whole { placed_members standing.places
             ≡ section_members self.old.low standing.section }
         ensures { IsRegistration key standing.note standing.section self.old self.new result }
@@ -246,7 +246,7 @@ impl FdeWriter {
             return Registration::NoMemory;
         }
         let seen = Snapshot::of(&standing);
-        let count = places.len() as u32;
+        let count = places.count() as u32;
         match enter(&mut self.client, &mut self.book, key, standing, places) {
             Ok(numbers) => {
                 self.due += count;

@@ -12,22 +12,20 @@ use Rattle.fde_writer.proofs.writer.FdeWriter.stand.Goals as goal
 
 pub overflow_cast-count : goal.overflow_cast-count
 overflow_cast-count c =
-    let told = c.len-count.ensures in
-    let long = c.args.places.ok.0 in
-    let same : length c.args.places.items ≡ length c.args.standing.places = ap length c.requires.places in
+    let told = c.count-count.ensures in
+    let same : length c.args.places ≡ length c.args.standing.places = ap length c.requires.places in
     let enough = c.requires.enough in
     let left = c.requires.left in
-    omega (arith, told, long, same, enough, left)
+    omega (arith, told, same, enough, left)
 
 pub overflow_add-self : goal.overflow_add-self
 overflow_add-self c =
-    let told = c.len-count.ensures in
-    let long = c.args.places.ok.0 in
-    let same : length c.args.places.items ≡ length c.args.standing.places = ap length c.requires.places in
+    let told = c.count-count.ensures in
+    let same : length c.args.places ≡ length c.args.standing.places = ap length c.requires.places in
     let enough = c.requires.enough in
     let left = c.requires.left in
     let now : members_due c.args.self.now ≡ c.self.inside.due = sym (c.self.invariant.due_is ∙ ap members_due c.self.view_is) in
-    omega (arith, told, long, same, enough, left, now)
+    omega (arith, told, same, enough, left, now)
 
 pub invariant_of-self-in-Ok : goal.invariant_of-self-in-Ok
 invariant_of-self-in-Ok c =
@@ -40,10 +38,9 @@ invariant_of-self-in-Ok c =
     let enough = subst (λ (v : FdeWriterData). members_due v + 3 * length x.places ≤ v.client.me.left) (sym c.self.view_is) c.requires.enough in
     let free = subst (λ (v : FdeWriterData). v.client.stuck ≡ false) (sym c.self.view_is) c.requires.free in
     let keeps = entered_keeps i.due u x c.self.invariant whole enough free c.enter.new.client c.enter.new.book c.args.key c.in-Ok.numbers c.in-Ok.ensures.enters in
-    let told = c.len-count.ensures in
-    let long = c.args.places.ok.0 in
-    let same : length c.args.places.items ≡ length x.places = ap length c.requires.places in
-    let count : length x.places ≡ c.len-count.result = omega (arith, told, long, same) in
+    let told = c.count-count.ensures in
+    let same : length c.args.places ≡ length x.places = ap length c.requires.places in
+    let count : length x.places ≡ c.count-count.result = omega (arith, told, same) in
     subst (λ (n : ℕ). IsFdeWriterWith (i.due + n) (record { client = c.enter.new.client; low = i.low; stands = c.enter.new.book; ever = map (λ s. s.value.section) c.note_given.new.given.items })) count
     (subst (λ (ss : List SectionData). IsFdeWriterWith (i.due + length x.places) (record { client = c.enter.new.client; low = i.low; stands = c.enter.new.book; ever = ss })) (sym given) keeps)
 

@@ -1,6 +1,6 @@
 use Rattle.std.proofs.Common.{sym}
 use Rattle.fde_writer.proofs.Books.{popped, unpopped}
-use Rattle.fde_writer.proofs.book.Book.pop_stack.Goals as goal
+use Rattle.fde_writer.proofs.book.Book.pop_one_of_more.Goals as goal
 
 pub returns-clause-pops : goal.returns-clause-pops
 returns-clause-pops c =

@@ -1,0 +1,89 @@
+//! The places of a section's members.
+
+ghost use Rattle.std.specs.Prelude.{◌≡◌, ◌*◌, ◌<◌, ◌≤◌, All, IfOk, IfErr, false, length};
+ghost use Rattle.fde_writer.specs.PlaceForms.{places_of};
+ghost use Rattle.fde_writer.specs.Places.{PlaceData, all_registered, placed_members};
+ghost use Rattle.fde_writer.specs.Puttings.{IsPutFault, Puts};
+
+use crate::outcome::Numbers;
+use crate::place::{Place, registered_places};
+use crate::putting::{PutFault, put_all};
+use reg_model::{Half, Member, NoMemory};
+use sole_writer::Writer;
+use std::alloc::Global;
+use std::marker::Model;
+use std::slice;
+
+/// Those of a section's members, in order of bytes.
+#[derive(Drop)]
+pub struct Places {
+    places: PlacesForm,
+}
+
+/// Most sections of compilers have one member, whose place needs no vector.
+#[derive(Drop)]
+pub enum PlacesForm {
+    One { place: Place },
+    Many { places: Vec<Place> },
+}
+
+impl Model for Places {
+    ghost use Rattle.std.specs.Prelude.{List};
+    ghost use Rattle.fde_writer.specs.PlaceForms.{places_of};
+    ghost use Rattle.fde_writer.specs.Places.{PlaceData};
+
+    ghost Value = { List PlaceData };
+
+    ghost view = { λ p. places_of p.places };
+}
+
+impl Places {
+    /// A registered place for each member.
+    pub fn registered(alloc: Global, members: &[Member]) -> Result<Places, NoMemory>
+        ensures places { IfOk result (λ p. p ≡ all_registered members.now) }
+        ensures members { IfOk result (λ p. placed_members p ≡ members.now) }
+    {
+        if let [member] = members {
+            let place = Place::new(member, Half::Registered);
+            let places = PlacesForm::One { place };
+            return Ok(Places { places });
+        }
+        let places = registered_places(alloc, members)?;
+        let places = PlacesForm::Many { places };
+        Ok(Places { places })
+    }
+
+    /// How many they are.
+    pub fn count(&self) -> usize
+        ensures { result ≡ length self.now }
+    {
+        match &self.places {
+            PlacesForm::One { .. } => 1,
+            PlacesForm::Many { places } => places.len(),
+        }
+    }
+
+    /// Puts their members, and tells in which halves they stand: all of them, or none.
+    pub fn put(&mut self, writer: &mut Writer) -> Result<Numbers, PutFault>
+        requires free { writer.old.stuck ≡ false }
+        requires left { 3 * length self.old ≤ writer.old.me.left }
+        requires payloads { All (λ m. m.payload < writer.old.words.terms.payloads)
+            (placed_members self.old) }
+        ensures put { IfOk result (λ numbers. Puts (placed_members self.old) (2 * length self.old)
+            self.new numbers writer.old writer.new) }
+        ensures fault { IfErr result (IsPutFault (placed_members self.old) (3 * length self.old)
+            writer.old writer.new) }
+    {
+        match &mut self.places {
+            PlacesForm::One { place } => put_all(writer, slice::from_mut(place)),
+            PlacesForm::Many { places } => put_all(writer, places),
+        }
+    }
+
+    /// Takes them apart.
+    pub fn into_parts(self) -> PlacesForm
+        ensures { places_of result ≡ self }
+    {
+        self.places
+    }
+}
