@@ -1,5 +1,5 @@
 -- What entering a section under its key makes of the book.
-use Rattle.std.proofs.Common.{◌≡◌, ℕ, ◌*◌, List, [], ◌∷◌, ◌++◌, Option, Some, None, IfSome, IfNone, sym, ap, ◌∙◌, subst, arith, inl, inr, ◌⊎◌, length, length-append}
+use Rattle.std.proofs.Common.{◌≡◌, ℕ, ◌+◌, ◌*◌, List, [], ◌∷◌, ◌++◌, Option, Some, None, IfSome, IfNone, sym, ap, ◌∙◌, subst, arith, inl, inr, ◌⊎◌, length, length-append}
 use Rattle.std.specs.List.{Contains, sum_by}
 use Rattle.std.proofs.lemmas.List.{same_from_push}
 use Rattle.std.proofs.lemmas.List.Elements.{Contains-push_cases}
@@ -7,7 +7,7 @@ use Rattle.std.proofs.lemmas.List.Sums.{sum_by_push}
 use Rattle.sole_writer.specs.Writers.{WriterData}
 use Rattle.fde_writer.specs.Places.{PlaceData, placed_members}
 use Rattle.fde_writer.specs.Puttings.{Enters, Puts}
-use Rattle.fde_writer.specs.Standing.{HasMembersOf, LeavesStanding, Rewrites, StandingData, Standings, all_standing, standing_under}
+use Rattle.fde_writer.specs.Standing.{HasMembersOf, LeavesStanding, Rewrites, StandingData, Standings, all_standing, standing_sum, standing_under}
 use Rattle.fde_writer.specs.declared.outcome.Numbers.{Numbers}
 
 -- a section that was pushed, or another of before
@@ -45,6 +45,18 @@ entered key x numbers places w w' es fs gs puts pushes settles =
         ]
       ];
     }
+
+-- where each member was put as it was entered
+pub entered_alike : (key : ℕ) (x : StandingData) (numbers : Numbers) (places : List PlaceData) (w w' : WriterData) (es fs : Standings) → Puts (placed_members x.places) (2 * length x.places) places numbers w w'
+    → Rewrites key (standing_under key es) (standing_under key es ++ x ∷ []) es fs → places ≡ x.places → Enters key x numbers w w' es fs
+entered_alike key x numbers places w w' es fs puts pushes same = record {
+  places = places;
+  puts = puts;
+  here = subst (λ (ps : List PlaceData). standing_under key fs ≡ standing_under key es ++ record x { places = ps } ∷ []) (sym same) pushes.after;
+  others = pushes.others;
+  weighs = λ f. subst (λ (ps : List PlaceData). standing_sum f fs ≡ standing_sum f es + f (record x { places = ps })) (sym same) (let a = pushes.weighs f in let p = sum_by_push f (standing_under key es) x in omega (arith, a, p));
+  of_before = λ y there. elim (of_pushed key x es fs pushes y there) [ inl before ↦ inl before | inr is ↦ inr (itself x y is) ];
+}
 
 -- a section that was pushed and taken out again
 pub left : (key : ℕ) (x : StandingData) (r : Option StandingData) (es fs gs : Standings) → Rewrites key (standing_under key es) (standing_under key es ++ x ∷ []) es fs

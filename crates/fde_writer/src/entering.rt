@@ -1,7 +1,7 @@
 //! A section is entered under its key, and its members are put.
 
 ghost use Rattle.std.specs.Prelude.{◌≡◌, ◌*◌, ◌<◌, ◌≤◌, All, IfOk, IfErr, false, length};
-ghost use Rattle.fde_writer.specs.Places.{PlaceData, placed_members};
+ghost use Rattle.fde_writer.specs.Places.{PlaceData, all_registered, placed_members};
 ghost use Rattle.fde_writer.specs.Puttings.{Enters, IsSectionFault};
 
 use crate::book::Book;
@@ -32,6 +32,7 @@ pub fn enter(
     requires payloads { All (λ m. m.payload < client.old.words.terms.payloads)
         (placed_members standing.places) }
     requires places { places ≡ standing.places }
+    requires registered { standing.places ≡ all_registered (placed_members standing.places) }
     ensures enters { IfOk result
         (λ numbers. Enters key standing numbers client.old client.new book.old book.new) }
     ensures fault { IfErr result
@@ -44,6 +45,9 @@ pub fn enter(
     let mut places = places;
     match places.put(client) {
         Ok(numbers) => {
+            if places.is_one_registered() {
+                return Ok(numbers);
+            }
             book.settle(key, places);
             Ok(numbers)
         }

@@ -1,6 +1,6 @@
 //! The places of a section's members.
 
-ghost use Rattle.std.specs.Prelude.{◌≡◌, ◌*◌, ◌<◌, ◌≤◌, All, IfOk, IfErr, false, length};
+ghost use Rattle.std.specs.Prelude.{◌≡◌, ◌*◌, ◌<◌, ◌≤◌, All, IfOk, IfErr, IsTrue, false, length};
 ghost use Rattle.fde_writer.specs.PlaceForms.{places_of};
 ghost use Rattle.fde_writer.specs.Places.{PlaceData, all_registered, placed_members};
 ghost use Rattle.fde_writer.specs.Puttings.{IsPutFault, Puts};
@@ -51,6 +51,19 @@ impl Places {
         let places = registered_places(alloc, members)?;
         let places = PlacesForm::Many { places };
         Ok(Places { places })
+    }
+
+    /// Whether it is one place, in the half of registered members.
+    pub fn is_one_registered(&self) -> bool
+        ensures { IsTrue result → self.now ≡ all_registered (placed_members self.now) }
+    {
+        match &self.places {
+            PlacesForm::One { place } => match place.half() {
+                Half::Registered => true,
+                Half::Loaded => false,
+            },
+            PlacesForm::Many { .. } => false,
+        }
     }
 
     /// How many they are.

@@ -11,7 +11,7 @@ ghost use Rattle.word_rule.specs.Places.{ALLOWANCE};
 ghost use Rattle.fde_writer.specs.Outcomes.{IsDeregistration, IsGivenAway, IsMoving};
 ghost use Rattle.fde_writer.specs.Outcomes.{IsRegistration};
 ghost use Rattle.fde_writer.specs.Outcomes.{not_put, refused};
-ghost use Rattle.fde_writer.specs.Places.{placed_members};
+ghost use Rattle.fde_writer.specs.Places.{all_registered, placed_members};
 ghost use Rattle.fde_writer.specs.Sections.{IsFdeWriter, members_due};
 ghost use Rattle.fde_writer.specs.Standing.{standing_under};
 
@@ -238,6 +238,7 @@ impl FdeWriter {
         requires enough { members_due self.old + 3 * length standing.places
             ≤ self.old.client.me.left }
         requires places { places ≡ standing.places }
+        requires registered { standing.places ≡ all_registered (placed_members standing.places) }
         requires whole { placed_members standing.places
             ≡ section_members self.old.low standing.section }
         ensures { IsRegistration key standing.note standing.section self.old self.new result }
