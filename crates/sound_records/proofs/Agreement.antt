@@ -8,7 +8,11 @@ use Rattle.frame_parse.specs.Entries.{FdeRecord, Record, Cie, Fde}
 use Rattle.frame_parse.specs.Reading.{read_all, section_of}
 use Rattle.frame_parse.specs.Records.{whole_record}
 use Rattle.frame_parse.specs.Sections.{SectionData, is_end, with_record, fdes_of, covers, first_cover}
-use Rattle.sound_records.specs.Items.{Item, Sound, Refused, RefusedRecord, Claim, by_result, extent, claimed, items_from, items_of, sound_in, refused_in, FdeAnswer, Found, answer_at}
+use Rattle.sound_records.specs.declared.refused.Claim.{Claim}
+use Rattle.sound_records.specs.declared.refused.RefusedRecord.{RefusedRecord}
+use Rattle.sound_records.specs.declared.answer.FdeAnswer.{FdeAnswer}
+use Rattle.sound_records.specs.declared.answer.FdeAnswer.TheVariants.{Found}
+use Rattle.sound_records.specs.Items.{Item, Sound, Refused, by_result, extent, claimed, items_from, items_of, sound_in, refused_in, answer_at}
 use Rattle.sound_records.specs.Laws.{answer_of, AgreesWithRead}
 
 -- these are the items of what was read
@@ -46,7 +50,7 @@ agree (suc n) section earlier r = agree_next (is_end r.bytes) ((whole_record sec
 
 -- ---- lookups
 
-answer_choice : (b : Bool) (f : FdeRecord) (a : FdeAnswer) (o : Option FdeRecord) → a ≡ answer_of o → cond b (Found f) a ≡ answer_of (cond b (Some f) o)
+answer_choice : (b : Bool) (f : FdeRecord) (a : FdeAnswer FdeRecord) (o : Option FdeRecord) → a ≡ answer_of o → cond b (Found f) a ≡ answer_of (cond b (Some f) o)
 answer_choice true f a o e = refl
 answer_choice false f a o e = e
 

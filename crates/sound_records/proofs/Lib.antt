@@ -1,1 +1,5 @@
 pub mod Agreement
+pub mod Places
+pub mod Items
+pub mod SoFar
+pub mod Lookups

@@ -6,7 +6,6 @@ use Rattle.std.specs.Prelude.{None, Result, Ok, Err, nat_lt, nat_le, ◌==◌, �
 use Rattle.eh_bytes.specs.CursorData.{CursorData}
 use Rattle.eh_bytes.specs.Grammar.{Part, ◌>>=◌, give, here, refuse, when, found, block}
 use Rattle.eh_bytes.specs.Fields.{fixed}
-use Rattle.frame_parse.specs.declared.fault.FrameFault.{FrameFault}
 use Rattle.frame_parse.specs.declared.fault.RecordFault.{RecordFault}
 use Rattle.frame_parse.specs.declared.fault.RecordFault.TheVariants.{Short, NoCie}
 use Rattle.frame_parse.specs.declared.records.CieRecord.{CieRecord}
@@ -15,18 +14,12 @@ use Rattle.frame_parse.specs.Fields.{field, pointer}
 use Rattle.frame_parse.specs.RecordNumbers.{cie_id}
 use Rattle.frame_parse.specs.Records.{cie_after, range, record_length, whole_record}
 use Rattle.frame_parse.specs.Sections.{is_end, with_record, covers}
+use Rattle.sound_records.specs.declared.refused.Claim.{Claim}
+use Rattle.sound_records.specs.declared.refused.RefusedRecord.{RefusedRecord}
+use Rattle.sound_records.specs.declared.answer.FdeAnswer.{FdeAnswer}
+use Rattle.sound_records.specs.declared.answer.FdeAnswer.TheVariants.{NoFde, Found, Claimed}
 
--- addresses from a first one on, as many as a refused FDE says
-pub record Claim : Type 0 where
-  pub first : ℕ
-  pub range : ℕ
-
--- a record that is refused: where it begins, why, and what it claims, where that could be read
-pub record RefusedRecord : Type 0 where
-  pub start : ℕ
-  pub fault : FrameFault
-  pub claim : Option Claim
-
+-- a sound record, or a refused one
 pub data Item : Type 0 where
   Sound : Record → Item
   Refused : RefusedRecord → Item
@@ -56,10 +49,16 @@ addresses section earlier = do
       λ first. range c.augmentation.pointers first >>=
       λ size. give (record { first = first; range = size }))
 
--- what a refused record claims: its addresses, where it is an FDE of an earlier CIE that is sound
+-- the addresses that a record says, where it is an FDE of an earlier CIE that is sound
+unfoldable pub record_claim : ℕ → List CieRecord → Part RecordFault Claim
+record_claim section earlier = do
+  start ← here
+  n ← record_length start
+  block (Short start) n (addresses section earlier)
+
+-- what a refused record claims
 unfoldable pub claimed : ℕ → List CieRecord → CursorData → Option Claim
-claimed section earlier r = what_was_read
-    ((record_length r.at >>= λ n. block (Short r.at) n (addresses section earlier)).read r)
+claimed section earlier r = what_was_read ((record_claim section earlier).read r)
 
 -- the items that stand here, at most n; what stands after a record that isn't whole isn't read
 unfoldable pub items_from : ℕ → ℕ → List CieRecord → CursorData → List Item
@@ -88,18 +87,13 @@ refused_in (Refused x ∷ is) = x ∷ refused_in is
 
 -- ---- lookups
 
--- the answer to an address
-pub data FdeAnswer : Type 0 where
-  NoFde : FdeAnswer
-  Found : FdeRecord → FdeAnswer
-  Claimed : RefusedRecord → FdeAnswer
-
+-- a refused record claims an address
 abbrev pub claims : ℕ → Option Claim → Bool
 claims pc None = false
 claims pc (Some c) = nat_le c.first pc && nat_lt pc (c.first + c.range)
 
 -- by the first item in order of bytes that covers or claims the address
-abbrev pub answer_at : ℕ → List Item → FdeAnswer
+abbrev pub answer_at : ℕ → List Item → FdeAnswer FdeRecord
 answer_at pc [] = NoFde
 answer_at pc (Sound (Cie c) ∷ is) = answer_at pc is
 answer_at pc (Sound (Fde f) ∷ is) = if covers pc f then Found f else answer_at pc is

@@ -3,11 +3,13 @@ use Rattle.std.specs.Prelude.{◌≡◌, ℕ, List, [], ◌∷◌, Option, Some,
 use Rattle.frame_parse.specs.Entries.{FdeRecord}
 use Rattle.frame_parse.specs.Reading.{section_of}
 use Rattle.frame_parse.specs.Sections.{SectionData, fdes_of, first_cover}
-use Rattle.sound_records.specs.Items.{Item, RefusedRecord, items_of, sound_in, refused_in}
-use Rattle.sound_records.specs.Items.{FdeAnswer, NoFde, Found, answer_at}
+use Rattle.sound_records.specs.declared.refused.RefusedRecord.{RefusedRecord}
+use Rattle.sound_records.specs.declared.answer.FdeAnswer.{FdeAnswer}
+use Rattle.sound_records.specs.declared.answer.FdeAnswer.TheVariants.{NoFde, Found}
+use Rattle.sound_records.specs.Items.{Item, items_of, sound_in, refused_in, answer_at}
 
 -- the FDE that was found, or that there is none
-abbrev pub answer_of : Option FdeRecord → FdeAnswer
+abbrev pub answer_of : Option FdeRecord → FdeAnswer FdeRecord
 answer_of None = NoFde
 answer_of (Some f) = Found f
 
