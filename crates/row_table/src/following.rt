@@ -1,5 +1,7 @@
-//! Registers of the frame before, by a row where it stands in a table. Most rows have but frequent
-//! rules, and of those none is copied: a register whose rule doesn't change it isn't touched.
+//! Registers of the frame before, by a row where it stands in a table. Most rows have but two kinds
+//! of rules: none is set, or the number is saved at an offset from the CFA. Of those no row is
+//! copied, and a register without a rule isn't touched. A match of more kinds would jump through a
+//! table for each column.
 
 ghost use Rattle.std.specs.Prelude.{◌≡◌, ◌≢◌, ◌<◌, List, ℕ, Ok, Err, slice_index};
 ghost use Rattle.std.specs.Prelude.{IfSome, length, slice_index_or};
@@ -51,7 +53,7 @@ fn restore<M: WordSource>(
 {
     match rule {
         PlacedRule::Unset if column == 7 => regs.columns[column] = cfa,
-        PlacedRule::Unset | PlacedRule::Undefined | PlacedRule::Same => {}
+        PlacedRule::Unset => {}
         PlacedRule::Offset { by } => {
             let address = cfa.wrapping_add(*by);
             match memory.word(address) {
