@@ -1,6 +1,7 @@
 //! The row of an address among those of an FDE.
 
 ghost use Rattle.std.specs.Prelude.{◌≡◌, ◌+◌, ◌<◌, ◌≤◌, ◌^◌, ℕ, length, get_or, if◌then◌else◌};
+ghost use Rattle.std.specs.Prelude.{nat_le};
 
 /// All of a number where something holds, else 0, without a branch: the processor would guess wrong
 /// half of the time.
@@ -12,8 +13,17 @@ fn where_holds(number: usize, holds: bool) -> usize
     (number << u32::from(holds)) - number
 }
 
+/// 1 where a start is up to the address, else 0.
+#[inline(always)]
+fn begun(start: u64, pc: u64) -> usize
+    ensures { result ≡ (if nat_le start pc then 1 else 0) }
+{
+    usize::from(start <= pc)
+}
+
 /// The place of the greatest start up to an address, of those that ascend from one place up to
-/// another; the first is up to it.
+/// another; the first is up to it. Three quarters of those that it may be are passed by at a time,
+/// by loads of which none waits for another, and at the end a half.
 pub(crate) fn last_start(starts: &[u64], from: usize, end: usize, pc: u64) -> usize
     requires some { from < end }
     requires within { end ≤ length starts.now }
@@ -27,6 +37,14 @@ pub(crate) fn last_start(starts: &[u64], from: usize, end: usize, pc: u64) -> us
 {
     let mut base = from;
     let mut size = end - from;
+    'quarters: while size > 3 {
+        let quarter = size / 4;
+        let first = begun(starts[base + quarter], pc);
+        let second = begun(starts[base + 2 * quarter], pc);
+        let third = begun(starts[base + 3 * quarter], pc);
+        base += (first + second + third) * quarter;
+        size -= 3 * quarter;
+    }
     'halves: while size > 1 {
         let half = size / 2;
         base += where_holds(half, starts[base + half] <= pc);
