@@ -84,6 +84,7 @@ impl RowTable {
     /// The first FDE in order of bytes that covers an address, and its row there: what the
     /// section's `fde_at` finds, and `row_at` makes of it. None where no FDE covers the address. It
     /// takes no memory.
+    #[inline(always)]
     pub fn row_at<'t>(&'t self, section: &'t Section, pc: u64) -> Option<FoundRow<'t>>
         requires { IsRowTableOf section.now self.now }
         ensures { MatchOption result (first_cover pc section.now.fdes ≡ None)
