@@ -1,13 +1,18 @@
 //! Spans at their edges, and the registry on small histories whose answers were worked out by hand.
 
 use reg_model::*;
-use std::process::Abort;
-use std::test::Fail;
+use std::alloc::Global;
+
+/// The first and the last address of a span.
+fn ends(base: u64, size: u64) -> Option<(u64, u64)> {
+    let span = Span::new(base, size)?;
+    Some((span.first(), span.last()))
+}
 
 #[test]
 fn spans_end_below_the_greatest_address(rt: HostRuntime) {
     let top = u64::MAX;
-    for (base, size, want) in [
+    for (base, size, wanted) in [
         (0x1000, 0x20, Some((0x1000, 0x101f))),
         (0x1000, 0, None),
         (0, 1, Some((0, 0))),
@@ -22,30 +27,37 @@ fn spans_end_below_the_greatest_address(rt: HostRuntime) {
         (top, 1, None),
         (top, top, None),
     ] {
-        let ends = Span::new(base, size).map(|span| (span.first(), span.last()));
-        assert_eq!(rt; ends, want, "{size:x} from {base:x}");
+        assert!(rt; ends(base, size) == wanted, "{size:x} from {base:x}");
     }
 }
 
+/// Whether an address is among 20 (hexadecimal) from 1000 on.
+fn is_contained(pc: u64) -> Option<bool> {
+    Some(Span::new(0x1000, 0x20)?.contains(pc))
+}
+
 #[test]
-fn both_ends_are_contained(rt: HostRuntime) -> Result<(), Fail> {
-    let span = Span::new(0x1000, 0x20).ok_or("a span")?;
-    for (pc, want) in [
+fn both_ends_are_contained(rt: HostRuntime) {
+    for (pc, wanted) in [
         (0xfff, false),
         (0x1000, true),
         (0x1010, true),
         (0x101f, true),
         (0x1020, false),
     ] {
-        assert_eq!(rt; span.contains(pc), want, "{pc:x}");
+        assert!(rt; is_contained(pc) == Some(wanted), "{pc:x}");
     }
-    Ok(())
+}
+
+/// Whether these addresses overlap some others, and the others these.
+fn overlap(base: u64, size: u64) -> Option<(bool, bool)> {
+    let (span, other) = (Span::new(0x1000, 0x20)?, Span::new(base, size)?);
+    Some((span.overlaps(&other), other.overlaps(&span)))
 }
 
 #[test]
-fn one_common_address_overlaps(rt: HostRuntime) -> Result<(), Fail> {
-    let span = Span::new(0x1000, 0x20).ok_or("a span")?;
-    for (base, size, want) in [
+fn one_common_address_overlaps(rt: HostRuntime) {
+    for (base, size, wanted) in [
         (0xff0, 0x10, false),
         (0xff0, 0x11, true),
         (0x1000, 0x20, true),
@@ -54,222 +66,211 @@ fn one_common_address_overlaps(rt: HostRuntime) -> Result<(), Fail> {
         (0x1020, 0x20, false),
         (0, 0x2000, true),
     ] {
-        let other = Span::new(base, size).ok_or("a span")?;
-        assert_eq!(rt; span.overlaps(&other), want, "{size:x} from {base:x}");
-        assert_eq!(rt;
-            other.overlaps(&span),
-            want,
-            "{size:x} from {base:x}, turned round"
+        assert!(rt;
+            overlap(base, size) == Some((wanted, wanted)),
+            "{size:x} from {base:x}"
         );
     }
-    Ok(())
 }
 
 /// An image of so many addresses.
-fn image(payload: u32, base: u64, size: u64) -> Result<Member, Fail> {
-    let span = Span::new(base, size).ok_or("a span")?;
-    Ok(Member { span, payload })
+fn image(payload: u32, base: u64, size: u64) -> Option<Member> {
+    let span = Span::new(base, size)?;
+    Some(Member { span, payload })
 }
 
-/// Registers, where there is room for one more update.
-fn register(
-    rt: &impl Abort,
-    registry: &mut PlainRegistry,
-    member: Member,
-) -> Result<Inserted, Fail> {
-    assert!(rt; registry.updates() < 1000);
-    Ok(registry.register(member)?)
+/// Whether a registration is answered so, where there is room for one more update.
+fn registers(registry: &mut PlainRegistry, member: &Member, wanted: Inserted) -> bool {
+    registry.updates() < 1000 && registry.register(*member).ok() == Some(wanted)
 }
 
-/// Deregisters, where there is room for one more update.
-fn deregister(rt: &impl Abort, registry: &mut PlainRegistry, base: u64) -> Removed {
-    assert!(rt; registry.updates() < 1000);
-    registry.deregister(base)
+/// The same of a deregistration.
+fn deregisters(registry: &mut PlainRegistry, base: u64, wanted: Removed) -> bool {
+    registry.updates() < 1000 && registry.deregister(base) == wanted
 }
 
-/// Loads, where there is room for one more update.
-fn load(rt: &impl Abort, registry: &mut PlainRegistry, member: Member) -> Result<Loading, Fail> {
-    assert!(rt; registry.updates() < 1000);
-    Ok(registry.load(member)?)
+/// The same of a load.
+fn loads(registry: &mut PlainRegistry, member: &Member, wanted: Loading) -> bool {
+    registry.updates() < 1000 && registry.load(*member).ok() == Some(wanted)
 }
 
-/// Unloads, where there is room for one more update.
-fn unload(rt: &impl Abort, registry: &mut PlainRegistry, base: u64) -> Removed {
-    assert!(rt; registry.updates() < 1000);
-    registry.unload(base)
+/// The same of an unload.
+fn unloads(registry: &mut PlainRegistry, base: u64, wanted: Removed) -> bool {
+    registry.updates() < 1000 && registry.unload(base) == wanted
 }
 
-/// The answer of a registry without loaded members that has none of its own there either.
-fn nowhere(stamp: u32) -> Place {
-    Place {
+/// Whether an address is in neither half.
+fn is_nowhere(registry: &PlainRegistry, pc: u64, stamp: u32) -> bool {
+    let nowhere = Place {
         registered: Found::Miss { stamp },
         loaded: Some(Found::Miss { stamp }),
-    }
+    };
+    registry.find(pc) == nowhere
 }
 
-/// The answer of a registry that has this member.
-fn registered(member: Member, stamp: u32) -> Place {
-    Place {
-        registered: Found::Hit { member, stamp },
+/// Whether it is in a registered member.
+fn is_registered(registry: &PlainRegistry, pc: u64, member: &Member, stamp: u32) -> bool {
+    let registered = Place {
+        registered: Found::Hit {
+            member: *member,
+            stamp,
+        },
         loaded: None,
-    }
+    };
+    registry.find(pc) == registered
 }
 
-#[test]
-fn one_range(rt: HostRuntime) -> Result<(), Fail> {
-    let mut registry = PlainRegistry::new(rt.alloc(), Vec::new(rt.alloc()), 8);
-    let member = image(0, 0x1000, 0x20)?;
-    assert_eq!(rt; registry.updates(), 0);
-    assert_eq!(rt;
-        register(&rt, &mut registry, member)?,
-        Inserted::Done { number: 1 }
-    );
-    assert_eq!(rt; registry.find(0x1010), registered(member, 1));
-    assert_eq!(rt; registry.find(0x1020), nowhere(1));
-    assert_eq!(rt;
-        deregister(&rt, &mut registry, 0x1000),
-        Removed::Done { number: 2, member }
-    );
-    assert_eq!(rt; registry.find(0x1010), nowhere(2));
-    assert_eq!(rt; registry.updates(), 2);
-    Ok(())
-}
-
-#[test]
-fn the_lowest_overlap_is_named(rt: HostRuntime) -> Result<(), Fail> {
-    let (high, low, both) = (
-        image(5, 0x1500, 0x10)?,
-        image(11, 0x1400, 0x80)?,
-        image(12, 0x1400, 0x200)?,
-    );
-    for (first, second) in [(high, low), (low, high)] {
-        let mut registry = PlainRegistry::new(rt.alloc(), Vec::new(rt.alloc()), 8);
-        assert_eq!(rt;
-            register(&rt, &mut registry, first)?,
-            Inserted::Done { number: 1 }
-        );
-        assert_eq!(rt;
-            register(&rt, &mut registry, both)?,
-            Inserted::Overlap {
-                member: first,
-                stamp: 1
-            }
-        );
-        assert_eq!(rt;
-            register(&rt, &mut registry, second)?,
-            Inserted::Done { number: 2 }
-        );
-        assert_eq!(rt;
-            register(&rt, &mut registry, both)?,
-            Inserted::Overlap {
-                member: low,
-                stamp: 2
-            }
-        );
-    }
-    Ok(())
-}
-
-#[test]
-fn fixed_members_are_found_after_the_registered_ones(rt: HostRuntime) -> Result<(), Fail> {
-    let (fixed, own) = (image(0, 0x1000, 0x100)?, image(1, 0x1010, 0x10)?);
-    let mut registry = PlainRegistry::new(rt.alloc(), vec![in rt.alloc(); fixed]?, 8);
-    let behind = Place {
-        registered: Found::Miss { stamp: 0 },
+/// Whether it is in a member of the loader's alone.
+fn is_loaded(registry: &PlainRegistry, pc: u64, member: &Member, stamp: u32) -> bool {
+    let loaded = Place {
+        registered: Found::Miss { stamp },
         loaded: Some(Found::Hit {
-            member: fixed,
-            stamp: 0,
+            member: *member,
+            stamp,
         }),
     };
-    assert_eq!(rt; registry.find(0x1010), behind);
-    assert_eq!(rt;
-        register(&rt, &mut registry, own)?,
-        Inserted::Done { number: 1 }
-    );
-    assert_eq!(rt; registry.find(0x1010), registered(own, 1));
-    assert_eq!(rt;
-        deregister(&rt, &mut registry, 0x1000),
-        Removed::NotFound { stamp: 1 }
-    );
-    Ok(())
+    registry.find(pc) == loaded
 }
 
-/// The answer of a registry that has this member among the loader's alone.
-fn loaded(member: Member, stamp: u32) -> Place {
-    Place {
-        registered: Found::Miss { stamp },
-        loaded: Some(Found::Hit { member, stamp }),
+/// The registration names what it overlaps.
+fn overlaps(member: &Member, stamp: u32) -> Inserted {
+    Inserted::Overlap {
+        member: *member,
+        stamp,
+    }
+}
+
+/// The load does.
+fn load_overlaps(member: &Member, stamp: u32) -> Loading {
+    Loading::Overlap {
+        member: *member,
+        stamp,
+    }
+}
+
+/// The removal names what was there.
+fn removed(number: u32, member: &Member) -> Removed {
+    Removed::Done {
+        number,
+        member: *member,
     }
 }
 
 #[test]
-fn loaded_members_beside_a_fixed_one(rt: HostRuntime) -> Result<(), Fail> {
-    let fixed = image(0, 0x1000, 0x20)?;
-    let over = image(1, 0x1010, 0x20)?;
-    let (third, fourth, fifth) = (
-        image(2, 0x3000, 0x10)?,
-        image(3, 0x4000, 0x10)?,
-        image(4, 0x5000, 0x10)?,
+fn one_range(rt: HostRuntime) {
+    let mut registry = PlainRegistry::new(rt.alloc(), Vec::new(rt.alloc()), 8);
+    let Some(member) = image(0, 0x1000, 0x20) else {
+        panic!(rt; "a span")
+    };
+    assert!(rt;
+        registry.updates() == 0
+            && registers(&mut registry, &member, Inserted::Done { number: 1 })
+            && is_registered(&registry, 0x1010, &member, 1)
+            && is_nowhere(&registry, 0x1020, 1)
     );
-    let mut registry = PlainRegistry::new(rt.alloc(), vec![in rt.alloc(); fixed]?, 2);
-    assert_eq!(rt;
-        load(&rt, &mut registry, over)?,
-        Loading::Overlap {
-            member: fixed,
-            stamp: 0
-        }
+    assert!(rt;
+        deregisters(&mut registry, 0x1000, removed(2, &member))
+            && is_nowhere(&registry, 0x1010, 2)
+            && registry.updates() == 2
     );
-    assert_eq!(rt;
-        load(&rt, &mut registry, third)?,
-        Loading::Done { number: 1 }
+}
+
+/// Registers two members, and between them and behind them one that overlaps both.
+fn names_the_lowest(registry: &mut PlainRegistry, first: &Member, second: &Member) -> bool {
+    let (Some(low), Some(both)) = (image(11, 0x1400, 0x80), image(12, 0x1400, 0x200)) else {
+        return false;
+    };
+    registers(registry, first, Inserted::Done { number: 1 })
+        && registers(registry, &both, overlaps(first, 1))
+        && registers(registry, second, Inserted::Done { number: 2 })
+        && registers(registry, &both, overlaps(&low, 2))
+}
+
+#[test]
+fn the_lowest_overlap_is_named(rt: HostRuntime) {
+    let (Some(high), Some(low)) = (image(5, 0x1500, 0x10), image(11, 0x1400, 0x80)) else {
+        panic!(rt; "spans")
+    };
+    let mut registry = PlainRegistry::new(rt.alloc(), Vec::new(rt.alloc()), 8);
+    assert!(rt; names_the_lowest(&mut registry, &high, &low));
+    let mut another = PlainRegistry::new(rt.alloc(), Vec::new(rt.alloc()), 8);
+    assert!(rt; names_the_lowest(&mut another, &low, &high));
+}
+
+/// A registry with a fixed member, in which so many more may be loaded.
+fn beside(alloc: Global, fixed: &Member, loads: u32) -> Option<PlainRegistry> {
+    let mut members = Vec::new(alloc);
+    members.push(*fixed).ok()?;
+    Some(PlainRegistry::new(alloc, members, loads))
+}
+
+#[test]
+fn fixed_members_are_found_after_the_registered_ones(rt: HostRuntime) {
+    let (Some(fixed), Some(own)) = (image(0, 0x1000, 0x100), image(1, 0x1010, 0x10)) else {
+        panic!(rt; "spans")
+    };
+    let Some(mut registry) = beside(rt.alloc(), &fixed, 8) else {
+        panic!(rt; "no memory")
+    };
+    assert!(rt;
+        is_loaded(&registry, 0x1010, &fixed, 0)
+            && registers(&mut registry, &own, Inserted::Done { number: 1 })
+            && is_registered(&registry, 0x1010, &own, 1)
+            && deregisters(&mut registry, 0x1000, Removed::NotFound { stamp: 1 })
     );
-    assert_eq!(rt;
-        load(&rt, &mut registry, fourth)?,
-        Loading::Done { number: 2 }
-    );
-    assert_eq!(rt;
-        load(&rt, &mut registry, fifth)?,
-        Loading::LoadFull { stamp: 2 }
-    );
-    // What overlaps is named also where no more may be loaded, the lowest of both lists.
-    let wide = image(5, 0x1010, 0x3000)?;
-    assert_eq!(rt;
-        load(&rt, &mut registry, wide)?,
-        Loading::Overlap {
-            member: fixed,
-            stamp: 2
-        }
-    );
-    let above = image(6, 0x2000, 0x3000)?;
-    assert_eq!(rt;
-        load(&rt, &mut registry, above)?,
-        Loading::Overlap {
-            member: third,
-            stamp: 2
-        }
-    );
-    assert_eq!(rt;
-        unload(&rt, &mut registry, 0x3000),
-        Removed::Done {
-            number: 3,
-            member: third
-        }
-    );
-    assert_eq!(rt;
-        load(&rt, &mut registry, fifth)?,
-        Loading::Done { number: 4 }
-    );
-    assert_eq!(rt;
-        unload(&rt, &mut registry, 0x1000),
-        Removed::NotFound { stamp: 4 }
-    );
-    assert_eq!(rt;
-        register(&rt, &mut registry, over)?,
-        Inserted::Done { number: 5 }
-    );
-    assert_eq!(rt; registry.find(0x1010), registered(over, 5));
-    assert_eq!(rt; registry.find(0x1008), loaded(fixed, 5));
-    assert_eq!(rt; registry.find(0x4008), loaded(fourth, 5));
-    assert_eq!(rt; registry.find(0x3008), nowhere(5));
-    Ok(())
+}
+
+/// Two more members are loaded, and there is no room for a third. What overlaps is named also then,
+/// the lowest of both lists.
+fn loads_till_full(registry: &mut PlainRegistry, fixed: &Member, third: &Member) -> bool {
+    let (Some(over), Some(fourth)) = (image(1, 0x1010, 0x20), image(3, 0x4000, 0x10)) else {
+        return false;
+    };
+    let (Some(fifth), Some(wide)) = (image(4, 0x5000, 0x10), image(5, 0x1010, 0x3000)) else {
+        return false;
+    };
+    let Some(above) = image(6, 0x2000, 0x3000) else {
+        return false;
+    };
+    loads(registry, &over, load_overlaps(fixed, 0))
+        && loads(registry, third, Loading::Done { number: 1 })
+        && loads(registry, &fourth, Loading::Done { number: 2 })
+        && loads(registry, &fifth, Loading::LoadFull { stamp: 2 })
+        && loads(registry, &wide, load_overlaps(fixed, 2))
+        && loads(registry, &above, load_overlaps(third, 2))
+}
+
+/// One of them is unloaded, which makes room, and the fixed one can't be.
+fn unloads_one(registry: &mut PlainRegistry, third: &Member) -> bool {
+    let Some(fifth) = image(4, 0x5000, 0x10) else {
+        return false;
+    };
+    unloads(registry, 0x3000, removed(3, third))
+        && loads(registry, &fifth, Loading::Done { number: 4 })
+        && unloads(registry, 0x1000, Removed::NotFound { stamp: 4 })
+}
+
+/// A registered member is found before a fixed one, and a loaded one by itself.
+fn registers_over(registry: &mut PlainRegistry, fixed: &Member) -> bool {
+    let (Some(over), Some(fourth)) = (image(1, 0x1010, 0x20), image(3, 0x4000, 0x10)) else {
+        return false;
+    };
+    registers(registry, &over, Inserted::Done { number: 5 })
+        && is_registered(registry, 0x1010, &over, 5)
+        && is_loaded(registry, 0x1008, fixed, 5)
+        && is_loaded(registry, 0x4008, &fourth, 5)
+        && is_nowhere(registry, 0x3008, 5)
+}
+
+#[test]
+fn loaded_members_beside_a_fixed_one(rt: HostRuntime) {
+    let (Some(fixed), Some(third)) = (image(0, 0x1000, 0x20), image(2, 0x3000, 0x10)) else {
+        panic!(rt; "spans")
+    };
+    let Some(mut registry) = beside(rt.alloc(), &fixed, 2) else {
+        panic!(rt; "no memory")
+    };
+    assert!(rt; loads_till_full(&mut registry, &fixed, &third));
+    assert!(rt; unloads_one(&mut registry, &third));
+    assert!(rt; registers_over(&mut registry, &fixed));
 }

@@ -115,14 +115,10 @@ fn a_full_leaf_splits_into_five_and_five(rt: HostRuntime) {
         0x1000, 0x1100, 0x1200, 0x1300, 0x1400, 0x1500, 0x1600, 0x1700, 0x1800, 0x1900,
     ];
     let node = leaf(&rt, 0, u64::MAX, &bases);
-    assert!(rt; is_leaf(&node));
-    assert_eq!(rt; node.entries().len(), 10);
+    assert!(rt; is_leaf(&node) && node.entries().len() == 10);
     let (left, right) = split_leaf(&node);
-    assert_eq!(rt; left.entries().len(), 5);
-    assert_eq!(rt; right.entries().len(), 5);
-    assert_eq!(rt; left.high, 0x140f);
-    assert_eq!(rt; right.low, 0x1410);
-    assert_eq!(rt; right.high, u64::MAX);
+    assert!(rt; left.entries().len() == 5 && right.entries().len() == 5);
+    assert!(rt; left.high == 0x140f && right.low == 0x1410 && right.high == u64::MAX);
 }
 
 #[test]
@@ -137,14 +133,10 @@ fn four_and_nine_become_six_and_seven(rt: HostRuntime) {
         ],
     );
     assert!(rt; left.level == right.level && left.high < right.low && left.high + 1 == right.low);
-    assert!(rt; overfill(&left, &right));
-    assert!(rt; in_order(&left));
-    assert!(rt; in_order(&right));
+    assert!(rt; overfill(&left, &right) && in_order(&left) && in_order(&right));
     let (left, right) = even_pair(&left, &right);
-    assert_eq!(rt; left.entries().len(), 6);
-    assert_eq!(rt; right.entries().len(), 7);
-    assert_eq!(rt; left.high, 0x110f);
-    assert_eq!(rt; right.low, 0x1110);
+    assert!(rt; left.entries().len() == 6 && right.entries().len() == 7);
+    assert!(rt; left.high == 0x110f && right.low == 0x1110);
 }
 
 #[test]
@@ -158,58 +150,67 @@ fn four_and_five_are_joined_to_nine(rt: HostRuntime) {
     );
     assert!(rt; fit(&left, &right));
     let node = join_pair(&left, &right);
-    assert_eq!(rt; node.entries().len(), 9);
-    assert_eq!(rt; node.low, 0);
-    assert_eq!(rt; node.high, 0x2000);
+    assert!(rt; node.entries().len() == 9 && node.low == 0 && node.high == 0x2000);
 }
 
 #[test]
-fn the_other_calls_run_once(rt: HostRuntime) {
+fn what_a_leaf_holds_at_an_address_and_in_a_span(rt: HostRuntime) {
     let node = leaf(&rt, 0, u64::MAX, &[0x1000, 0x1100, 0x1200]);
-    assert!(rt; is_leaf(&node));
-    assert!(rt; in_order(&node));
-    assert_eq!(rt; leaf_slot(&node, 0x1108), Some(member(&rt, 0x1100, 0x10)));
-    assert_eq!(rt; leaf_slot(&node, 0x1110), None);
-    assert_eq!(rt;
-        first_overlap(&node, &member(&rt, 0x1080, 0x200).span),
-        Some(member(&rt, 0x1100, 0x10))
-    );
-    assert_eq!(rt; first_overlap(&node, &member(&rt, 0x1010, 0x10).span), None);
-    let mut inner = node_of_one(&rt, 1);
+    assert!(rt; is_leaf(&node) && in_order(&node));
+    let second = Some(member(&rt, 0x1100, 0x10));
+    assert!(rt; leaf_slot(&node, 0x1108) == second && leaf_slot(&node, 0x1110).is_none());
+    let (wide, between) = (member(&rt, 0x1080, 0x200), member(&rt, 0x1010, 0x10));
+    assert!(rt; first_overlap(&node, &wide.span) == second);
+    assert!(rt; first_overlap(&node, &between.span).is_none());
+}
+
+// An inner node of level 1 over all addresses whose children 1 to 15 have 1000 (hexadecimal) each.
+fn node_of_fifteen(rt: &impl Abort) -> Node {
+    let mut inner = node_of_one(rt, 1);
     for child in 2u32..16 {
         assert!(rt; is_inner(&inner));
         assert!(rt; inner.pairs().len() > 0 && inner.pairs().len() < 15);
         let last = inner.pairs().len() - 1;
         inner = put_pair(&inner, last, 0x1000 * child as u64 - 1, child);
     }
-    assert_eq!(rt; inner.pairs().len(), 15);
-    assert!(rt; is_inner(&inner));
+    inner
+}
+
+#[test]
+fn a_fence_is_its_lower_childs(rt: HostRuntime) {
+    let inner = node_of_fifteen(&rt);
+    assert!(rt; is_inner(&inner) && inner.pairs().len() == 15);
+    assert!(rt; slot_of(&rt, &inner, 0x1fff) == 0);
+    assert!(rt; slot_of(&rt, &inner, 0x2000) == 1);
+}
+
+// The halves of that node, of which the lower one has seven pairs.
+fn halves(rt: &impl Abort) -> (Node, Node) {
+    let inner = node_of_fifteen(rt);
+    assert!(rt; is_inner(&inner) && inner.pairs().len() == 15);
     assert!(rt; in_order(&inner));
-    assert!(rt; inner.low <= 0x1fff && 0x1fff <= inner.high);
-    assert_eq!(rt; inner_slot(&inner, 0x1fff), 0);
-    assert!(rt; inner.low <= 0x2000 && 0x2000 <= inner.high);
-    assert_eq!(rt; inner_slot(&inner, 0x2000), 1);
-    let (left, right) = split_inner(&inner);
-    assert_eq!(rt; left.pairs().len(), 7);
-    assert_eq!(rt; left.high, 0x7fff);
-    assert_eq!(rt; right.pairs().len(), 8);
+    split_inner(&inner)
+}
+
+#[test]
+fn a_fence_between_two_halves_is_moved(rt: HostRuntime) {
+    let (left, right) = halves(&rt);
+    assert!(rt; left.pairs().len() == 7 && left.high == 0x7fff && right.pairs().len() == 8);
     assert!(rt; 0x8800 < right.high);
     let (left, right) = move_fence(&left, &right, 0x8800);
-    assert_eq!(rt; left.high, 0x8800);
-    assert_eq!(rt; right.low, 0x8801);
+    assert!(rt; left.high == 0x8800 && right.low == 0x8801);
     assert!(rt; is_inner(&left) && left.pairs().len() == 7);
-    assert_eq!(rt; left.pairs()[6].separator, 0x8800);
-    let fewer = drop_pair(&left, 0);
-    assert_eq!(rt; fewer.pairs().len(), 6);
+    assert!(rt; left.pairs()[6].separator == 0x8800);
+}
+
+#[test]
+fn a_pair_goes_and_a_separator_changes(rt: HostRuntime) {
+    let (left, _) = halves(&rt);
+    assert!(rt; is_inner(&left) && left.pairs().len() == 7);
+    assert!(rt; drop_pair(&left, 0).pairs().len() == 6);
     let moved = set_separator(&left, 0, 0x1000);
     assert!(rt; moved.pairs().len() == 7);
-    assert_eq!(rt;
-        moved.pairs()[0],
-        Pair {
-            child: 1,
-            separator: 0x1000
-        }
-    );
+    assert!(rt; moved.pairs()[0].child == 1 && moved.pairs()[0].separator == 0x1000);
 }
 
 // An inner node of level 1 over all addresses with one pair.
