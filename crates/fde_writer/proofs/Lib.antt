@@ -6,7 +6,9 @@ pub mod OneMember
 pub mod ManyMembers
 pub mod StackEnds
 pub mod Entered
+pub mod Filling
 pub mod Keeping
+pub mod Listed
 pub mod Endings
 pub mod Moved
 pub mod Telling

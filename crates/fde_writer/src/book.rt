@@ -2,7 +2,8 @@
 
 ghost use Rattle.std.specs.Prelude.{◌≡◌, ◌++◌, ◌∷◌, [], length, IfErr, OnOk, OnErr};
 ghost use Rattle.std.specs.Prelude.{IfSome, IfNone, List, IsTrue, None, eqb, ◌≢◌, ◌↔◌};
-ghost use Rattle.std.specs.Map.{lookup};
+ghost use Rattle.std.specs.Prelude.{drop, take};
+ghost use Rattle.std.specs.Map.{keys_of, lookup};
 ghost use Rattle.fde_writer.specs.Places.{PlaceData};
 ghost use Rattle.fde_writer.specs.Standing.{Rewrites, StandingData, Standings, standing_under};
 
@@ -123,6 +124,24 @@ impl Book {
             None => return None,
         };
         stack.pop()
+    }
+
+    /// How many keys sections stand under. They are written, as far as there is room for them, in
+    /// no order.
+    pub fn keys(&self, room: &mut [u64]) -> usize
+        ensures count { result ≡ length self.now }
+        ensures written { room.new ≡ take (length room.old) (keys_of self.now)
+            ++ drop (length self.now) room.old }
+    {
+        let mut count = 0;
+        for key in self.stands.keys() {
+            if count == room.len() {
+                return self.stands.len();
+            }
+            room[count] = *key;
+            count += 1;
+        }
+        self.stands.len()
     }
 
     /// Tells the places of the latest section's members.

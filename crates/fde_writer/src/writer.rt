@@ -15,6 +15,8 @@ ghost use Rattle.fde_writer.specs.Places.{all_registered, placed_members};
 ghost use Rattle.fde_writer.specs.Sections.{IsFdeWriter, members_due};
 ghost use Rattle.fde_writer.specs.Standing.{standing_under};
 
+mod keys;
+
 use crate::book::Book;
 use crate::entering::{SectionFault, enter};
 use crate::moving::{have_spans, moved_members};
