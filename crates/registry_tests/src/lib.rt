@@ -4,6 +4,8 @@
 #[cfg(test)]
 mod callers;
 #[cfg(test)]
+mod refused;
+#[cfg(test)]
 mod rounds;
 #[cfg(test)]
 mod tries;
