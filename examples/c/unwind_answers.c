@@ -21,6 +21,10 @@ static bool is_told(unwind_told told, uint32_t kind, uint32_t first, uint32_t la
          told.refusal.start == 0 && told.refusal.at == 0 && told.refusal.detail == 0;
 }
 
+static bool reaches(unwind_told told, uint64_t lowest, uint64_t end) {
+  return told.lowest == lowest && told.end == end;
+}
+
 static unwind_told put(unwind_writer *writer, uint64_t key, uint64_t at, size_t length) {
   unwind_told told;
   unwind_c_register(*writer, key, key + 100, at, section_bytes, length, &told, writer);
@@ -62,8 +66,13 @@ static int refusals(void) {
 /* One section comes and goes. */
 static int one_section(unwind_writer *writer, unwind_reader *reader) {
   unwind_found found;
-  CHECK(is_told(take(writer, 1), UNWIND_UNKNOWN, 0, 0, 0));
-  CHECK(is_told(put(writer, 1, 0x2000, TWO), DONE, 1, 2, 0));
+  uint64_t keys[2] = {7, 7};
+  unwind_told told = take(writer, 1);
+  CHECK(is_told(told, UNWIND_UNKNOWN, 0, 0, 0) && reaches(told, 0, 0));
+  CHECK(unwind_c_keys(*writer, keys, 2, writer) == 0 && keys[0] == 7);
+  told = put(writer, 1, 0x2000, TWO);
+  CHECK(is_told(told, DONE, 1, 2, 0) && reaches(told, 0x1000, 0x1030));
+  CHECK(unwind_c_keys(*writer, keys, 2, writer) == 1 && keys[0] == 1 && keys[1] == 7);
   CHECK(unwind_c_left(*writer, writer) == CALLS - 2 && unwind_c_due(*writer, writer) == 2);
   unwind_c_find(*reader, 0x101f, &found, reader);
   CHECK(found.kind == UNWIND_REGISTERED && found.registered == 2 && found.loaded == 0);
@@ -71,7 +80,9 @@ static int one_section(unwind_writer *writer, unwind_reader *reader) {
   CHECK(finds(reader, 0x1020, UNWIND_REGISTERED, 0x1020, 0x10, 0x2038));
   CHECK(misses(reader, 0xfff) && misses(reader, 0x1030));
   CHECK(is_told(take(writer, 2), UNWIND_UNKNOWN, 0, 0, 0));
-  CHECK(is_told(take(writer, 1), DONE, 3, 4, 101));
+  told = take(writer, 1);
+  CHECK(is_told(told, DONE, 3, 4, 101) && reaches(told, 0, 0));
+  CHECK(unwind_c_keys(*writer, keys, 0, writer) == 0);
   unwind_c_find(*reader, 0x101f, &found, reader);
   CHECK(found.kind == UNWIND_MISS && found.registered == 4 && found.loaded == 4);
   CHECK(unwind_c_due(*writer, writer) == 0);
@@ -81,12 +92,13 @@ static int one_section(unwind_writer *writer, unwind_reader *reader) {
 /* An FDE at 0 has no range, and a section without FDEs none. Both stand. */
 static int without_ranges(unwind_writer *writer, unwind_reader *reader) {
   unwind_told told;
-  CHECK(is_told(put(writer, 1, 0x1000, TWO), DONE, 5, 5, 0));
+  told = put(writer, 1, 0x1000, TWO);
+  CHECK(is_told(told, DONE, 5, 5, 0) && reaches(told, 0x20, 0x30));
   CHECK(misses(reader, 0) && misses(reader, 0x1f));
   CHECK(finds(reader, 0x20, UNWIND_REGISTERED, 0x20, 0x10, 0x1038));
   CHECK(is_told(put(writer, 1, 0x1000, ONE), DONE, 0, 0, 0));
   unwind_c_register(*writer, 2, 7, 0x3000, no_fdes, 4, &told, writer);
-  CHECK(is_told(told, DONE, 0, 0, 0));
+  CHECK(is_told(told, DONE, 0, 0, 0) && reaches(told, UINT64_MAX, 0));
   unwind_c_register(*writer, 2, 8, 0x3000, section_bytes, 0, &told, writer);
   CHECK(is_told(told, DONE, 0, 0, 0));
   CHECK(is_told(take(writer, 2), DONE, 0, 0, 8) && is_told(take(writer, 2), DONE, 0, 0, 7));
@@ -176,6 +188,11 @@ static int full(unwind_writer *writer, unwind_reader *reader) {
     CHECK(finds(reader, at - 0x1000, UNWIND_REGISTERED, at - 0x1000, 0x20, at + 24));
   }
   CHECK(put(writer, 20, 0x2500, ONE).kind == DONE);
+  uint64_t keys[20], sum = 0;
+  CHECK(unwind_c_keys(*writer, keys, 19, writer) == 20);
+  CHECK(unwind_c_keys(*writer, keys, 20, writer) == 20);
+  for (int i = 0; i < 20; i++) sum += keys[i];
+  CHECK(sum == 210);
   return 0;
 }
 

@@ -10,9 +10,9 @@
  * Each answer below is proved to be what the comment beside it says, for every call whose caller
  * keeps to what follows. Nothing checks that: it is what C owes.
  *
- *   - What a call writes (`out`, `back`, `into_back`, `told`, `found`) is writable, aligned, and
- *     apart from all else that the call is given. What it holds before doesn't matter, but for a
- *     writer or a reader: that holds nothing.
+ *   - What a call writes (`out`, `back`, `into_back`, `told`, `keys`, `found`) is writable, aligned,
+ *     and apart from all else that the call is given. What it holds before doesn't matter, but for
+ *     a writer or a reader: that holds nothing.
  *   - What a call reads (`limits`, `bytes`) nobody writes while the call runs. An array of length
  *     0 has an address too, which isn't null. The bytes are read in the call and not kept: what
  *     stands in the section's place later changes no answer.
@@ -132,7 +132,9 @@ void unwind_c_drop(unwind_writer writer);
 enum unwind_told_kind {
   UNWIND_DONE = 0,       /* it was done by the updates `first_number` to `last_number`, one for   */
                          /* each range that came or went; both are 0 where there is none. What is */
-                         /* given up or moved has its `note`                                      */
+                         /* given up or moved has its `note`. What is registered has its          */
+                         /* addresses: the least is `lowest`, and `end` the one after the         */
+                         /* greatest, modulo 2^64; without ranges these are 2^64 - 1 and 0        */
   UNWIND_REFUSED = 1,    /* the bytes are no section: `refusal` is the first                      */
   UNWIND_FAR = 2,        /* an FDE is too far from its code, and this is the first: its address   */
                          /* less that of its code is `low` + `distance`, modulo 2^64              */
@@ -165,6 +167,8 @@ typedef struct {
   uint32_t last_number;
   uint64_t note;
   uint64_t distance;
+  uint64_t lowest;
+  uint64_t end;
   unwind_refusal refusal;
 } unwind_told;
 
@@ -195,6 +199,11 @@ void unwind_c_deregister(unwind_writer writer, uint64_t key, unwind_told *told,
  * It takes memory as unwind_c_register does, but none for bytes. */
 void unwind_c_move(unwind_writer writer, unwind_writer into, uint64_t key, unwind_told *told,
                    unwind_writer *back, unwind_writer *into_back) UNWIND_C_NONNULL;
+
+/* Tells under which keys sections stand, so that all of them can be moved or given up: how many keys
+ * there are. As many as there is room for are written, in no order. */
+size_t unwind_c_keys(unwind_writer writer, uint64_t *keys, size_t room,
+                     unwind_writer *back) UNWIND_C_NONNULL;
 
 /* ---- readers --------------------------------------------------------------------------------- */
 

@@ -16,6 +16,9 @@ use Rattle.fde_writer.specs.declared.outcome.Registration.{Registration}
 use Rattle.fde_writer.specs.declared.outcome.Registration.TheVariants as registration
 use Rattle.frame_parse.specs.Sections.{SectionData}
 use Rattle.frame_parse.specs.declared.fault.FrameFault.TheVariants.{NoMemory}
+use Rattle.unwind_c.specs.Reach.{section_reach}
+use Rattle.unwind_c.specs.declared.reach.Reach.{Reach}
+use Rattle.unwind_c.specs.declared.sections.Placed.{Placed}
 use Rattle.unwind_c.specs.declared.told.UnwindTold.{UnwindTold}
 
 -- the kinds of answers
@@ -64,6 +67,8 @@ kind_told kind = record {
   last_number = 0;
   note = 0;
   distance = 0;
+  lowest = 0;
+  end = 0;
   refusal = no_refusal;
 }
 
@@ -116,17 +121,26 @@ abbrev pub fault_told : LoadFault → UnwindTold
 fault_told (Frames NoMemory) = kind_told SECTION_NO_MEMORY
 fault_told fault = refused_told fault
 
--- Bytes at an address were read: what they are was registered; or they weren't read, and the writer
--- is as it was.
+-- Bytes at an address were read: what they are was registered, and has these addresses; or they
+-- weren't read, and the writer is as it was.
 abbrev pub RegistersBytes : ℕ → ℕ → ℕ → List ℕ → FdeWriterData → FdeWriterData
-    → Result Registration LoadFault → Type 0
-RegistersBytes key note address bytes u u' (Ok answer) =
-    (s : SectionData) × IsLoaded address bytes s × IsRegistration key note s u u' answer
+    → Result Placed LoadFault → Type 0
+RegistersBytes key note address bytes u u' (Ok placed) = (s : SectionData)
+    × IsLoaded address bytes s × IsRegistration key note s u u' placed.answer
+    × (placed.reach ≡ section_reach s)
 RegistersBytes key note address bytes u u' (Err fault) =
     IsLoadFault address bytes fault × (u' ≡ u)
 
-abbrev pub bytes_told : Result Registration LoadFault → UnwindTold
-bytes_told (Ok answer) = registration_told answer
+-- of a section that stands, with its addresses
+abbrev pub placed_told : Registration → Reach → UnwindTold
+placed_told (registration.Done numbers) reach = record (kind_told_with SECTION_DONE numbers 0) {
+  lowest = reach.lowest;
+  end = reach.end;
+}
+placed_told answer reach = registration_told answer
+
+abbrev pub bytes_told : Result Placed LoadFault → UnwindTold
+bytes_told (Ok placed) = placed_told placed.answer placed.reach
 bytes_told (Err fault) = fault_told fault
 
 -- A call was answered, which is told so.

@@ -2,5 +2,6 @@ pub mod Answers
 pub mod Finds
 pub mod Handles
 pub mod Limits
+pub mod Reach
 pub mod Readers
 pub mod Writers

@@ -7,7 +7,9 @@
 #![tactic(auto)]
 
 mod found;
+mod keys;
 mod limits;
+mod reach;
 mod reader_handle;
 mod readers;
 mod sections;
@@ -16,6 +18,7 @@ mod writer_handle;
 mod writers;
 
 pub use found::UnwindFound;
+pub use keys::unwind_c_keys;
 pub use limits::UnwindLimits;
 pub use reader_handle::FdeReaderHandle;
 pub use readers::{unwind_c_find, unwind_c_reader_again, unwind_c_reader_drop};

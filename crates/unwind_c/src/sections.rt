@@ -7,6 +7,7 @@ ghost use Rattle.unwind_c.specs.Answers.{RegistersBytes, TellsMove, TellsSection
 ghost use Rattle.unwind_c.specs.Answers.{deregistration_told};
 ghost use Rattle.unwind_c.specs.Writers.{LeadsToFdeWriter};
 
+use crate::reach::Reach;
 use crate::told::UnwindTold;
 use crate::writer_handle::FdeWriterHandle;
 use c_sections::{LoadFault, read_section};
@@ -22,13 +23,20 @@ struct Given {
     address: u64,
 }
 
+/// What became of a section, and which addresses its ranges have.
+#[derive(Clone, Copy, Debug, PartialEq, Eq)]
+pub struct Placed {
+    pub answer: Registration,
+    pub reach: Reach,
+}
+
 /// Registers the section of bytes.
 fn register(
     writer: &mut FdeWriter,
     alloc: Global,
     given: &Given,
     bytes: &[u8],
-) -> Result<Registration, LoadFault>
+) -> Result<Placed, LoadFault>
     ensures { RegistersBytes given.now.key given.now.note given.now.address bytes.now writer.old
         writer.new result }
 {
@@ -36,7 +44,9 @@ fn register(
         Ok(section) => section,
         Err(fault) => return Err(fault),
     };
-    Ok(writer.register(given.key, given.note, &section))
+    let reach = Reach::of(&section);
+    let answer = writer.register(given.key, given.note, &section);
+    Ok(Placed { answer, reach })
 }
 
 fn tell_registration(

@@ -3,16 +3,20 @@
 ghost use Rattle.std.specs.Prelude.{◌≡◌};
 ghost use Rattle.unwind_c.specs.Answers.{bytes_told, deregistration_told, far_told};
 ghost use Rattle.unwind_c.specs.Answers.{fault_told, kind_told};
-ghost use Rattle.unwind_c.specs.Answers.{kind_told_with, moving_told, refused_move_told};
+ghost use Rattle.unwind_c.specs.Answers.{kind_told_with, moving_told, placed_told};
+ghost use Rattle.unwind_c.specs.Answers.{refused_move_told};
 ghost use Rattle.unwind_c.specs.Answers.{refused_told, registration_told};
 
+use crate::reach::Reach;
+use crate::sections::Placed;
 use c_sections::{FramesRefusal, LoadFault};
 use fde_writer::{Deregistration, Moving, Numbers, Registration};
 use frame_parse::FrameFault;
 
 /// A kind; the numbers of the first and the last update that put a section or took it away; the
-/// note with which it was registered; how far an FDE is from its code; and why bytes are refused.
-/// What isn't told is 0.
+/// note with which it was registered; how far an FDE is from its code; the least address of what
+/// was registered, and the one after the greatest; and why bytes are refused. What isn't told is
+/// 0.
 #[repr(C)]
 #[derive(Clone, Copy, Debug, PartialEq, Eq)]
 pub struct UnwindTold {
@@ -21,6 +25,8 @@ pub struct UnwindTold {
     pub last_number: u32,
     pub note: u64,
     pub distance: u64,
+    pub lowest: u64,
+    pub end: u64,
     pub refusal: FramesRefusal,
 }
 
@@ -63,6 +69,8 @@ impl UnwindTold {
             last_number: 0,
             note: 0,
             distance: 0,
+            lowest: 0,
+            end: 0,
             refusal: NO_REFUSAL,
         }
     }
@@ -107,11 +115,26 @@ impl UnwindTold {
         }
     }
 
-    pub(crate) fn of_bytes(answer: Result<Registration, LoadFault>) -> UnwindTold
+    /// Of a section that has these addresses.
+    fn of_placed(answer: Registration, reach: Reach) -> UnwindTold
+        ensures { result ≡ placed_told answer reach }
+    {
+        match answer {
+            Registration::Done { numbers } => {
+                let mut told = UnwindTold::numbered(DONE, numbers, 0);
+                told.lowest = reach.lowest;
+                told.end = reach.end;
+                told
+            }
+            answer => UnwindTold::of_registration(answer),
+        }
+    }
+
+    pub(crate) fn of_bytes(answer: Result<Placed, LoadFault>) -> UnwindTold
         ensures { result ≡ bytes_told answer }
     {
         match answer {
-            Ok(answer) => UnwindTold::of_registration(answer),
+            Ok(placed) => UnwindTold::of_placed(placed.answer, placed.reach),
             Err(fault) => UnwindTold::of_fault(fault),
         }
     }

@@ -1,0 +1,49 @@
+//! Which addresses the ranges of a section have.
+
+ghost use Rattle.std.specs.Prelude.{◌≡◌};
+ghost use Rattle.unwind_c.specs.Reach.{no_reach, reach_with, section_reach};
+
+use frame_parse::{Fde, Section};
+
+/// The least address of ranges, and the one after the greatest, modulo 2^64. Of no ranges the
+/// greatest number and 0, between which no address is.
+#[derive(Clone, Copy, Debug, PartialEq, Eq)]
+pub struct Reach {
+    pub lowest: u64,
+    pub end: u64,
+}
+
+impl Reach {
+    fn none() -> Reach
+        ensures { result ≡ no_reach }
+    {
+        Reach {
+            lowest: u64::MAX,
+            end: 0,
+        }
+    }
+
+    /// This one and that of an FDE, where it has addresses.
+    fn with(self, fde: &Fde<'_>) -> Reach
+        ensures { result ≡ reach_with self fde.now.entry }
+    {
+        if !(0 < fde.first() && 0 < fde.range()) {
+            return self;
+        }
+        Reach {
+            lowest: self.lowest.min(fde.first()),
+            end: self.end.max(fde.first().wrapping_add(fde.range())),
+        }
+    }
+
+    /// That of a section.
+    pub(crate) fn of(section: &Section) -> Reach
+        ensures { result ≡ section_reach section.now }
+    {
+        let mut reach = Reach::none();
+        for index in 0..section.count() {
+            reach = reach.with(&section.fde(index));
+        }
+        reach
+    }
+}
