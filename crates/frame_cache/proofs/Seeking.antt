@@ -1,17 +1,13 @@
 -- A search along the order of the slots, and one over all slots.
-use Rattle.std.proofs.Common.{◌≡◌, ℕ, zero, suc, cond, ◌+◌, ◌<◌, ◌≤◌, List, [], ◌∷◌, length, map, take, set, get_or, sym, ap, ◌∙◌, add-one, arith, refl, Bool, true, false, None}
+use Rattle.std.proofs.Common.{◌≡◌, ℕ, suc, ◌+◌, ◌<◌, ◌≤◌, List, ◌∷◌, length, map, take, set, get_or, sym, ap, ◌∙◌, add-one, arith, true, false, Some, None}
 use borrow.Author.Count.{below_more}
-use Rattle.std.specs.Int.{from_bool}
-use Rattle.std.specs.List.{count_by, filter}
 use Rattle.std.proofs.lemmas.List.{get_or_default}
-use Rattle.std.proofs.lemmas.List.Sums.{count_by_more_no, count_by_more_yes, length-filter}
 use Rattle.reg_model.specs.Query.{member_at}
 use Rattle.reg_model.specs.SpanData.{contains}
 use Rattle.reg_model.specs.declared.span.Member.{Member}
 use Rattle.frame_cache.specs.Order.{brought}
 use Rattle.frame_cache.specs.Recent.{SeeksEntry, cached_entries, cached_entry, in_slot, no_entry}
 use Rattle.frame_cache.specs.RecentData.{IsRecent, RecentData}
-use Rattle.frame_cache.specs.declared.recent.Sought.TheVariants.{Known}
 use Rattle.frame_cache.proofs.Entries.{added, entry_count, entry_read, found_at, found_none, replaced, slot_low}
 
 -- as many entries as slots are used
@@ -32,14 +28,18 @@ entry_is r place x is within =
     get_or_default r.members (get_or r.slots place 0) x no_entry (omega (arith, low, members))
     ∙ sym (entry_read r.members r.slots r.used place (omega (arith, within, count)) (omega (arith, used, slots)))
 
+-- what stands in the slot of a place is the entry there
+pub entry_got : (r : RecentData) (place slot : ℕ) (m : Member) → IsRecent r → place < length (cached_entries r) → slot ≡ get_or r.slots place 0 → m ≡ in_slot r.members slot → m ≡ cached_entry place r
+entry_got r place slot m is within at got = got ∙ (ap (in_slot r.members) at ∙ entry_is r place no_entry is within)
+
 -- no entry before a place contains the address
 abbrev pub ArePassed : ℕ → ℕ → RecentData → Type 0
 ArePassed pc place r = (i : ℕ) → i < place → contains (cached_entry i r).span pc ≡ false
 
-pub seek_known : (pc : ℕ) (r : RecentData) (place : ℕ) (m : Member) → place < length (cached_entries r) → ArePassed pc place r → m ≡ cached_entry place r → contains m.span pc ≡ true → SeeksEntry r pc (Known m place)
+pub seek_known : (pc : ℕ) (r : RecentData) (place : ℕ) (m : Member) → place < length (cached_entries r) → ArePassed pc place r → m ≡ cached_entry place r → contains m.span pc ≡ true → SeeksEntry r pc (Some place)
 seek_known pc r place m within passed entry here =
     let found = found_at pc (cached_entries r) place no_entry within passed (rw (← entry) here) in
-    (within, entry, rw entry found.0, found.1)
+    (within, found.0, found.1)
 
 pub passed_one : (pc : ℕ) (r : RecentData) (place : ℕ) (m : Member) → ArePassed pc place r → m ≡ cached_entry place r → contains m.span pc ≡ false → ArePassed pc (place + 1) r
 passed_one pc r place m passed entry here = below_more (λ i. contains (cached_entry i r).span pc ≡ false) place passed (rw (← entry) here)
@@ -49,40 +49,17 @@ seek_unknown pc r place is all passed =
     let count = used_is r is in
     found_none pc (cached_entries r) no_entry (λ i less. passed i (omega (arith, less, count, all)))
 
--- of one more that passes a test, or doesn't
-pub counted_one : {A : Type 0} (p : A → Bool) (xs : List A) (i : ℕ) (d : A) (count more : ℕ) (b : Bool) → i < length xs → p (get_or xs i d) ≡ b → count ≡ count_by p (take i xs) → more ≡ from_bool b → count + more ≡ count_by p (take (i + 1) xs)
-counted_one p xs i d count more true within is so one = let e = count_by_more_yes p xs i d within is in let more_is : more ≡ 1 = one in omega (arith, so, more_is, e)
-counted_one p xs i d count more false within is so none = let e = count_by_more_no p xs i d within is in let more_is : more ≡ 0 = none in omega (arith, so, more_is, e)
-
--- where none of some passes a test, the one at a place doesn't
-none_left : {A : Type 0} (p : A → Bool) (xs : List A) (n : ℕ) (d : A) → n < length xs → length (filter p xs) ≡ 0 → p (get_or xs n d) ≡ false
-none_left p [] n d within none = absurd (omega (arith, within))
-none_left p (x ∷ xs) zero d within none = go (p x) refl none
-  where
-    go : (b : Bool) → p x ≡ b → length (cond b (x ∷ filter p xs) (filter p xs)) ≡ 0 → p x ≡ false
-    go true is none = absurd (omega (arith, none))
-    go false is none = is
-none_left p (x ∷ xs) (suc n) d within none = none_left p xs n d (omega (arith, within)) (go (p x) none)
-  where
-    go : (b : Bool) → length (cond b (x ∷ filter p xs) (filter p xs)) ≡ 0 → length (filter p xs) ≡ 0
-    go true none = absurd (omega (arith, none))
-    go false none = none
-
-none_at : {A : Type 0} (p : A → Bool) (xs : List A) (n : ℕ) (d : A) → n < length xs → count_by p xs ≡ 0 → p (get_or xs n d) ≡ false
-none_at p xs n d within none = none_left p xs n d within (length-filter p xs ∙ none)
-
 -- where no slot has a member that contains the address
-pub seek_nowhere : (pc : ℕ) (r : RecentData) → IsRecent r → count_by (λ m. contains m.span pc) r.members ≡ 0 → member_at pc (cached_entries r) ≡ None
+pub seek_nowhere : (pc : ℕ) (r : RecentData) → IsRecent r → ((i : ℕ) → i < 8 → contains (in_slot r.members i).span pc ≡ false) → member_at pc (cached_entries r) ≡ None
 seek_nowhere pc r is none = seek_unknown pc r r.used is (omega arith) passed
   where
     passed : ArePassed pc r.used r
     passed i less =
         let used = is.used in
-        let members = is.members in
         let count = used_is r is in
         let low = slot_low r.slots i is.slots (omega (arith, less, used)) in
         ap (λ (m : Member). contains m.span pc) (sym (entry_is r i no_entry is (omega (arith, less, count))))
-        ∙ none_at (λ (m : Member). contains m.span pc) r.members (get_or r.slots i 0) no_entry (omega (arith, low, members)) none
+        ∙ none (get_or r.slots i 0) low
 
 -- ---- a member that is put in front
 

@@ -29,7 +29,6 @@ use Rattle.frame_cache.specs.Cached.{AnswersBy, CachedTry, FitsCaller, HasHit, I
 use Rattle.frame_cache.specs.Order.{but_nth}
 use Rattle.frame_cache.specs.Recent.{SeeksEntry, cache_of, cached_entries, cached_entry}
 use Rattle.frame_cache.specs.RecentData.{RecentData}
-use Rattle.frame_cache.specs.declared.recent.Sought.TheVariants.{Known}
 use Rattle.frame_cache.proofs.Fitting.{fits_entry, fits_front, fits_kept, fits_later}
 use Rattle.frame_cache.proofs.Hits.{answer_holds, hit_holds}
 use Rattle.frame_cache.proofs.Looking.{clock_own, clock_seen, half_hit, half_own, half_seen, looks, receipts_of}
@@ -48,21 +47,30 @@ pub record Adds (m : Member) (r r' : RecentData) : Type 0 where
   pub stamp : r'.stamp ≡ r.stamp
   pub entries : cached_entries r' ≡ take 8 (m ∷ cached_entries r)
 
+-- a member is the first entry that contains the address
+pub record Finds (pc : ℕ) (m : Member) (place : ℕ) (r : RecentData) : Type 0 where
+  pub entry : m ≡ cached_entry place r
+  pub found : member_at pc (cached_entries r) ≡ Some m
+  pub others : but_nth place (cached_entries r) ≡ but_found pc (cached_entries r)
+
+pub finds : (pc : ℕ) (m : Member) (place : ℕ) (r : RecentData) → SeeksEntry r pc (Some place) → m ≡ cached_entry place r → Finds pc m place r
+finds pc m place r seeks entry = record { entry = entry; found = rw entry seeks.1; others = seeks.2 }
+
 -- an entry that was found is brought to the front
 pub record Touches (m : Member) (place : ℕ) (r r' : RecentData) : Type 0 where
   pub stamp : r'.stamp ≡ r.stamp
   pub entries : cached_entries r' ≡ cached_entry place r ∷ but_nth place (cached_entries r)
 
-touched_is : (pc : ℕ) (m : Member) (place : ℕ) (r r' : RecentData) → SeeksEntry r pc (Known m place) → Touches m place r r' → cached_entries r' ≡ m ∷ but_found pc (cached_entries r)
-touched_is pc m place r r' seeks touches = touches.entries ∙ (ap (λ x. x ∷ but_nth place (cached_entries r)) (sym seeks.1) ∙ ap (λ xs. m ∷ xs) seeks.3)
+touched_is : (pc : ℕ) (m : Member) (place : ℕ) (r r' : RecentData) → Finds pc m place r → Touches m place r r' → cached_entries r' ≡ m ∷ but_found pc (cached_entries r)
+touched_is pc m place r r' seeks touches = touches.entries ∙ (ap (λ x. x ∷ but_nth place (cached_entries r)) (sym seeks.entry) ∙ ap (λ xs. m ∷ xs) seeks.others)
 
-front_is : (half : Half) (pc : ℕ) (m : Member) (place : ℕ) (r r' : RecentData) → SeeksEntry r pc (Known m place) → Touches m place r r' → cache_of half r' ≡ record (cache_of half r) { entries = m ∷ but_found pc (cached_entries r) }
+front_is : (half : Half) (pc : ℕ) (m : Member) (place : ℕ) (r r' : RecentData) → Finds pc m place r → Touches m place r r' → cache_of half r' ≡ record (cache_of half r) { entries = m ∷ but_found pc (cached_entries r) }
 front_is half pc m place r r' seeks touches = λ i. record { half = half; stamp = touches.stamp i; entries = touched_is pc m place r r' seeks touches i }
 
-pub known_own : (pc stamp : ℕ) (m : Member) (place : ℕ) (r r1 r2 : RecentData) → HaveOwnSpans (cached_entries r) → Keeps stamp r r1 → SeeksEntry r1 pc (Known m place) → Touches m place r1 r2 → HaveOwnSpans (cached_entries r2)
+pub known_own : (pc stamp : ℕ) (m : Member) (place : ℕ) (r r1 r2 : RecentData) → HaveOwnSpans (cached_entries r) → Keeps stamp r r1 → Finds pc m place r1 → Touches m place r1 r2 → HaveOwnSpans (cached_entries r2)
 known_own pc stamp m place r r1 r2 own keeps seeks touches =
     subst HaveOwnSpans (sym (touched_is pc m place r1 r2 seeks touches))
-    (own_front pc m (cached_entries r1) seeks.2 (subst HaveOwnSpans (sym keeps.entries) (own_kept stamp r.stamp (cached_entries r) own)))
+    (own_front pc m (cached_entries r1) seeks.found (subst HaveOwnSpans (sym keeps.entries) (own_kept stamp r.stamp (cached_entries r) own)))
 
 module _ (t : Terms) (half : Half) (pc found : ℕ) (c : CacheData) (k look : CallerData) (r r1 : RecentData) (is : cache_of half r ≡ c) (keeps : Keeps (lower found) r r1) (after : AfterClock t ask.Nothing found k.log look.log) where
   kept : cache_of half r1 ≡ kept_at (lower found) c
@@ -74,7 +82,7 @@ module _ (t : Terms) (half : Half) (pc found : ℕ) (c : CacheData) (k look : Ca
 
   -- ---- an entry contains the address
 
-  module _ (m : Member) (place : ℕ) (r2 : RecentData) (seeks : SeeksEntry r1 pc (Known m place)) (touches : Touches m place r1 r2) where
+  module _ (m : Member) (place : ℕ) (r2 : RecentData) (seeks : Finds pc m place r1) (touches : Touches m place r1 r2) where
     pub known_steps : look ≡ record k { log = look.log } → CachedTry t pc c (cache_of half r2) k look (Ok (Hit m r2.stamp))
     known_steps rest = record {
       clock = found;
@@ -82,23 +90,23 @@ module _ (t : Terms) (half : Half) (pc found : ℕ) (c : CacheData) (k look : Ca
       looks = looks t found k look after rest;
       answers =
           subst (λ d. AnswersBy (member_at pc d.entries) t pc d (cache_of half r2) look look (Ok (Hit m r2.stamp))) kept
-          (rw seeks.2 (ap (λ s. Ok (Hit m s)) touches.stamp, refl, front_is half pc m place r1 r2 seeks touches));
+          (rw seeks.found (ap (λ s. Ok (Hit m s)) touches.stamp, refl, front_is half pc m place r1 r2 seeks touches));
     }
 
     pub known_fits : FitsCaller c k.log → FitsCaller (cache_of half r2) look.log
     known_fits fits =
-        subst (λ d. FitsCaller d look.log) (sym (front_is half pc m place r1 r2 seeks touches)) (fits_front pc m (cache_of half r1) look.log seeks.2 (kept_fits fits))
+        subst (λ d. FitsCaller d look.log) (sym (front_is half pc m place r1 r2 seeks touches)) (fits_front pc m (cache_of half r1) look.log seeks.found (kept_fits fits))
 
     module _ (one : (members : List Member) (m : Member) (pc : ℕ) → AreDisjoint members → Contains members m → IsTrue (contains m.span pc) → member_at pc members ≡ Some m) (lawful : (start : State) (history : List Update) → IsLawful start → IsHistory start history → IsLawful (state_after start history)) where
       pub known_answers : FitsCaller c k.log → IsAnswerOf t half pc k look (Hit m r2.stamp)
       known_answers fits =
-          let hit : HasHit half r1.stamp look.log m = all_with (HasHit half r1.stamp look.log) (cached_entries r1) m (kept_fits fits) (found_there pc (cached_entries r1) m seeks.2).0 in
+          let hit : HasHit half r1.stamp look.log m = all_with (HasHit half r1.stamp look.log) (cached_entries r1) m (kept_fits fits) (found_there pc (cached_entries r1) m seeks.found).0 in
           let stamp : r2.stamp ≡ r1.stamp = touches.stamp in
           let there = subst (λ s. Contains look.log.receipts.own (Query half hit.0 (Hit m s))) (sym stamp) hit.1 in
           record {
             seen = (let s = (clock_seen t found k.log look.log after).0 in let n = keeps.stamp_is in omega (arith, s, n, stamp));
             right = λ history callers since is all.
-                hit_holds one lawful (start t) history t.nodes callers since look.log.receipts.own half pc hit.0 r2.stamp m (start_lawful t (valid after)) is all there (found_there pc (cached_entries r1) m seeks.2).1;
+                hit_holds one lawful (start t) history t.nodes callers since look.log.receipts.own half pc hit.0 r2.stamp m (start_lawful t (valid after)) is all there (found_there pc (cached_entries r1) m seeks.found).1;
           }
         where
           valid : AfterClock t ask.Nothing found k.log look.log → AreTerms t

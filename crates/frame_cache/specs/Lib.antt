@@ -3,3 +3,4 @@ pub mod Cached
 pub mod Order
 pub mod RecentData
 pub mod Recent
+pub mod Slots

@@ -1,13 +1,11 @@
 -- The entries among the slots, and a search for one.
-use Rattle.std.specs.Prelude.{◌≡◌, ℕ, ◌<◌, List, length, map, take, get_or, Some, None}
+use Rattle.std.specs.Prelude.{◌≡◌, ℕ, ◌<◌, List, length, map, take, get_or, Option, Some, None}
 use Rattle.reg_model.specs.Query.{member_at}
 use Rattle.reg_model.specs.declared.answer.Half.{Half}
 use Rattle.reg_model.specs.declared.span.Member.{Member}
 use Rattle.frame_cache.specs.CacheData.{CacheData, but_found}
 use Rattle.frame_cache.specs.Order.{but_nth}
 use Rattle.frame_cache.specs.RecentData.{RecentData}
-use Rattle.frame_cache.specs.declared.recent.Sought.{Sought}
-use Rattle.frame_cache.specs.declared.recent.Sought.TheVariants.{Known, Unknown}
 
 -- a member that stands for none
 abbrev pub no_entry : Member
@@ -29,10 +27,10 @@ cache_of half r = record { half = half; stamp = r.stamp; entries = cached_entrie
 abbrev pub cached_entry : ℕ → RecentData → Member
 cached_entry place r = get_or (cached_entries r) place no_entry
 
--- A search: the first entry that contains the address, with its place; or that there is none.
-abbrev pub SeeksEntry : RecentData → ℕ → Sought → Type 0
-SeeksEntry r pc (Known m place) =
-    (place < length (cached_entries r)) × (m ≡ cached_entry place r)
-    × (member_at pc (cached_entries r) ≡ Some m)
+-- A search: the place of the first entry that contains the address; or that there is none.
+abbrev pub SeeksEntry : RecentData → ℕ → Option ℕ → Type 0
+SeeksEntry r pc (Some place) =
+    (place < length (cached_entries r))
+    × (member_at pc (cached_entries r) ≡ Some (cached_entry place r))
     × (but_nth place (cached_entries r) ≡ but_found pc (cached_entries r))
-SeeksEntry r pc Unknown = member_at pc (cached_entries r) ≡ None
+SeeksEntry r pc None = member_at pc (cached_entries r) ≡ None

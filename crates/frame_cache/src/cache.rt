@@ -4,7 +4,7 @@ ghost use Rattle.word_rule.specs.Callers.{IsAlone};
 ghost use Rattle.frame_cache.specs.CacheData.{HaveOwnSpans};
 ghost use Rattle.frame_cache.specs.Cached.{CachedTry, FitsCaller, IsAnswerOf, OnlyLooks, TriesHalf};
 
-use crate::recent::{Recent, Sought};
+use crate::recent::Recent;
 use reg_model::laws::{histories_are_lawful, one_member_contains};
 use reg_model::{Again, Found, Half, Member};
 use registry_core::Registry;
@@ -104,15 +104,13 @@ impl FrameCache {
         one_member_contains();
         let clock = registry.words().load_clock(me, Ask::Nothing);
         self.recent.keep((clock % LOWER) as u32);
-        match self.recent.seek(pc) {
-            Sought::Known { member, place } => {
-                self.recent.touch(place);
-                return Ok(Found::Hit {
-                    member,
-                    stamp: self.recent.stamp(),
-                });
-            }
-            Sought::Unknown => {}
+        if let Some(place) = self.recent.seek(pc) {
+            let member = self.recent.get(place).member();
+            self.recent.touch(place);
+            return Ok(Found::Hit {
+                member,
+                stamp: self.recent.stamp(),
+            });
         }
         match try_half(self.half, registry, me, pc)? {
             Found::Hit { member, stamp } => {

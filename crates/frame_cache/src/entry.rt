@@ -1,7 +1,10 @@
 //! A member as it is searched for.
-ghost use Rattle.std.specs.Prelude.{◌≡◌};
+ghost use Rattle.std.specs.Prelude.{◌≡◌, ◌-◌, ◌%◌, min};
 ghost use Rattle.reg_model.specs.SpanData.{contains};
+ghost use Rattle.frame_cache.specs.Recent.{no_entry};
+ghost use Rattle.frame_cache.specs.Slots.{HALVES};
 
+use crate::slots::HALVES;
 use reg_model::{Member, Span};
 use std::marker::Model;
 
@@ -49,7 +52,9 @@ impl Entry {
     }
 
     /// What stands in a slot that was never used.
-    pub(crate) fn unused() -> Entry {
+    pub(crate) fn unused() -> Entry
+        ensures { result ≡ no_entry }
+    {
         Entry {
             first: 0,
             reach: 0,
@@ -75,5 +80,19 @@ impl Entry {
         ensures { result ≡ contains self.now.span pc }
     {
         pc.wrapping_sub(self.first) <= self.reach
+    }
+
+    /// The lower half of its first address.
+    pub(crate) fn low(&self) -> u32
+        ensures { result ≡ self.now.span.first % HALVES }
+    {
+        (self.first % HALVES) as u32
+    }
+
+    /// How far behind its first address the last one is, at most the greatest lower half.
+    pub(crate) fn near(&self) -> u32
+        ensures { result ≡ min (self.now.span.last - self.now.span.first) (HALVES - 1) }
+    {
+        self.reach.min(HALVES - 1) as u32
     }
 }

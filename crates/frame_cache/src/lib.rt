@@ -14,5 +14,6 @@ mod entry;
 pub mod laws;
 mod order;
 mod recent;
+mod slots;
 
 pub use cache::FrameCache;

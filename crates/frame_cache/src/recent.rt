@@ -1,13 +1,12 @@
 //! Members at a stamp, the most recently used first.
 ghost use Rattle.std.specs.Prelude.{◌≡◌, ◌<◌, ◌≤◌, ◌∷◌, [], length, take};
-ghost use Rattle.std.specs.List.{count_by};
-ghost use Rattle.reg_model.specs.SpanData.{contains};
 ghost use Rattle.frame_cache.specs.CacheData.{kept_entries};
 ghost use Rattle.frame_cache.specs.Order.{but_nth};
 ghost use Rattle.frame_cache.specs.Recent.{SeeksEntry, cached_entries, cached_entry};
 
 use crate::entry::Entry;
 use crate::order::Order;
+use crate::slots::Slots;
 use reg_model::Member;
 use std::marker::Model;
 
@@ -18,7 +17,7 @@ const MOST: u32 = 8;
 #[derive(Drop)]
 pub(crate) struct Recent {
     stamp: u32,
-    members: [Entry; 8],
+    members: Slots,
     order: Order,
     used: u32,
 }
@@ -43,13 +42,6 @@ impl Model for Recent {
     } };
 }
 
-/// Which member contains an address, and its place; or that none does.
-#[derive(Drop)]
-pub(crate) enum Sought {
-    Known { member: Member, place: u32 },
-    Unknown,
-}
-
 impl Recent {
     /// No members, at stamp 0.
     pub(crate) fn new() -> Recent
@@ -58,7 +50,7 @@ impl Recent {
     {
         Recent {
             stamp: 0,
-            members: [Entry::unused(); 8],
+            members: Slots::new(),
             order: Order::new(),
             used: 0,
         }
@@ -96,57 +88,38 @@ impl Recent {
         requires { place < length (cached_entries self.now) }
         ensures { result ≡ cached_entry place self.now }
     {
-        let slot = self.order.at(place);
-        self.members[slot as usize]
+        self.members.get(self.order.at(place))
     }
 
-    /// In how many slots a member contains the address, also in those that aren't used. No branch
-    /// depends on what stands in a slot, and no load waits for another.
-    #[inline(always)]
-    fn holders(&self, pc: u64) -> u32
-        ensures { result ≡ count_by (λ m. contains m.span pc) self.now.members }
-    {
-        let mut count = 0;
-        for entry in self.members.iter() {
-            count += u32::from(entry.holds(pc));
-        }
-        count
-    }
-
-    /// The first member that contains the address, one place after another. It is a call of its
-    /// own, which leaves registers to a search that finds none.
+    /// The place of the first member that contains the address, one place after another. It is a
+    /// call of its own, which leaves registers to a search that finds none.
     #[inline(never)]
-    fn walk(&self, pc: u64) -> Sought
+    fn walk(&self, pc: u64) -> Option<u32>
         ensures { SeeksEntry self.now pc result }
     {
         for place in 0..self.used {
             let entry = self.get(place);
             if entry.holds(pc) {
-                let member = entry.member();
-                return Sought::Known { member, place };
+                return Some(place);
             }
         }
-        Sought::Unknown
+        None
     }
 
-    /// The first member that contains the address. After the one in front, which it mostly is, all
-    /// slots are asked at once: where none of them holds the address there is no need of their
-    /// order.
-    pub(crate) fn seek(&self, pc: u64) -> Sought
+    /// The place of the first member that contains the address. After the one in front, which it
+    /// mostly is, all slots are asked at once: where none of them may hold the address there is no
+    /// need of their order.
+    pub(crate) fn seek(&self, pc: u64) -> Option<u32>
         ensures { SeeksEntry self.now pc result }
     {
-        if self.used > 0 {
-            let entry = self.get(0);
-            if entry.holds(pc) {
-                let member = entry.member();
-                return Sought::Known { member, place: 0 };
-            }
+        let front = self.members.get(self.order.at(0));
+        if front.holds(pc) && self.used > 0 {
+            return Some(0);
         }
-        let count = self.holders(pc);
-        if count > 0 {
+        if self.members.may_hold(pc) {
             self.walk(pc)
         } else {
-            Sought::Unknown
+            None
         }
     }
 
@@ -167,7 +140,7 @@ impl Recent {
         ensures entries { cached_entries self.new ≡ take 8 (member.now ∷ cached_entries self.old) }
     {
         let slot = self.order.bring_last();
-        self.members[slot as usize] = Entry::of(member);
+        self.members.put(slot, member);
         if self.used < MOST {
             self.used += 1;
         }

@@ -1,6 +1,4 @@
 use Rattle.std.proofs.Common.{sym, subst, ap, ◌∙◌, arith}
-use Rattle.reg_model.specs.SpanData.{contains}
-use Rattle.reg_model.specs.declared.span.Member.{Member}
 use Rattle.frame_cache.specs.RecentData.{IsRecent, RecentData}
 use Rattle.frame_cache.proofs.Seeking.{passed_one, seek_known, seek_unknown, used_is}
 use Rattle.frame_cache.proofs.recent.Recent.walk.Goals as goal
@@ -19,7 +17,7 @@ returns-then-holds c =
     let within = c.loop-place-test.true in
     let used = ap (λ (r : RecentData). r.used) c.self.view_is in
     let count = used_is c.args.self.now is in
-    seek_known c.args.pc c.args.self.now c.loop-place.place c.member-member.result (omega (arith, within, used, count)) c.loop-place.invariant (c.member-member.ensures ∙ c.get-entry.ensures) (ap (λ (m : Member). contains m.span c.args.pc) c.member-member.ensures ∙ (sym c.holds.ensures ∙ c.if-holds.true))
+    seek_known c.args.pc c.args.self.now c.loop-place.place c.get-entry.result (omega (arith, within, used, count)) c.loop-place.invariant c.get-entry.ensures (sym c.holds.ensures ∙ c.if-holds.true)
 
 pub loop-place-preserved : goal.loop-place-preserved
 loop-place-preserved c = passed_one c.args.pc c.args.self.now c.loop-place.place c.get-entry.result c.loop-place.invariant c.get-entry.ensures (sym c.holds.ensures ∙ c.if-holds.false)

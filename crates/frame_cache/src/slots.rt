@@ -1,0 +1,80 @@
+//! Members in eight slots.
+ghost use Rattle.std.specs.Prelude.{◌≡◌, ℕ, ◌<◌, length, set, false};
+ghost use Rattle.reg_model.specs.SpanData.{contains};
+ghost use Rattle.frame_cache.specs.Recent.{in_slot};
+
+use crate::entry::Entry;
+use reg_model::Member;
+use std::marker::Model;
+
+/// How many lower halves there are of addresses.
+pub(crate) const HALVES: u64 = 1 << 32;
+
+/// A member in each slot. Beside them stand the lower halves of their first addresses, and how far
+/// behind those the last ones are, at most the greatest such half: eight such numbers are compared
+/// by a few instructions.
+#[derive(Drop)]
+pub(crate) struct Slots {
+    lows: [u32; 8],
+    reaches: [u32; 8],
+    members: [Entry; 8],
+}
+
+impl Model for Slots {
+    ghost use Rattle.std.specs.Prelude.{List};
+    ghost use Rattle.reg_model.specs.declared.span.Member.{Member};
+    ghost use Rattle.frame_cache.specs.Slots.{AreMarked};
+
+    ghost Value = { List Member };
+
+    ghost view = { λ s. s.members };
+
+    ghost invariant = { λ s. AreMarked s.lows s.reaches s.members };
+}
+
+impl Slots {
+    /// Slots that were never used.
+    pub(crate) fn new() -> Slots
+        ensures { length result ≡ 8 }
+    {
+        Slots {
+            lows: [0; 8],
+            reaches: [0; 8],
+            members: [Entry::unused(); 8],
+        }
+    }
+
+    /// The member in a slot.
+    pub(crate) fn get(&self, slot: u8) -> Entry
+        requires { slot < 8 }
+        ensures { result ≡ in_slot self.now slot }
+    {
+        self.members[slot as usize]
+    }
+
+    /// Puts a member into a slot.
+    pub(crate) fn put(&mut self, slot: u8, member: &Member)
+        requires { slot < 8 }
+        ensures { self.new ≡ set self.old slot member.now }
+    {
+        let entry = Entry::of(member);
+        self.lows[slot as usize] = entry.low();
+        self.reaches[slot as usize] = entry.near();
+        self.members[slot as usize] = entry;
+    }
+
+    /// Whether a slot may have a member that contains the address. No branch depends on what stands
+    /// in a slot, and no load waits for another.
+    #[inline(always)]
+    pub(crate) fn may_hold(&self, pc: u64) -> bool
+        ensures { result ≡ false → (i : ℕ) → i < 8
+            → contains (in_slot self.now i).span pc ≡ false }
+    {
+        let low = (pc % HALVES) as u32;
+        let mut near = false;
+        for slot in 0..8 {
+            near |= low.wrapping_sub(self.lows[slot]) <= self.reaches[slot];
+        }
+        near
+    }
+}
