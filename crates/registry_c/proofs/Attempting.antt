@@ -1,5 +1,5 @@
 -- Tries of a client that may add a member: the answers of four variants.
-use Rattle.std.proofs.Common.{◌≡◌, ◌∙◌, ◌<◌, ◌+◌, ◌≤◌, ℕ, Bool, List, [], true, false, true≢false, refl, ap, subst, arith}
+use Rattle.std.proofs.Common.{◌≡◌, ◌∙◌, ◌<◌, ◌≤◌, ℕ, Bool, List, [], true, false, true≢false, refl, ap, subst, arith}
 use Rattle.btree_change.specs.Insertion.{TriesInsertion}
 use Rattle.reg_model.specs.declared.answer.Inserted.{Inserted}
 use Rattle.reg_model.specs.declared.answer.Inserted.TheVariants as inserted
@@ -12,8 +12,7 @@ use Rattle.btree_change.specs.Updates.{GivesUp}
 use Rattle.node_store.specs.declared.locking.Busy.{Busy}
 use Rattle.node_store.specs.declared.locking.Busy.TheVariants as busy
 use Rattle.word_rule.specs.Callers.{IsIdle}
-use Rattle.reg_model.specs.declared.answer.Half.TheVariants.{Loaded, Registered}
-use Rattle.registry_c.proofs.Caches.{GoOnToFit, adds_none, still_fits}
+use Rattle.registry_c.proofs.Caches.{GoOnToFit, adds_none, goes_on}
 use Rattle.registry_c.specs.Clients.{ClientData, IsClient, begun_count}
 use Rattle.registry_c.specs.Members.{given_member}
 use Rattle.registry_c.specs.Tries.{Begins, TriesCall, is_lost}
@@ -91,12 +90,6 @@ count_most true = omega arith
 count_most false = omega arith
 
 pub gave_up : GoOnToFit → (mid : ClientData) (why : Busy) (k : CallerData) → IsClient mid → GivesUp why mid.me k → 0 < due k → IsClient (record mid { me = k; lost = is_lost why })
-gave_up law mid why k is g begun = record {
-  home = g.table ∙ is.home;
-  held = g.nothing.0;
-  loader = g.loader ∙ is.loader;
-  out = none_out why k.log.holdings.out g.nothing.1;
-  owed = let one = count_most mid.begun in omega (arith, begun, one);
-  registered = still_fits law Registered mid.registered mid.me k (adds_none mid.me k (ap (λ r. r.own) g.receipts)) is.registered;
-  loaded = still_fits law Loaded mid.loaded mid.me k (adds_none mid.me k (ap (λ r. r.own) g.receipts)) is.loaded;
-}
+gave_up law mid why k is g begun =
+    let one = count_most mid.begun in
+    goes_on law mid k mid.begun (is_lost why) (adds_none mid.me k (ap (λ r. r.own) g.receipts)) is (g.table ∙ is.home) g.nothing.0 (g.loader ∙ is.loader) (none_out why k.log.holdings.out g.nothing.1) (omega (arith, begun, one))

@@ -1,5 +1,5 @@
 -- A client's caches go on to fit it, since each call leaves its own receipts or adds some.
-use Rattle.std.proofs.Common.{◌≡◌, ◌++◌, ◌∙◌, ℕ, List, [], ◌∷◌, Option, Some, None, Result, Ok, Err, ap, sym, append_assoc, append-nil}
+use Rattle.std.proofs.Common.{◌≡◌, ◌+◌, ◌≤◌, ◌++◌, ◌∙◌, ℕ, Bool, false, List, [], Option, Some, None, Result, Ok, Err, ap, sym, append_assoc, append-nil}
 use Rattle.array_publish.specs.Lookup.{LooksUp}
 use Rattle.array_publish.specs.Update.{TellsLoad, TellsUnload}
 use Rattle.btree_change.specs.Insertion.{TriesInsertion}
@@ -22,7 +22,7 @@ use Rattle.reg_model.specs.declared.answer.Removed.{Removed}
 use Rattle.reg_model.specs.declared.answer.Removed.TheVariants as removed
 use Rattle.reg_model.specs.declared.span.Member.{Member}
 use Rattle.registry_core.specs.Begun.{TriesLoad, TriesUnload}
-use Rattle.registry_c.specs.Clients.{IsCacheOf}
+use Rattle.registry_c.specs.Clients.{ClientData, IsCacheOf, IsClient, begun_count}
 use Rattle.word_rule.specs.CallerData.{CallerData}
 use Rattle.word_rule.specs.Places.{lower}
 use Rattle.word_rule.specs.declared.log.Log.{Log}
@@ -113,3 +113,15 @@ GoOnToFit = (c : CacheData) (v w : Log) (more : List Receipt) → w.receipts.own
 
 pub still_fits : GoOnToFit → (half : Half) (c : CacheData) (k k' : CallerData) → AddsReceipts k k' → IsCacheOf half c k.log → IsCacheOf half c k'.log
 still_fits law half c k k' adds is = (is.0, law c k.log k'.log adds.0 adds.1 is.1)
+
+-- a client after a step of its caller that adds receipts: what is left to show is of the caller alone
+pub goes_on : GoOnToFit → (c : ClientData) (k : CallerData) (begun lost : Bool) → AddsReceipts c.me k → IsClient c → k.table ≡ c.words.table → k.log.holdings.held ≡ [] → k.log.loader ≡ None → (lost ≡ false → k.log.holdings.out ≡ []) → k.left + begun_count begun ≤ k.log.budget.allowance → IsClient (record c { me = k; begun = begun; lost = lost })
+goes_on law c k begun lost adds is home held loader out owed = record {
+  home = home;
+  held = held;
+  loader = loader;
+  out = out;
+  owed = owed;
+  registered = still_fits law Registered c.registered c.me k adds is.registered;
+  loaded = still_fits law Loaded c.loaded c.me k adds is.loaded;
+}

@@ -1,6 +1,5 @@
 use Rattle.std.proofs.Common.{rules, ap, subst, sym, ◌∙◌}
-use Rattle.reg_model.specs.declared.answer.Half.TheVariants.{Loaded, Registered}
-use Rattle.registry_c.proofs.Caches.{adds_none, by_load, still_fits}
+use Rattle.registry_c.proofs.Caches.{adds_none, by_load, goes_on}
 use Rattle.registry_core.specs.Begun.{TriesLoad}
 use Rattle.registry_c.proofs.Attempting.{loaded}
 use Rattle.registry_c.specs.Clients.{ClientData}
@@ -11,33 +10,13 @@ use Rattle.registry_c.proofs.client.Client.load.Goals as goal
 
 pub invariant_of-self : goal.invariant_of-self
 invariant_of-self c =
-    let adds = by_load c.deref.result.now.terms c.in-Some.member c.self-2.inside.me c.load_by.new.me c.in-Ok.loading c.in-Ok.ensures.answer in (
-      record {
-        home = search rules;
-        held = search rules;
-        loader = search rules;
-        out = search rules;
-        owed = search rules;
-        registered = still_fits c.caches_go_on_to_fit.ensures Registered c.self-2.inside.registered c.self-2.inside.me c.load_by.new.me adds c.self-2.invariant.0.registered;
-        loaded = still_fits c.caches_go_on_to_fit.ensures Loaded c.self-2.inside.loaded c.self-2.inside.me c.load_by.new.me adds c.self-2.invariant.0.loaded;
-      },
-      c.self-2.invariant.1,
-    )
+    let adds = by_load c.deref.result.now.terms c.in-Some.member c.self-2.inside.me c.load_by.new.me c.in-Ok.loading c.in-Ok.ensures.answer in
+    (goes_on c.caches_go_on_to_fit.ensures _ c.load_by.new.me _ _ adds c.self-2.invariant.0 (search rules) (search rules) (search rules) (search rules) (search rules), c.self-2.invariant.1)
 
 pub invariant_of-self-in-Err : goal.invariant_of-self-in-Err
 invariant_of-self-in-Err c =
-    let adds = adds_none c.self-2.inside.me c.load_by.new.me (ap (λ (k : CallerData). k.log.receipts.own) c.in-Err.ensures.busy.1.1.1.1) in (
-      record {
-        home = search rules;
-        held = search rules;
-        loader = search rules;
-        out = search rules;
-        owed = search rules;
-        registered = still_fits c.caches_go_on_to_fit.ensures Registered c.self-2.inside.registered c.self-2.inside.me c.load_by.new.me adds c.self-2.invariant.0.registered;
-        loaded = still_fits c.caches_go_on_to_fit.ensures Loaded c.self-2.inside.loaded c.self-2.inside.me c.load_by.new.me adds c.self-2.invariant.0.loaded;
-      },
-      c.self-2.invariant.1,
-    )
+    let adds = adds_none c.self-2.inside.me c.load_by.new.me (ap (λ (k : CallerData). k.log.receipts.own) c.in-Err.ensures.busy.1.1.1.1) in
+    (goes_on c.caches_go_on_to_fit.ensures _ c.load_by.new.me _ _ adds c.self-2.invariant.0 (search rules) (search rules) (search rules) (search rules) (search rules), c.self-2.invariant.1)
 
 pub returns-in-Ok : goal.returns-in-Ok
 returns-in-Ok c =

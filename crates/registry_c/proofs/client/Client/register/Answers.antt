@@ -1,6 +1,5 @@
 use Rattle.std.proofs.Common.{rules, ap, subst, sym, ◌∙◌}
-use Rattle.reg_model.specs.declared.answer.Half.TheVariants.{Loaded, Registered}
-use Rattle.registry_c.proofs.Caches.{by_insertion, still_fits}
+use Rattle.registry_c.proofs.Caches.{by_insertion, goes_on}
 use Rattle.btree_change.specs.Insertion.{TriesInsertion}
 use Rattle.registry_c.proofs.Attempting.{gave_up, registered}
 use Rattle.registry_c.specs.Clients.{ClientData}
@@ -11,18 +10,8 @@ use Rattle.registry_c.proofs.client.Client.register.Goals as goal
 
 pub invariant_of-self : goal.invariant_of-self
 invariant_of-self c =
-    let adds = by_insertion _ _ c.self-2.inside.me c.register_by.new.me c.in-Ok.inserted c.in-Ok.ensures.answer in (
-      record {
-        home = search rules;
-        held = search rules;
-        loader = search rules;
-        out = λ kept. c.in-Ok.ensures.idle.out;
-        owed = search rules;
-        registered = still_fits c.caches_go_on_to_fit.ensures Registered c.self-2.inside.registered c.self-2.inside.me c.register_by.new.me adds c.self-2.invariant.0.registered;
-        loaded = still_fits c.caches_go_on_to_fit.ensures Loaded c.self-2.inside.loaded c.self-2.inside.me c.register_by.new.me adds c.self-2.invariant.0.loaded;
-      },
-      c.self-2.invariant.1,
-    )
+    let adds = by_insertion _ _ c.self-2.inside.me c.register_by.new.me c.in-Ok.inserted c.in-Ok.ensures.answer in
+    (goes_on c.caches_go_on_to_fit.ensures _ c.register_by.new.me _ _ adds c.self-2.invariant.0 (search rules) (search rules) (search rules) (λ kept. c.in-Ok.ensures.idle.out) (search rules), c.self-2.invariant.1)
 
 pub invariant_of-self-in-Err : goal.invariant_of-self-in-Err
 invariant_of-self-in-Err c =
