@@ -5,7 +5,6 @@ pub mod Answered
 pub mod Pieces
 pub mod Numbers
 pub mod HexDigits
-pub mod EventNumbers
 pub mod Lines
 pub mod Joined
 pub mod Steps
@@ -23,6 +22,7 @@ pub mod LineLists
 pub mod Sound
 pub mod LinesRead
 pub mod LineCounts
+pub mod LineEnds
 pub mod Added
 pub mod SaidLines
 pub mod Standing

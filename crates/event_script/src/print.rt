@@ -2,5 +2,6 @@
 
 pub mod fault;
 pub mod journal;
+mod line;
 mod numbers;
 pub mod script;

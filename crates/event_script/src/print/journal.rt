@@ -1,18 +1,20 @@
 //! The text of a journal.
 
-ghost use Rattle.std.specs.Prelude.{◌≡◌, ◌<◌, [], ◌++◌, length, slice_index_or, IfOk, OnOk, All};
-ghost use Rattle.std.specs.Prelude.{codes, decimal};
+ghost use Rattle.std.specs.Prelude.{◌≡◌, ◌+◌, ◌<◌, ◌≤◌, [], ◌++◌, length, slice_index_or};
+ghost use Rattle.std.specs.Prelude.{IfOk, OnOk, All, codes, decimal};
 ghost use Rattle.std.specs.String.{string_bytes};
 ghost use Rattle.event_script.specs.Digits.{hex};
 ghost use Rattle.event_script.specs.Text.{IsPrintable, overlap_text, inserted_text, loading_text};
 ghost use Rattle.event_script.specs.Text.{removed_text, found_text, place_text, frame_text};
-ghost use Rattle.event_script.specs.Text.{end_text, end_line, trace_lines, answer_line};
-ghost use Rattle.event_script.specs.Text.{answer_lines, event_line, addresses_text};
+ghost use Rattle.event_script.specs.Text.{frame_line, end_text, end_line, trace_lines};
+ghost use Rattle.event_script.specs.Text.{answer_line, answer_lines, event_line, addresses_text};
+ghost use Rattle.event_script.specs.Text.{event_number};
 ghost use Rattle.event_script.specs.Text.{answer_text, numbered, thread_text, updates_text};
 ghost use Rattle.event_script.specs.Text.{journal_text};
 
 use crate::journal::{Answer, Journal};
-use crate::print::numbers::{put_decimal, put_decimal_after, put_event_number, put_hex_after};
+use crate::print::line::LineEnd;
+use crate::print::numbers::put_decimal_after;
 use reg_model::{Found, Inserted, Loading, Member, NoMemory, Place, Removed};
 use std::alloc::{AllocError, Global};
 use unwind_step::{End, FrameLine, Trace};
@@ -69,38 +71,93 @@ pub fn put_event_line(
         ++ event_line number.round number.thread number.event
         (slice_index_or (answer_lines answer.now) line [])) }
 {
-    put_event_number(text, number)?;
-    put_line(text, answer, line)?;
-    text.push_str("\n")?;
+    let mut end = LineEnd::new();
+    end.prepend("\n");
+    prepend_line(&mut end, answer, line);
+    prepend_number(&mut end, number);
+    text.push_str(end.as_str())?;
     Ok(())
 }
 
-/// Adds what a line of an event says after its number.
-fn put_line(text: &mut String, answer: &Answer, line: usize) -> Result<(), AllocError>
-    requires { line < length (answer_lines answer.now) }
-    ensures { OnOk result (string_bytes text.new
-        ≡ string_bytes text.old ++ slice_index_or (answer_lines answer.now) line []) }
+/// Puts an event's number and a space before a line's end.
+fn prepend_number(end: &mut LineEnd, number: EventNumber)
+    requires { 63 + length end.old ≤ 272 }
+    ensures { end.new ≡ (event_number number.round number.thread number.event ++ codes " ")
+        ++ end.old }
+{
+    end.prepend(" ");
+    end.prepend_decimal(number.event);
+    end.prepend(".");
+    end.prepend_decimal(number.thread);
+    end.prepend(".");
+    end.prepend_decimal(number.round);
+}
+
+/// Puts what a line of an event says after its number before a line's end.
+fn prepend_line(end: &mut LineEnd, answer: &Answer, line: usize)
+    requires line { line < length (answer_lines answer.now) }
+    requires room { 196 + length end.old ≤ 272 }
+    ensures text { end.new ≡ slice_index_or (answer_lines answer.now) line [] ++ end.old }
+    ensures short { length end.new ≤ 196 + length end.old }
 {
     if line == 0 {
-        return put_answer(text, answer);
+        return prepend_answer(end, answer);
     }
     match answer {
-        Answer::Unwind { trace, .. } => put_trace_line(text, trace, line - 1),
-        _ => Ok(()),
+        Answer::Unwind { trace, .. } => prepend_trace_line(end, trace, line - 1),
+        _ => {}
     }
 }
 
-/// Adds a line of a backtrace, after the first one.
-fn put_trace_line(text: &mut String, trace: &Trace, line: usize) -> Result<(), AllocError>
-    requires { line < length (trace_lines trace.now) }
-    ensures { OnOk result (string_bytes text.new
-        ≡ string_bytes text.old ++ slice_index_or (trace_lines trace.now) line []) }
+/// Puts a line of a backtrace, after the first one, before a line's end.
+fn prepend_trace_line(end: &mut LineEnd, trace: &Trace, line: usize)
+    requires line { line < length (trace_lines trace.now) }
+    requires room { 196 + length end.old ≤ 272 }
+    ensures text { end.new ≡ slice_index_or (trace_lines trace.now) line [] ++ end.old }
+    ensures short { length end.new ≤ 196 + length end.old }
 {
     if line < trace.frames.len() {
-        put_frame(text, "frame", line, &trace.frames[line])
+        prepend_frame(end, line, &trace.frames[line])
     } else {
-        put_end_line(text, trace.end)
+        prepend_end_line(end, trace.end)
     }
+}
+
+/// Puts what is told of a frame of a backtrace before a line's end.
+fn prepend_frame(end: &mut LineEnd, number: usize, line: &FrameLine)
+    requires { 196 + length end.old ≤ 272 }
+    ensures text { end.new ≡ frame_line number line.now ++ end.old }
+    ensures short { length end.new ≤ 196 + length end.old }
+{
+    prepend_frame_rest(end, number, line);
+    end.prepend("frame ");
+}
+
+/// Puts the number of a frame, its addresses, and where it was found before a line's end.
+fn prepend_frame_rest(end: &mut LineEnd, number: usize, line: &FrameLine)
+    requires { 190 + length end.old ≤ 272 }
+    ensures text { end.new
+        ≡ (decimal number ++ addresses_text line.now ++ place_text line.now.place) ++ end.old }
+    ensures short { length end.new ≤ 190 + length end.old }
+{
+    prepend_place(end, &line.place);
+    prepend_addresses(end, line);
+    end.prepend_decimal(number);
+}
+
+/// Puts the addresses of a frame, with a space before and behind, before a line's end.
+fn prepend_addresses(end: &mut LineEnd, line: &FrameLine)
+    requires { 63 + length end.old ≤ 272 }
+    ensures text { end.new ≡ addresses_text line.now ++ end.old }
+    ensures short { length end.new ≤ 63 + length end.old }
+{
+    end.prepend(" ");
+    end.prepend_hex(line.look);
+    end.prepend(" look ");
+    end.prepend_hex(line.sp);
+    end.prepend(" sp ");
+    end.prepend_hex(line.pc);
+    end.prepend(" pc ");
 }
 
 /// Adds what is told of a frame under a word: its number, its addresses, and where it was found.
@@ -113,192 +170,190 @@ pub fn put_frame(
     ensures { OnOk result (string_bytes text.new
         ≡ string_bytes text.old ++ frame_text word.now number line.now) }
 {
-    put_frame_start(text, word, number, line)?;
-    put_place(text, &line.place)
-}
-
-/// Adds the word, the number and the addresses of a frame, and a space.
-fn put_frame_start(
-    text: &mut String,
-    word: &str,
-    number: usize,
-    line: &FrameLine,
-) -> Result<(), AllocError>
-    ensures { OnOk result (string_bytes text.new ≡ string_bytes text.old
-        ++ (word.now ++ codes " " ++ decimal number ++ addresses_text line.now)) }
-{
-    put_word(text, word, number)?;
-    put_addresses(text, line)
-}
-
-/// Adds a word and a number.
-fn put_word(text: &mut String, word: &str, number: usize) -> Result<(), AllocError>
-    ensures { OnOk result (string_bytes text.new
-        ≡ string_bytes text.old ++ (word.now ++ codes " " ++ decimal number)) }
-{
+    let mut end = LineEnd::new();
+    prepend_frame_rest(&mut end, number, line);
+    end.prepend(" ");
     text.push_str(word)?;
-    put_decimal_after(text, " ", number)
+    text.push_str(end.as_str())
 }
 
-/// Adds the addresses of a frame, with a space before and behind.
-fn put_addresses(text: &mut String, line: &FrameLine) -> Result<(), AllocError>
-    ensures { OnOk result (string_bytes text.new
-        ≡ string_bytes text.old ++ addresses_text line.now) }
+/// Puts the line that says why there are no more frames before a line's end.
+fn prepend_end_line(end: &mut LineEnd, why: End)
+    requires { 28 + length end.old ≤ 272 }
+    ensures text { end.new ≡ end_line why ++ end.old }
+    ensures short { length end.new ≤ 28 + length end.old }
 {
-    put_hex_after(text, " pc ", line.pc)?;
-    put_hex_after(text, " sp ", line.sp)?;
-    put_hex_after(text, " look ", line.look)?;
-    text.push_str(" ")
+    prepend_end(end, why);
+    end.prepend("end ");
 }
 
-/// Adds the line that says why there are no more frames.
-fn put_end_line(text: &mut String, end: End) -> Result<(), AllocError>
-    ensures { OnOk result (string_bytes text.new ≡ string_bytes text.old ++ end_line end) }
+/// Puts the word for why there are no more frames before a line's end.
+fn prepend_end(end: &mut LineEnd, why: End)
+    requires { 24 + length end.old ≤ 272 }
+    ensures text { end.new ≡ end_text why ++ end.old }
+    ensures short { length end.new ≤ 24 + length end.old }
 {
-    text.push_str("end ")?;
-    put_end(text, end)
+    match why {
+        End::NoObject => end.prepend("noobject"),
+        End::NoFde => end.prepend("nofde"),
+        End::NoRow => end.prepend("norow"),
+        End::Undefined => end.prepend("undefined"),
+        End::NoBytes { address } => prepend_address(end, "nobytes ", address),
+        End::Long => end.prepend("long"),
+    }
 }
 
 /// Adds the word for why there are no more frames.
 pub fn put_end(text: &mut String, end: End) -> Result<(), AllocError>
     ensures { OnOk result (string_bytes text.new ≡ string_bytes text.old ++ end_text end) }
 {
-    match end {
-        End::NoObject => text.push_str("noobject"),
-        End::NoFde => text.push_str("nofde"),
-        End::NoRow => text.push_str("norow"),
-        End::Undefined => text.push_str("undefined"),
-        End::NoBytes { address } => put_hex_after(text, "nobytes ", address),
-        End::Long => text.push_str("long"),
-    }
+    let mut line = LineEnd::new();
+    prepend_end(&mut line, end);
+    text.push_str(line.as_str())
 }
 
-/// Adds what the first line of an event says after its number.
-fn put_answer(text: &mut String, answer: &Answer) -> Result<(), AllocError>
-    ensures { OnOk result (string_bytes text.new
-        ≡ string_bytes text.old ++ answer_line answer.now) }
+/// Puts a word and an address before a line's end.
+#[inline(always)]
+fn prepend_address(end: &mut LineEnd, word: &str, address: u64)
+    requires { length word.now + 16 + length end.old ≤ 272 }
+    ensures text { end.new ≡ (word.now ++ hex address) ++ end.old }
+    ensures short { length end.new ≤ length word.now + 16 + length end.old }
+{
+    end.prepend_hex(address);
+    end.prepend(word);
+}
+
+/// Puts a word and a number before a line's end.
+#[inline(always)]
+fn prepend_number_after(end: &mut LineEnd, word: &str, number: u32)
+    requires { length word.now + 20 + length end.old ≤ 272 }
+    ensures text { end.new ≡ (word.now ++ decimal number) ++ end.old }
+    ensures short { length end.new ≤ length word.now + 20 + length end.old }
+{
+    end.prepend_decimal(number as usize);
+    end.prepend(word);
+}
+
+/// Puts what the first line of an event says after its number before a line's end.
+fn prepend_answer(end: &mut LineEnd, answer: &Answer)
+    requires { 130 + length end.old ≤ 272 }
+    ensures text { end.new ≡ answer_line answer.now ++ end.old }
+    ensures short { length end.new ≤ 130 + length end.old }
 {
     match answer {
         Answer::Register { image, answer } => {
-            put_image(text, "register ", *image)?;
-            put_inserted(text, answer)
+            prepend_inserted(end, answer);
+            end.prepend(" ");
+            prepend_number_after(end, "register ", *image);
         }
         Answer::Deregister { base, answer } => {
-            put_address(text, "deregister ", *base)?;
-            put_removed(text, answer)
+            prepend_removed(end, answer);
+            end.prepend(" ");
+            prepend_address(end, "deregister ", *base);
         }
         Answer::Load { image, answer } => {
-            put_image(text, "load ", *image)?;
-            put_loading(text, answer)
+            prepend_loading(end, answer);
+            end.prepend(" ");
+            prepend_number_after(end, "load ", *image);
         }
         Answer::Unload { base, answer } => {
-            put_address(text, "unload ", *base)?;
-            put_removed(text, answer)
+            prepend_removed(end, answer);
+            end.prepend(" ");
+            prepend_address(end, "unload ", *base);
         }
         Answer::Find { pc, place } => {
-            put_address(text, "find ", *pc)?;
-            put_place(text, place)
+            prepend_place(end, place);
+            end.prepend(" ");
+            prepend_address(end, "find ", *pc);
         }
-        Answer::Unwind { snapshot, .. } => {
-            put_decimal_after(text, "unwind ", *snapshot as usize)
-        }
+        Answer::Unwind { snapshot, .. } => prepend_number_after(end, "unwind ", *snapshot),
     }
 }
 
-/// Adds an event's word and its image, and a space.
-fn put_image(text: &mut String, word: &str, image: u32) -> Result<(), AllocError>
-    ensures { OnOk result (string_bytes text.new
-        ≡ string_bytes text.old ++ (word.now ++ decimal image ++ codes " ")) }
-{
-    put_decimal_after(text, word, image as usize)?;
-    text.push_str(" ")
-}
-
-/// Adds an event's word and its address, and a space.
-fn put_address(text: &mut String, word: &str, address: u64) -> Result<(), AllocError>
-    ensures { OnOk result (string_bytes text.new
-        ≡ string_bytes text.old ++ (word.now ++ hex address ++ codes " ")) }
-{
-    put_hex_after(text, word, address)?;
-    text.push_str(" ")
-}
-
-/// Adds the answer to a registration.
-fn put_inserted(text: &mut String, answer: &Inserted) -> Result<(), AllocError>
-    ensures { OnOk result (string_bytes text.new
-        ≡ string_bytes text.old ++ inserted_text answer.now) }
+/// Puts the answer to a registration before a line's end.
+fn prepend_inserted(end: &mut LineEnd, answer: &Inserted)
+    requires { 69 + length end.old ≤ 272 }
+    ensures text { end.new ≡ inserted_text answer.now ++ end.old }
+    ensures short { length end.new ≤ 69 + length end.old }
 {
     match answer {
-        Inserted::Done { number } => put_decimal_after(text, "done ", *number as usize),
-        Inserted::Overlap { member, stamp } => put_overlap(text, member, *stamp),
-        Inserted::Full { stamp } => put_decimal_after(text, "full at ", *stamp as usize),
-        Inserted::Spent => Ok(()),
+        Inserted::Done { number } => prepend_number_after(end, "done ", *number),
+        Inserted::Overlap { member, stamp } => prepend_overlap(end, member, *stamp),
+        Inserted::Full { stamp } => prepend_number_after(end, "full at ", *stamp),
+        Inserted::Spent => {}
     }
 }
 
-/// Adds the answer to a load.
-fn put_loading(text: &mut String, answer: &Loading) -> Result<(), AllocError>
-    ensures { OnOk result (string_bytes text.new
-        ≡ string_bytes text.old ++ loading_text answer.now) }
+/// Puts the answer to a load before a line's end.
+fn prepend_loading(end: &mut LineEnd, answer: &Loading)
+    requires { 69 + length end.old ≤ 272 }
+    ensures text { end.new ≡ loading_text answer.now ++ end.old }
+    ensures short { length end.new ≤ 69 + length end.old }
 {
     match answer {
-        Loading::Done { number } => put_decimal_after(text, "done ", *number as usize),
-        Loading::Overlap { member, stamp } => put_overlap(text, member, *stamp),
-        Loading::LoadFull { stamp } => put_decimal_after(text, "full at ", *stamp as usize),
-        Loading::Spent => Ok(()),
+        Loading::Done { number } => prepend_number_after(end, "done ", *number),
+        Loading::Overlap { member, stamp } => prepend_overlap(end, member, *stamp),
+        Loading::LoadFull { stamp } => prepend_number_after(end, "full at ", *stamp),
+        Loading::Spent => {}
     }
 }
 
-/// Adds which member overlaps, and the stamp.
-fn put_overlap(text: &mut String, member: &Member, stamp: u32) -> Result<(), AllocError>
-    ensures { OnOk result (string_bytes text.new
-        ≡ string_bytes text.old ++ overlap_text member.now stamp) }
+/// Puts which member overlaps, and the stamp, before a line's end.
+fn prepend_overlap(end: &mut LineEnd, member: &Member, stamp: u32)
+    requires { 69 + length end.old ≤ 272 }
+    ensures text { end.new ≡ overlap_text member.now stamp ++ end.old }
+    ensures short { length end.new ≤ 69 + length end.old }
 {
-    put_hex_after(text, "overlap ", member.span.first())?;
-    put_decimal_after(text, " ", member.payload as usize)?;
-    put_decimal_after(text, " at ", stamp as usize)
+    prepend_number_after(end, " at ", stamp);
+    prepend_number_after(end, " ", member.payload);
+    prepend_address(end, "overlap ", member.span.first());
 }
 
-/// Adds the answer to a removal.
-fn put_removed(text: &mut String, answer: &Removed) -> Result<(), AllocError>
-    ensures { OnOk result (string_bytes text.new
-        ≡ string_bytes text.old ++ removed_text answer.now) }
+/// Puts the answer to a removal before a line's end.
+fn prepend_removed(end: &mut LineEnd, answer: &Removed)
+    requires { 52 + length end.old ≤ 272 }
+    ensures text { end.new ≡ removed_text answer.now ++ end.old }
+    ensures short { length end.new ≤ 52 + length end.old }
 {
     match answer {
         Removed::Done { number, member } => {
-            put_decimal_after(text, "done ", *number as usize)?;
-            put_decimal_after(text, " image ", member.payload as usize)
+            prepend_number_after(end, " image ", member.payload);
+            prepend_number_after(end, "done ", *number);
         }
-        Removed::NotFound { stamp } => put_decimal_after(text, "absent at ", *stamp as usize),
-        Removed::Spent => Ok(()),
+        Removed::NotFound { stamp } => prepend_number_after(end, "absent at ", *stamp),
+        Removed::Spent => {}
     }
 }
 
-/// Adds where an address was found.
-fn put_place(text: &mut String, place: &Place) -> Result<(), AllocError>
-    ensures { OnOk result (string_bytes text.new ≡ string_bytes text.old ++ place_text place.now) }
+/// Puts where an address was found before a line's end.
+fn prepend_place(end: &mut LineEnd, place: &Place)
+    requires { 107 + length end.old ≤ 272 }
+    ensures text { end.new ≡ place_text place.now ++ end.old }
+    ensures short { length end.new ≤ 107 + length end.old }
 {
-    text.push_str("registered ")?;
-    put_found(text, &place.registered)?;
     match &place.loaded {
-        None => Ok(()),
+        None => {}
         Some(loaded) => {
-            text.push_str(" loaded ")?;
-            put_found(text, loaded)
+            prepend_found(end, loaded);
+            end.prepend(" loaded ");
         }
     }
+    prepend_found(end, &place.registered);
+    end.prepend("registered ");
 }
 
-/// Adds an image, or none, and the stamp.
-fn put_found(text: &mut String, found: &Found) -> Result<(), AllocError>
-    ensures { OnOk result (string_bytes text.new ≡ string_bytes text.old ++ found_text found.now) }
+/// Puts an image, or none, and the stamp before a line's end.
+fn prepend_found(end: &mut LineEnd, found: &Found)
+    requires { 44 + length end.old ≤ 272 }
+    ensures text { end.new ≡ found_text found.now ++ end.old }
+    ensures short { length end.new ≤ 44 + length end.old }
 {
     match found {
         Found::Hit { member, stamp } => {
-            put_decimal(text, member.payload as usize)?;
-            put_decimal_after(text, " at ", *stamp as usize)
+            prepend_number_after(end, " at ", *stamp);
+            end.prepend_decimal(member.payload as usize);
         }
-        Found::Miss { stamp } => put_decimal_after(text, "none at ", *stamp as usize),
+        Found::Miss { stamp } => prepend_number_after(end, "none at ", *stamp),
     }
 }
 

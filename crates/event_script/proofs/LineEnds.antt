@@ -1,0 +1,23 @@
+-- A line that is written from its end to its front.
+use Rattle.std.proofs.Common.{◌≡◌, ℕ, ◌+◌, ◌-◌, ◌≤◌, List, ◌++◌, length, take, drop, sym, ap, ◌∙◌, append_assoc, length-append, length-drop, arith}
+use Rattle.std.proofs.lemmas.List.{drop_at, drop-drop, length-take-le}
+
+-- a word was put before what stands behind the start
+module _ (start : ℕ) (room word put : List ℕ) (is : put ≡ word) (fits : length word ≤ start) (within : start ≤ length room) where
+  pub word_before : drop (start - length word) (take (start - length word) room ++ (put ++ drop (start - (start - length word)) (drop (start - length word) room))) ≡ word ++ drop start room
+  word_before =
+      let at : start - length word + (start - (start - length word)) ≡ start = omega arith in
+      drop_at (take (start - length word) room) _ (start - length word) (length-take-le (start - length word) room (omega arith))
+      ∙ ap (λ (x : List ℕ). x ++ drop (start - (start - length word)) (drop (start - length word) room)) is
+      ∙ ap (λ (x : List ℕ). word ++ x) (drop-drop (start - (start - length word)) (start - length word) room ∙ ap (λ (i : ℕ). drop i room) at)
+
+  pub size_kept : length (take (start - length word) room ++ (put ++ drop (start - (start - length word)) (drop (start - length word) room))) ≡ length room
+  size_kept =
+      let rest = drop (start - (start - length word)) (drop (start - length word) room) in
+      omega (arith, length-append (take (start - length word) room) (put ++ rest), length-append put rest, ap length is, length-take-le (start - length word) room (omega arith), length-drop (start - (start - length word)) (drop (start - length word) room), length-drop (start - length word) room)
+
+-- three parts, the last one first
+pub three_before : (a b c old one two three : List ℕ) → one ≡ c ++ old → two ≡ b ++ one → three ≡ a ++ two → three ≡ ((a ++ b) ++ c) ++ old
+three_before a b c old one two three last middle first =
+    first ∙ ap (λ (x : List ℕ). a ++ x) (middle ∙ ap (λ (x : List ℕ). b ++ x) last)
+    ∙ sym (append_assoc a b (c ++ old)) ∙ sym (append_assoc (a ++ b) c old)
