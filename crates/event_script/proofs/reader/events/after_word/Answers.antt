@@ -1,6 +1,23 @@
-use Rattle.std.proofs.Common.{◌++◌, ℕ, List, ap, sym, ◌∙◌}
-use Rattle.std.proofs.lemmas.Slice.Eq.{bytes_eq-Decides}
+use Rattle.std.proofs.Common.{ℕ, List, [], ◌∷◌, ◌++◌, take, get_or, ap, sym, ◌∙◌, take_all, arith}
+use Rattle.std.proofs.lemmas.List.{take_more}
 use Rattle.event_script.proofs.reader.events.after_word.Goals as goal
 
-pub returns-then-eq : goal.returns-then-eq
-returns-then-eq c = c.split_at.ensures.by_index.0 ∙ ap (λ (front : List ℕ). front ++ c.split_at.result.1.now) ((bytes_eq-Decides c.split_at.result.0.now c.args.word.now).0 (sym c.if-eq.ensures))
+pub loop-index-preserved : goal.loop-index-preserved
+loop-index-preserved c =
+    let i = c.loop-index.index in
+    let first = c.split_at.result.0.now in
+    let word = c.args.word.now in
+    take_more first i 0 (omega (arith, c.split_at.ensures.front_len, c.loop-index-test.true))
+    ∙ ap (λ (x : List ℕ). x ++ get_or first i 0 ∷ []) c.loop-index.invariant
+    ∙ ap (λ (b : ℕ). take i word ++ b ∷ []) c.if-first-index.false
+    ∙ sym (take_more word i 0 c.loop-index-test.true)
+
+pub returns : goal.returns
+returns c =
+    let i = c.loop-index.index in
+    let first = c.split_at.result.0.now in
+    let word = c.args.word.now in
+    c.split_at.ensures.by_index.0
+    ∙ ap (λ (front : List ℕ). front ++ c.split_at.result.1.now)
+    (sym (take_all i first (omega (arith, c.split_at.ensures.front_len, c.loop-index-test.false, c.loop-index.auto.index-end)))
+    ∙ c.loop-index.invariant ∙ take_all i word (omega (arith, c.loop-index-test.false)))
