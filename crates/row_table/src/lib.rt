@@ -2,7 +2,7 @@
 //! does. Above `frame_rows`, which goes through the instructions of an FDE for each row, this crate
 //! goes through all of them once, and keeps of each row where it begins and its number among those
 //! that differ, of which there are few. A lookup then finds the FDE as its section does, and the
-//! row by halves among the FDE's own. What a table has is stated in `specs/Tables`.
+//! row by quarters among the FDE's own. What a table has is stated in `specs/Tables`.
 #![tactic(auto)]
 
 mod cie_rows;
