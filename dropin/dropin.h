@@ -15,30 +15,41 @@ struct dwarf_eh_bases {
   void *tbase, *dbase, *func;
 };
 
+/* A record of .eh_frame as it stands in a section, up to the one with a length of 0. `back` tells
+ * how far an FDE's CIE stands before it, and is 0 in a CIE. Then an FDE has its addresses, mostly
+ * in this form, in which the first counts from its own place on. */
+#define UNALIGNED __attribute__((packed, may_alias))
+struct record {
+  uint32_t length;
+  int32_t back;
+  int32_t first;
+  uint32_t size;
+} UNALIGNED;
+static inline const struct record *after(const struct record *at) {
+  return (const void *)((const uint8_t *)&at->back + at->length);
+}
+
 /* An FDE: where it stands and which addresses it has, none where `size` is 0. In a sorted list
  * `reach` is the address after all that it and those before it have. */
 struct fde {
-  const uint8_t *at;
+  const struct record *at;
   uint64_t first, size, reach;
 };
 
 /* What a program registers: the first record of a section, or an array of such pointers that ends
  * with a null one; the program's own pointer, which it gets back; to what an encoding may be
- * relative. The rest is told by read_fdes: bytes up to the end, addresses from `lowest` to the one
- * before `highest`, and how far the first FDE stands from its code, modulo 2^64. */
+ * relative. */
 struct section {
   const void *begin;
   bool is_array;
   void *ob, *text, *data;
-  size_t length, count;
-  uint64_t lowest, highest, distance;
 };
 
 /* What was taken out of a list, and ends when no lookup can be at it any more. */
 struct leaving {
   struct leaving *next;
   uint64_t since;
-  void (*end)(struct leaving *me);
+  void (*end)(void *me);
 };
 
 /* locking: updates, one at a time, which no handler or fork comes between */
@@ -50,13 +61,14 @@ void say(const char *what, const void *where);
 enum { SLOTS = 128, LINE = 64 };
 unsigned lease(void);
 void give_back(unsigned slot);
-void leave(struct leaving *what);
+void leave(struct leaving *what, void (*end)(void *what));
 void end_what_left(void);
 void renew_slots(void);
 
 /* registered: what both lists find */
 extern _Atomic uint64_t takes; /* how many sections were begun to be taken out of a list */
 const void *find_registered(uint64_t pc, struct dwarf_eh_bases *bases);
+void widen_bounds(uint64_t lowest, uint64_t end);
 void register_section(struct section section);
 void *deregister_section(const void *begin);
 
@@ -66,16 +78,11 @@ bool take_section(const void *begin, void **ob);
 const void *find_in_libraries(unsigned slot, uint64_t pc, struct dwarf_eh_bases *bases);
 bool renew_readers(unsigned slot);
 
-/* keys: what stands in libraries, to be moved */
-void keep_key(uint64_t key);
-void forget_key(uint64_t key);
-uint64_t next_key(size_t *place);
-
 /* plain_reader: records as libgcc reads them */
 const uint8_t *read_pointer(uint8_t encoding, const uint8_t *at, const struct section *of,
                             uint64_t *value);
-bool next_record(const uint8_t **at, const struct section *of, struct fde *fde);
-void read_fdes(struct section *section, struct fde *into);
+bool next_record(const struct record **at, const struct section *of, struct fde *fde);
+size_t read_fdes(const struct section *section, struct fde *into);
 
 /* plain_sections: what the proved library refuses */
 bool put_plain(const struct section *section);

@@ -34,9 +34,8 @@ void give_back(unsigned slot) {
   atomic_store_explicit(&slots[slot].owner, 0, memory_order_release);
 }
 
-void leave(struct leaving *what) {
-  what->since = ++departures;
-  what->next = left;
+void leave(struct leaving *what, void (*end)(void *what)) {
+  *what = (struct leaving){left, ++departures, end};
   left = what;
 }
 

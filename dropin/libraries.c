@@ -7,7 +7,7 @@
 #include <string.h>
 
 enum { FEWEST_NODES = 64, MOST_NODES = 16384, TIMES = 8, MOST_LOADS = 1024, MOST_LIBRARIES = 14 };
-enum { PATIENCE = 64 };
+enum { PATIENCE = 64, KEYS = 256 }; /* so many keys are listed at once */
 /* A library's FDEs stand so far above its `low` from their code: NEAR is within 2 GB of it. */
 static const uint64_t WINDOW = UINT32_MAX, HALF = (uint64_t)1 << 31, NEAR = -((uint64_t)1 << 31);
 
@@ -17,12 +17,8 @@ struct library {
   struct leaving leaving;
   unwind_writer writer;
   unwind_limits limits;
-  size_t sections;
   uint32_t refuses; /* UNWIND_FULL or UNWIND_SPENT, from then until a section is taken out; or 0 */
-  struct {
-    unwind_reader reader;
-    uint8_t apart[LINE - sizeof(unwind_reader)];
-  } slots[SLOTS];
+  unwind_reader readers[SLOTS][LINE / sizeof(unwind_reader)]; /* a slot's is the first of a line */
 };
 static struct {
   alignas(LINE) _Atomic(struct library *) library;
@@ -32,33 +28,32 @@ static struct library *first_library(void) { return atomic_load(&first.library);
 static struct library *next_library(struct library *at) { return atomic_load(&at->next); }
 
 static bool make_reader(struct library *library, unsigned slot) {
-  unwind_reader *reader = &library->slots[slot].reader;
-  *reader = (unwind_reader){0};
-  return unwind_c_reader(library->writer, reader, &library->writer);
+  library->readers[slot][0] = (unwind_reader){0};
+  return unwind_c_reader(library->writer, library->readers[slot], &library->writer);
 }
 
-static void end_library(struct leaving *me) {
+static void end_library(void *me) {
   struct library *library = (void *)((uint8_t *)me - offsetof(struct library, leaving));
   for (unsigned slot = 0; slot < SLOTS; slot++)
-    if (library->slots[slot].reader.at) unwind_c_reader_drop(library->slots[slot].reader);
+    if (library->readers[slot][0].at) unwind_c_reader_drop(library->readers[slot][0]);
   unwind_c_drop(library->writer);
   give_memory(library);
 }
 
+/* Behind the others. NULL: there are too many, or there is no memory. */
 static struct library *add_library(uint32_t nodes, uint64_t low) {
-  const uint32_t loads = nodes < MOST_LOADS ? nodes : MOST_LOADS;
   _Atomic(struct library *) *last = &first.library;
   unsigned libraries = 0;
   for (; atomic_load(last) != NULL; last = &atomic_load(last)->next) libraries++;
   struct library *added = libraries < MOST_LIBRARIES ? take_memory(sizeof *added) : NULL;
   if (added == NULL) return NULL;
   memset(added, 0, sizeof *added);
-  added->limits = (unwind_limits){nodes, loads, low};
+  added->limits = (unwind_limits){nodes, nodes < MOST_LOADS ? nodes : MOST_LOADS, low};
   if (unwind_c_new(&added->limits, &added->writer) != UNWIND_NEW) {
     give_memory(added);
     return NULL;
   }
-  /* two that may share a line are of slots far from each other */
+  /* two whose blocks may share a line are of slots far from each other */
   for (unsigned count = 0; count < SLOTS; count++)
     if (!make_reader(added, count % 2 * (SLOTS / 2) + count / 2)) {
       end_library(&added->leaving);
@@ -68,73 +63,92 @@ static struct library *add_library(uint32_t nodes, uint64_t low) {
   return added;
 }
 
-static void drop_empty_ones(void) {
+static void drop_empty_ones(const struct library *but) {
   struct library *library;
   for (_Atomic(struct library *) *at = &first.library; (library = atomic_load(at)) != NULL;) {
-    if (library->sections == 0) {
-      atomic_store(at, atomic_load(&library->next));
-      library->leaving.end = end_library;
-      leave(&library->leaving);
-    } else {
+    uint64_t none[1];
+    if (library == but || unwind_c_keys(library->writer, none, 0, &library->writer) != 0) {
       at = &library->next;
+    } else {
+      atomic_store(at, atomic_load(&library->next));
+      leave(&library->leaving, end_library);
     }
   }
 }
 
 /* What `into` refuses stays where it is. */
 static void move_all(struct library *from, struct library *into) {
-  size_t place = 0;
-  for (uint64_t key; (key = next_key(&place)) != 0;) {
-    unwind_told told;
-    do {
+  uint64_t keys[KEYS];
+  unwind_told told;
+  for (bool moved = true; moved;) {
+    size_t count = unwind_c_keys(from->writer, keys, KEYS, &from->writer);
+    moved = false;
+    for (size_t i = 0; i < count && i < KEYS; i++) {
       atomic_fetch_add(&takes, 1);
-      unwind_c_move(from->writer, into->writer, key, &told, &from->writer, &into->writer);
-      from->sections -= told.kind == UNWIND_DONE;
-      into->sections += told.kind == UNWIND_DONE || told.kind == UNWIND_LEFT;
-    } while (told.kind == UNWIND_DONE);
+      unwind_c_move(from->writer, into->writer, keys[i], &told, &from->writer, &into->writer);
+      if (told.kind == UNWIND_DONE) moved = true;
+    }
   }
 }
 
-static uint32_t put_into(struct library *library, const struct section *section) {
-  unwind_told told;
-  if (library->refuses != 0) return library->refuses;
+/* How many bytes a section has, with the length of 0 at its end. */
+static size_t length_of(const struct record *begin) {
+  const struct record *at = begin;
+  while (at->length != 0) at = after(at);
+  return (size_t)((const uint8_t *)&at->back - (const uint8_t *)begin);
+}
+
+static unwind_told put_into(struct library *library, const struct section *section) {
+  unwind_told told = {.kind = library->refuses};
+  if (told.kind != 0) return told;
   const uint64_t key = (uintptr_t)section->begin;
   unwind_c_register(library->writer, key, (uintptr_t)section->ob, key, section->begin,
-                    section->length, &told, &library->writer);
+                    length_of(section->begin), &told, &library->writer);
   if (told.kind == UNWIND_FULL || told.kind == UNWIND_SPENT) library->refuses = told.kind;
-  if (told.kind == UNWIND_DONE) {
-    library->sections++;
-    keep_key(key);
-  }
-  return told.kind;
+  return told;
+}
+
+/* Whether a larger one might take what was refused, or one from which it is near. That its FDEs are
+ * at NEAR was but a guess; where they are far from the first of them, no library takes it. */
+static bool is_another_better(const struct library *library, uint32_t kind) {
+  if (library->refuses != 0) return library->limits.nodes < MOST_NODES;
+  return kind == UNWIND_FAR && library->limits.low == NEAR;
 }
 
 /* False: no library takes it, however large, and it is to be read plainly. */
 bool put_section(const struct section *section) {
-  for (unsigned round = 0; round < MOST_LIBRARIES; round++) {
+  for (struct library *added = NULL;;) {
     struct library *full = NULL;
-    uint64_t low = section->distance - NEAR < WINDOW ? NEAR : section->distance - HALF;
+    uint64_t low = NEAR;
     uint32_t nodes = FEWEST_NODES;
     for (struct library *at = first_library(); at != NULL; at = next_library(at)) {
-      if (section->distance - at->limits.low >= WINDOW) continue;
-      const uint32_t kind = put_into(at, section);
-      if (kind == UNWIND_DONE) return true;
-      if (kind == UNWIND_REFUSED || kind == UNWIND_FAR || kind == UNWIND_NO_MEMORY) return false;
-      if (at->sections == 0 && (!at->refuses || at->limits.nodes == MOST_NODES)) return false;
-      if (at->refuses == 0) continue;
-      full = at->sections != 0 ? at : NULL;
-      low = at->limits.low;
-      nodes = at->limits.nodes < MOST_NODES / TIMES ? at->limits.nodes * TIMES : MOST_NODES;
+      const unwind_told told = put_into(at, section);
+      if (told.kind == UNWIND_DONE) {
+        widen_bounds(told.lowest, told.end);
+        return true;
+      }
+      if (told.kind == UNWIND_REFUSED || told.kind == UNWIND_NO_MEMORY) return false;
+      if (at == added && !is_another_better(at, told.kind)) {
+        drop_empty_ones(NULL);
+        return false;
+      }
+      if (at->refuses != 0) {
+        full = at;
+        low = at->limits.low;
+        nodes = at->limits.nodes < MOST_NODES / TIMES ? at->limits.nodes * TIMES : MOST_NODES;
+      } else if (told.kind == UNWIND_FAR && full == NULL) {
+        const uint64_t distance = at->limits.low + told.distance;
+        low = distance - NEAR < WINDOW ? NEAR : distance - HALF;
+      }
     }
-    drop_empty_ones();
-    struct library *added = add_library(nodes, low);
+    drop_empty_ones(NULL);
+    added = add_library(nodes, low);
     if (added == NULL) return false;
     if (full != NULL && (full->limits.nodes < MOST_NODES || full->refuses == UNWIND_SPENT)) {
       move_all(full, added);
-      if (full->sections == 0) drop_empty_ones();
+      drop_empty_ones(added);
     }
   }
-  return false;
 }
 
 bool take_section(const void *begin, void **ob) {
@@ -143,9 +157,7 @@ bool take_section(const void *begin, void **ob) {
     atomic_fetch_add(&takes, 1);
     unwind_c_deregister(at->writer, (uintptr_t)begin, &told, &at->writer);
     if (told.kind != UNWIND_DONE) continue;
-    at->sections--;
     at->refuses = 0;
-    forget_key((uintptr_t)begin);
     *ob = (void *)(uintptr_t)told.note;
     return true;
   }
@@ -154,7 +166,7 @@ bool take_section(const void *begin, void **ob) {
 
 const void *find_in_libraries(unsigned slot, uint64_t pc, struct dwarf_eh_bases *bases) {
   for (struct library *at = first_library(); at != NULL; at = next_library(at)) {
-    unwind_reader *reader = &at->slots[slot].reader;
+    unwind_reader *reader = at->readers[slot];
     unwind_found found;
     for (unsigned tries = 0;; tries++) {
       unwind_c_find(*reader, pc, &found, reader);

@@ -18,42 +18,49 @@ struct header {
 static const uint8_t usual[4] = {1, 0x1b, 0x03, 0x3b};
 static const struct section no_bases;
 
-static const void *told(const struct fde *fde, struct dwarf_eh_bases *bases) {
-  *bases = (struct dwarf_eh_bases){NULL, NULL, (void *)fde->first};
-  return fde->at;
+/* Where the last search of an address ended in its table: a guess, from which the next one begins.
+ * Tables have nothing to do with each other, so what stands here may be wrong. */
+enum { GUESSES = 1024 };
+static _Atomic uint32_t guesses[GUESSES];
+
+/* The FDE of the last entry that begins at an address or before it; else that of the first one. */
+static const struct record *search_table(const struct header *header, uint64_t pc) {
+  const struct entry *table = header->table;
+  const int64_t wanted = (int64_t)(pc - (uintptr_t)header);
+  _Atomic uint32_t *guess = &guesses[pc % GUESSES];
+  uint32_t low = atomic_load_explicit(guess, memory_order_relaxed), high = header->count;
+  if (low >= high || table[low].first > wanted ||
+      (low + 1 < high && table[low + 1].first <= wanted)) {
+    for (low = 0; high - low > 1;) {
+      const uint32_t middle = low + (high - low) / 2;
+      if (wanted < table[middle].first) high = middle;
+      else low = middle;
+    }
+    atomic_store_explicit(guess, low, memory_order_relaxed);
+  }
+  return (const void *)((const uint8_t *)header + table[low].fde);
 }
 
-/* Where the table is missing, or has another form. */
-static const void *search_frames(uint64_t pc, const uint8_t *at, struct dwarf_eh_bases *bases) {
-  struct fde fde;
-  while (next_record(&at, &no_bases, &fde))
-    if (pc - fde.first < fde.size) return told(&fde, bases);
-  return NULL;
-}
-
+/* Goes along all records where there is no table, or one of another form. */
 const void *find_loaded(uint64_t pc, struct dwarf_eh_bases *bases) {
   struct dl_find_object object;
-  struct fde fde = {.size = 0};
-  uint64_t frames;
   if (_dl_find_object((void *)pc, &object) != 0) return NULL;
   const struct header *header = object.dlfo_eh_frame;
   if (header == NULL || header->form[0] != usual[0]) return NULL;
-  if (memcmp(header->form, usual, sizeof usual) != 0 || header->count == 0 ||
-      (uintptr_t)header % sizeof(int32_t) != 0) {
-    if (read_pointer(header->form[1], (const uint8_t *)&header->frames, &no_bases, &frames) == NULL)
-      return NULL;
-    return search_frames(pc, (const uint8_t *)frames, bases);
+  const bool has_table = memcmp(header->form, usual, sizeof usual) == 0 && header->count != 0 &&
+                         (uintptr_t)header % sizeof(int32_t) == 0;
+  const struct record *at;
+  uint64_t frames;
+  if (has_table) at = search_table(header, pc);
+  else if (read_pointer(header->form[1], (const uint8_t *)&header->frames, &no_bases, &frames))
+    at = (const void *)frames;
+  else return NULL;
+  for (struct fde fde; next_record(&at, &no_bases, &fde);) {
+    if (pc - fde.first < fde.size) {
+      *bases = (struct dwarf_eh_bases){NULL, NULL, (void *)fde.first};
+      return fde.at;
+    }
+    if (has_table) break;
   }
-  const int64_t wanted = (int64_t)(pc - (uintptr_t)header);
-  const struct entry *low = header->table, *high = low + header->count - 1;
-  if (wanted >= high->first) low = high;
-  while (low < high) {
-    const struct entry *middle = low + (high - low) / 2;
-    if (wanted < middle->first) high = middle;
-    else if (wanted >= middle[1].first) low = middle + 1;
-    else low = high = middle;
-  }
-  const uint8_t *at = (const uint8_t *)header + low->fde;
-  next_record(&at, &no_bases, &fde);
-  return pc - fde.first < fde.size ? told(&fde, bases) : NULL;
+  return NULL;
 }

@@ -14,12 +14,12 @@ struct head {
 };
 enum { HEAD = sizeof(size_t), UNIT = 16, PAGE = 4096, LARGE = PAGE, CHUNK = 16 * PAGE };
 static struct head *given_back[LARGE / UNIT];
-static uint8_t *chunk;
+static struct head *chunk;
 static size_t chunk_left;
 
-static void *map(size_t size) {
-  void *at = mmap(NULL, size, PROT_READ | PROT_WRITE, MAP_PRIVATE | MAP_ANONYMOUS, -1, 0);
-  return at == MAP_FAILED ? NULL : at;
+static struct head *map(size_t size) {
+  uint8_t *at = mmap(NULL, size, PROT_READ | PROT_WRITE, MAP_PRIVATE | MAP_ANONYMOUS, -1, 0);
+  return at == MAP_FAILED ? NULL : (struct head *)(at + UNIT - HEAD);
 }
 
 static struct head *take_small(size_t size) {
@@ -29,18 +29,13 @@ static struct head *take_small(size_t size) {
     return head;
   }
   if (chunk_left < size) {
-    uint8_t *more = map(CHUNK);
+    struct head *more = map(CHUNK);
     if (more == NULL) return NULL;
-    chunk = more + UNIT - HEAD;
+    chunk = more;
     chunk_left = CHUNK - UNIT;
   }
   chunk_left -= size;
-  return (struct head *)(chunk + chunk_left);
-}
-
-static struct head *take_large(size_t size) {
-  uint8_t *at = map(size);
-  return at != NULL ? (struct head *)(at + UNIT - HEAD) : NULL;
+  return (struct head *)((uint8_t *)chunk + chunk_left);
 }
 
 /* A block with a multiple of UNIT as its address; NULL where there is no memory. */
@@ -48,7 +43,7 @@ void *take_memory(size_t size) {
   if (size > PTRDIFF_MAX - 2 * PAGE) return NULL;
   size_t whole = (size + HEAD + UNIT - 1) / UNIT * UNIT;
   if (whole >= LARGE) whole = (size + UNIT + PAGE - 1) / PAGE * PAGE;
-  struct head *head = whole < LARGE ? take_small(whole) : take_large(whole);
+  struct head *head = whole < LARGE ? take_small(whole) : map(whole);
   if (head == NULL) return NULL;
   head->size = whole;
   return &head->next;
@@ -70,21 +65,17 @@ struct tried {
   bool ok;
   void *at;
 };
-struct tried rattle_alloc(size_t size, size_t alignment);
-struct tried rattle_realloc(void *block, size_t kept, size_t size, size_t alignment);
-void rattle_dealloc(void *block);
 
 struct tried rattle_alloc(size_t size, size_t alignment) {
-  static uint8_t nothing;
   (void)alignment;
   void *at = take_memory(size);
-  return at != NULL ? (struct tried){true, at} : (struct tried){false, &nothing};
+  return at != NULL ? (struct tried){true, at} : (struct tried){false, &chunk};
 }
 
 struct tried rattle_realloc(void *block, size_t kept, size_t size, size_t alignment) {
-  struct tried tried = {true, block};
-  if (size + UNIT <= ((struct head *)((uint8_t *)block - HEAD))->size) return tried;
-  tried = rattle_alloc(size, alignment);
+  if (size + UNIT <= ((struct head *)((uint8_t *)block - HEAD))->size)
+    return (struct tried){true, block};
+  const struct tried tried = rattle_alloc(size, alignment);
   if (tried.ok) {
     memcpy(tried.at, block, kept);
     give_memory(block);

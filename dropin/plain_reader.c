@@ -23,28 +23,23 @@ static const uint8_t *read_leb128(const uint8_t *at, bool is_signed, uint64_t *v
   return at;
 }
 
-#define READ(type)                          \
-  do {                                      \
-    type number;                            \
-    memcpy(&number, at, sizeof number);     \
-    *value = (uint64_t)(int64_t)number;     \
-    return at + sizeof number;              \
-  } while (0)
-
-static const uint8_t *skip_leb128(const uint8_t *at) {
-  while (*at++ & 0x80) continue;
-  return at;
-}
-
-/* The byte after a number; NULL where its format isn't known. Compilers write SDATA4. */
+/* The byte after a number; NULL where its format isn't known. */
 static const uint8_t *read_number(uint8_t encoding, const uint8_t *at, uint64_t *value) {
-  if ((encoding & FORMAT) == SDATA4) READ(int32_t);
-  switch (encoding == OMIT ? FORMAT : encoding & FORMAT) {
-    case ULEB128: case SLEB128: return read_leb128(at, (encoding & FORMAT) == SLEB128, value);
-    case UDATA2: READ(uint16_t);
-    case SDATA2: READ(int16_t);
-    case UDATA4: READ(uint32_t);
-    case ABSPTR: case UDATA8: case SDATA8: READ(uint64_t);
+  const union number {
+    uint16_t udata2;
+    int16_t sdata2;
+    uint32_t udata4;
+    int32_t sdata4;
+    uint64_t udata8;
+  } UNALIGNED *number = (const void *)at;
+  switch (encoding & FORMAT) {
+    case ULEB128: return read_leb128(at, false, value);
+    case SLEB128: return read_leb128(at, true, value);
+    case UDATA2: *value = number->udata2; return at + 2;
+    case SDATA2: *value = (uint64_t)number->sdata2; return at + 2;
+    case UDATA4: *value = number->udata4; return at + 4;
+    case SDATA4: *value = (uint64_t)number->sdata4; return at + 4;
+    case ABSPTR: case UDATA8: case SDATA8: *value = number->udata8; return at + 8;
     default: return NULL;
   }
 }
@@ -65,25 +60,29 @@ const uint8_t *read_pointer(uint8_t encoding, const uint8_t *at, const struct se
   return end;
 }
 
+static const uint8_t *skip_leb128(const uint8_t *at) {
+  while (*at++ & 0x80) continue;
+  return at;
+}
+
 /* How a CIE's FDEs write their addresses. */
 static uint8_t encoding_of(const uint8_t *cie) {
-  const uint8_t version = cie[8], *letter = cie + 9;
-  const uint8_t *at = letter + strlen((const char *)letter) + 1;
+  const uint8_t *letter = cie + 9, *at = letter;
   uint64_t passed;
-  if (version >= 4) {
+  while (*at++) continue;
+  if (letter[-1] >= 4) { /* the version */
     if (at[0] != sizeof(void *) || at[1] != 0) return OMIT;
     at += 2;
   }
   if (*letter != 'z') return ABSPTR;
-  at = skip_leb128(skip_leb128(at));                  /* both factors */
-  at = version == 1 ? at + 1 : skip_leb128(at);       /* the return address */
-  at = skip_leb128(at);                               /* the length of what the letters say */
+  /* both factors, the return address, which is 16, and the length of what the letters say */
+  at = skip_leb128(skip_leb128(skip_leb128(skip_leb128(at))));
   for (;;) switch (*++letter) {
       case 'R': return *at;
       case 'L': at++; break;
       case 'B': case 'S': break;
       case 'P':
-        at = read_number(*at & (FORMAT | RELATIVE), at + 1, &passed);
+        at = read_number(*at, at + 1, &passed);
         if (at == NULL) return OMIT;
         break;
       default: return ABSPTR;
@@ -92,43 +91,38 @@ static uint8_t encoding_of(const uint8_t *cie) {
 
 /* Reads a record, and goes past it; false at the end. A CIE has no addresses, and neither has an
  * FDE that a linker threw away, whose first address is 0 as far as it was written. */
-bool next_record(const uint8_t **at, const struct section *of, struct fde *fde) {
-  const uint8_t *record = *at;
-  uint32_t length;
-  int32_t back;
-  memcpy(&length, record, sizeof length);
-  if (length == 0) return false;
-  memcpy(&back, record + 4, sizeof back);
-  *at = record + 4 + length;
+bool next_record(const struct record **at, const struct section *of, struct fde *fde) {
+  const struct record *record = *at;
+  if (record->length == 0) return false;
+  *at = after(record);
   *fde = (struct fde){.at = record};
-  if (back == 0) return true;
-  const uint8_t encoding = encoding_of(record + 4 - back);
-  const uint8_t *range = read_pointer(encoding, record + 8, of, &fde->first);
-  if (range == NULL || read_number(encoding, range, &fde->size) == NULL || fde->first == 0 ||
-      (range == record + 12 && (uint32_t)fde->first == 0))
+  if (record->back == 0) return true;
+  const uint8_t *first = (const uint8_t *)&record->first;
+  const uint8_t encoding = encoding_of((const uint8_t *)&record->back - record->back);
+  if (encoding == (PCREL | SDATA4) && record->first != 0) {
+    fde->first = (uintptr_t)first + (uint64_t)record->first;
+    fde->size = record->size;
+    return true;
+  }
+  const uint8_t *size = read_pointer(encoding, first, of, &fde->first);
+  const bool is_read = size != NULL && read_number(encoding, size, &fde->size) != NULL;
+  if (!is_read || fde->first == 0 || (size == first + 4 && (uint32_t)fde->first == 0))
     fde->size = 0;
   return true;
 }
 
-/* Tells what a section has. Or writes its FDEs into a list, as many as were told before. */
-void read_fdes(struct section *section, struct fde *into) {
-  const size_t room = section->count;
+/* How many FDEs with addresses a section has. They are written into a list, where there is one. */
+size_t read_fdes(const struct section *section, struct fde *into) {
   const void *const one[] = {section->begin, NULL};
   const void *const *list = section->is_array ? section->begin : one;
-  section->count = 0;
-  section->lowest = UINT64_MAX;
-  section->highest = section->distance = 0;
+  size_t count = 0;
   for (; *list != NULL; list++) {
-    const uint8_t *at = *list;
+    const struct record *at = *list;
     for (struct fde fde; next_record(&at, section, &fde);) {
       if (fde.size == 0) continue;
-      if (into != NULL && section->count == room) return;
-      if (section->count == 0) section->distance = (uintptr_t)fde.at - fde.first;
-      if (fde.first < section->lowest) section->lowest = fde.first;
-      if (fde.first + fde.size > section->highest) section->highest = fde.first + fde.size;
-      if (into != NULL) into[section->count] = fde;
-      section->count++;
+      if (into != NULL) into[count] = fde;
+      count++;
     }
-    section->length = (size_t)(at - (const uint8_t *)section->begin) + 4;
   }
+  return count;
 }

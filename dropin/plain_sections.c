@@ -5,7 +5,8 @@ struct plain {
   struct leaving leaving;
   _Atomic(struct plain *) next;
   struct section section;
-  struct fde fdes[];
+  size_t count;
+  struct fde fdes[]; /* in order of their first addresses */
 };
 static _Atomic(struct plain *) first;
 
@@ -28,17 +29,17 @@ static void sort(struct fde *fdes, size_t count) {
 }
 
 bool put_plain(const struct section *section) {
-  struct plain *plain = take_memory(sizeof *plain + section->count * sizeof(struct fde));
+  const size_t count = read_fdes(section, NULL);
+  struct plain *plain = take_memory(sizeof *plain + count * sizeof(struct fde));
   if (plain == NULL) return false;
   plain->section = *section;
-  read_fdes(&plain->section, plain->fdes);
-  sort(plain->fdes, plain->section.count);
+  plain->count = read_fdes(section, plain->fdes);
+  sort(plain->fdes, count);
+  if (count > 0) widen_bounds(plain->fdes[0].first, plain->fdes[count - 1].reach);
   atomic_init(&plain->next, atomic_load(&first));
   atomic_store(&first, plain);
   return true;
 }
-
-static void end_plain(struct leaving *plain) { give_memory(plain); }
 
 bool take_plain(const void *begin, void **ob) {
   for (_Atomic(struct plain *) *at = &first; atomic_load(at) != NULL; at = &atomic_load(at)->next) {
@@ -47,15 +48,14 @@ bool take_plain(const void *begin, void **ob) {
     *ob = plain->section.ob;
     atomic_fetch_add(&takes, 1);
     atomic_store(at, atomic_load(&plain->next));
-    plain->leaving.end = end_plain;
-    leave(&plain->leaving);
+    leave(&plain->leaving, give_memory);
     return true;
   }
   return false;
 }
 
 static const struct fde *search(const struct plain *plain, uint64_t pc) {
-  size_t low = 0, high = plain->section.count;
+  size_t low = 0, high = plain->count;
   while (low < high) {
     size_t middle = low + (high - low) / 2;
     if (plain->fdes[middle].first <= pc) low = middle + 1;

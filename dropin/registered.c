@@ -1,19 +1,24 @@
 /* Registered sections: in the libraries, or else plainly read. */
 #include "dropin.h"
 #include <stdalign.h>
-#include <string.h>
 
 /* All addresses that were ever registered are from the one on and before the other: a lookup of
  * another address, as most frames of a throw have, asks nobody. */
 static struct {
-  alignas(LINE) _Atomic uint64_t lowest, highest;
+  alignas(LINE) _Atomic uint64_t lowest, end;
 } bounds = {.lowest = UINT64_MAX};
 alignas(LINE) _Atomic uint64_t takes;
+
+/* By all addresses from one to that before the other. */
+void widen_bounds(uint64_t lowest, uint64_t end) {
+  if (lowest < bounds.lowest) atomic_store(&bounds.lowest, lowest);
+  if (end > bounds.end) atomic_store(&bounds.end, end);
+}
 
 /* A miss is believed where nothing was begun to be taken out meanwhile: so who stands all the time
  * is found, and an address is found that some section has at each moment. */
 const void *find_registered(uint64_t pc, struct dwarf_eh_bases *bases) {
-  if (pc < atomic_load(&bounds.lowest) || pc >= atomic_load(&bounds.highest)) return NULL;
+  if (pc < atomic_load(&bounds.lowest) || pc >= atomic_load(&bounds.end)) return NULL;
   const unsigned slot = lease();
   const void *fde;
   uint64_t before;
@@ -27,19 +32,12 @@ const void *find_registered(uint64_t pc, struct dwarf_eh_bases *bases) {
 }
 
 /* As in libgcc, what begins with a length of 0 isn't registered, and is given up without a word. */
-static bool is_empty(const void *begin) {
-  uint32_t length = 0;
-  if (begin != NULL) memcpy(&length, begin, sizeof length);
-  return length == 0;
-}
+static bool is_empty(const struct record *begin) { return begin == NULL || begin->length == 0; }
 
 void register_section(struct section section) {
   if (is_empty(section.begin)) return;
-  read_fdes(&section, NULL);
   const bool is_plain = section.is_array || section.text != NULL || section.data != NULL;
   begin_update();
-  if (section.lowest < bounds.lowest) atomic_store(&bounds.lowest, section.lowest);
-  if (section.highest > bounds.highest) atomic_store(&bounds.highest, section.highest);
   const bool is_put = (!is_plain && put_section(&section)) || put_plain(&section);
   end_what_left();
   end_update();

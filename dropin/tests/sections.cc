@@ -235,6 +235,24 @@ static void unknown_ones() {
   is_missing("given up more than once", 0);
 }
 
+// A section with an FDE near to its code and one far from it, in either order.
+static void near_and_far() {
+  uint8_t *const near = code + 512, *const far = code + (uint64_t(1) << 40);
+  for (uint8_t *const first : {near, far}) {
+    uint8_t *const second = first == near ? far : near;
+    uint8_t *const heap = static_cast<uint8_t *>(std::malloc(256));
+    Section writer(heap);
+    writer.cie({1, "", 0});
+    uint8_t *const one = writer.fde(first, 48), *const two = writer.fde(second, 48);
+    writer.end();
+    __register_frame(heap);
+    check(finds(first + 5, one, first) && finds(second + 5, two, second), "near and far");
+    __deregister_frame(heap);
+    check(finds(near + 5, nullptr, nullptr) && finds(far + 5, nullptr, nullptr), "given up");
+    std::free(heap);
+  }
+}
+
 // Sections that stand far from their code, each at a distance of its own.
 static void far_ones() {
   enum { WINDOWS = 20, EACH = 50 };
@@ -316,6 +334,7 @@ int main(int count, char **words) {
       {"a program's own objects", objects, true},
       {"unknown ones given up", unknown_ones, false},
       {"far from their code", far_ones, true},
+      {"near to their code and far from it", near_and_far, true},
       {"loaded objects", loaded_ones, true},
       {"many sections", many, false},
   };
