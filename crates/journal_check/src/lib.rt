@@ -1,4 +1,4 @@
-//! Whether a journal is lawful but for its backtraces: the first of six flaws, and its line.
+//! Whether a text is that of a lawful journal: the first of eight flaws, and its line.
 //!
 //! Above scripts and journals (`event_script`) and the flaws of receipts (`receipt_check`). `judge`
 //! tells a journal as one list of receipts, each with its line and its round, and has the flaw that
