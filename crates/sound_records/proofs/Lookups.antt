@@ -1,5 +1,5 @@
 -- Items begin one after another, so what stands first is told by where it begins.
-use Rattle.std.proofs.Common.{◌≡◌, ℕ, zero, suc, ◌+◌, ◌<◌, ◌≤◌, List, [], ◌∷◌, length, Bool, true, false, cond, Option, Some, None, Result, Ok, Err, refl, sym, ap, subst, ◌∙◌, arith}
+use Rattle.std.proofs.Common.{◌≡◌, ℕ, zero, suc, ◌+◌, ◌<◌, ◌≤◌, List, [], ◌∷◌, length, Bool, true, false, cond, Option, Some, None, Result, Ok, Err, nat_lt, refl, sym, ap, subst, ◌∙◌, arith}
 use Rattle.std.proofs.lemmas.Bool.{lt-ltb, le-ltb}
 use Rattle.eh_bytes.specs.CursorData.{CursorData}
 use Rattle.frame_parse.specs.declared.fault.FrameFault.{FrameFault}
@@ -12,8 +12,9 @@ use Rattle.frame_parse.specs.Sections.{SectionData, is_end, with_record, fdes_of
 use Rattle.sound_records.specs.declared.refused.Claim.{Claim}
 use Rattle.sound_records.specs.declared.refused.RefusedRecord.{RefusedRecord}
 use Rattle.sound_records.specs.declared.answer.FdeAnswer.{FdeAnswer}
-use Rattle.sound_records.specs.declared.answer.FdeAnswer.TheVariants.{Found, Claimed}
+use Rattle.sound_records.specs.declared.answer.FdeAnswer.TheVariants.{NoFde, Found, Claimed}
 use Rattle.sound_records.specs.Items.{Item, Sound, Refused, by_result, extent, claimed, claims, items_from, items_of, sound_in, refused_in, answer_at}
+use Rattle.sound_records.specs.Laws.{answer_of}
 use Rattle.sound_records.specs.Sections.{first_claim, nearest}
 use Rattle.sound_records.proofs.Items.{extent_exact}
 use Rattle.sound_records.proofs.SoFar.{Stand}
@@ -129,3 +130,40 @@ answer_by stand pc s refused o claim are cover first =
     ap (λ (k : Option FdeRecord). nearest k claim) (cover ∙ ap (λ (fs : List FdeRecord). first_cover pc fs) are.0)
     ∙ ap (λ (k : Option RefusedRecord). nearest (first_cover pc (fdes_of (sound_in (items_of s.address s.bytes)))) k) (first ∙ ap (λ (xs : List RefusedRecord). first_claim pc xs) are.1)
     ∙ sym (answer_is_nearest stand pc s.address s.bytes)
+
+found_choice : (b : Bool) (g f : FdeRecord) (x : RefusedRecord) → Found f ≡ cond b (Found g) (Claimed x) → Found f ≡ Found g
+found_choice true g f x e = e
+found_choice false g f x e = absurd cc
+
+no_choice : (b : Bool) (g : FdeRecord) (x : RefusedRecord) → NoFde ≡ cond b (Found g) (Claimed x) → ⊥
+no_choice true g x e = cc
+no_choice false g x e = cc
+
+-- where no claim stands first the answer is the section's own
+no_claim_found : (o : Option FdeRecord) (claim : Option RefusedRecord) (f : FdeRecord) → Found f ≡ nearest o claim → Found f ≡ answer_of o
+no_claim_found None None f e = absurd cc
+no_claim_found (Some g) None f e = e
+no_claim_found None (Some x) f e = absurd cc
+no_claim_found (Some g) (Some x) f e = found_choice (nat_lt g.start x.start) g f x e
+
+no_claim_none : (o : Option FdeRecord) (claim : Option RefusedRecord) → NoFde ≡ nearest o claim → NoFde ≡ answer_of o
+no_claim_none None None e = refl
+no_claim_none (Some g) None e = absurd cc
+no_claim_none None (Some x) e = absurd cc
+no_claim_none (Some g) (Some x) e = absurd (no_choice (nat_lt g.start x.start) g x e)
+
+pub found_answers : Stand → (pc : ℕ) (s : SectionData) (refused : List RefusedRecord) (f : FdeRecord)
+    → (s.fdes ≡ fdes_of (sound_in (items_of s.address s.bytes))) × (refused ≡ refused_in (items_of s.address s.bytes)) → Found f ≡ answer_at pc (items_of s.address s.bytes)
+    → answer_at pc (items_of s.address s.bytes) ≡ answer_of (first_cover pc s.fdes)
+found_answers stand pc s refused f are e =
+    let o = first_cover pc s.fdes in
+    let claim = first_claim pc refused in
+    sym e ∙ no_claim_found o claim f (e ∙ sym (answer_by stand pc s refused o claim are refl refl))
+
+pub none_answers : Stand → (pc : ℕ) (s : SectionData) (refused : List RefusedRecord)
+    → (s.fdes ≡ fdes_of (sound_in (items_of s.address s.bytes))) × (refused ≡ refused_in (items_of s.address s.bytes)) → NoFde ≡ answer_at pc (items_of s.address s.bytes)
+    → answer_at pc (items_of s.address s.bytes) ≡ answer_of (first_cover pc s.fdes)
+none_answers stand pc s refused are e =
+    let o = first_cover pc s.fdes in
+    let claim = first_claim pc refused in
+    sym e ∙ no_claim_none o claim (e ∙ sym (answer_by stand pc s refused o claim are refl refl))

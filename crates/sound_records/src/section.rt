@@ -1,10 +1,12 @@
 //! A section whose bad records cost themselves alone.
 
-ghost use Rattle.std.specs.Prelude.{◌≡◌, ◌<◌, length, map, Some, IfOk};
+ghost use Rattle.std.specs.Prelude.{◌≡◌, ◌<◌, length, map, Some, IfOk, IfSome, IfNone};
 ghost use Rattle.std.specs.List.{All};
 ghost use Rattle.frame_parse.specs.Entries.{fde_among, HasCie};
 ghost use Rattle.frame_parse.specs.Keeping.{KeepsFdes};
-ghost use Rattle.frame_parse.specs.Sections.{fdes_of};
+ghost use Rattle.frame_parse.specs.Sections.{fdes_of, first_cover};
+ghost use Rattle.sound_records.specs.declared.answer.FdeAnswer.TheVariants.{Claimed};
+ghost use Rattle.sound_records.specs.Laws.{answer_of};
 ghost use Rattle.sound_records.specs.Items.{answer_at, items_of, refused_in, sound_in};
 ghost use Rattle.sound_records.specs.Sections.{answer_told, sound_section};
 
@@ -148,6 +150,23 @@ impl SoundSection {
                     }
                 }
             }
+        }
+    }
+    /// The refused record that claims an address before any FDE that covers it. Where there is none
+    /// the section of the sound records answers, and so do its rows and steps.
+    pub fn claim_at(&self, pc: u64) -> Option<RefusedRecord>
+        ensures claimed { IfSome result (λ x. answer_at pc
+            (items_of self.now.section.address self.now.section.bytes) ≡ Claimed x) }
+        ensures none { IfNone result (answer_at pc
+            (items_of self.now.section.address self.now.section.bytes)
+            ≡ answer_of (first_cover pc self.now.section.fdes)) }
+    {
+        records_stand();
+        let _ = &self.section;
+        match self.fde_at(pc) {
+            FdeAnswer::Claimed(found) => Some(found),
+            FdeAnswer::Found(_) => None,
+            FdeAnswer::NoFde => None,
         }
     }
 }
