@@ -1,19 +1,20 @@
 -- Items and the reading of a section go side by side.
-use Rattle.std.proofs.Common.{◌≡◌, ℕ, zero, suc, List, [], ◌∷◌, length, Bool, true, false, cond, Option, Some, Result, Ok, Err, refl, ap}
+use Rattle.std.proofs.Common.{◌≡◌, ℕ, zero, suc, List, [], ◌∷◌, length, Bool, true, false, cond, Option, Some, Result, Ok, Err, refl, sym, ap, ◌∙◌}
 use Rattle.eh_bytes.specs.CursorData.{CursorData}
 use Rattle.eh_bytes.specs.Results.{◌and_then◌}
+use Rattle.eh_bytes.proofs.Results.{ok_is}
 use Rattle.frame_parse.specs.declared.fault.FrameFault.{FrameFault}
 use Rattle.frame_parse.specs.declared.records.CieRecord.{CieRecord}
 use Rattle.frame_parse.specs.Entries.{FdeRecord, Record, Cie, Fde}
-use Rattle.frame_parse.specs.Reading.{read_all, section_of}
+use Rattle.frame_parse.specs.Reading.{read_all, section_of, IsAnswered}
 use Rattle.frame_parse.specs.Records.{whole_record}
-use Rattle.frame_parse.specs.Sections.{SectionData, is_end, with_record, fdes_of, covers, first_cover}
+use Rattle.frame_parse.specs.Sections.{SectionData, HasFdes, is_end, with_record, fdes_of, covers, first_cover}
 use Rattle.sound_records.specs.declared.refused.Claim.{Claim}
 use Rattle.sound_records.specs.declared.refused.RefusedRecord.{RefusedRecord}
 use Rattle.sound_records.specs.declared.answer.FdeAnswer.{FdeAnswer}
 use Rattle.sound_records.specs.declared.answer.FdeAnswer.TheVariants.{Found}
 use Rattle.sound_records.specs.Items.{Item, Sound, Refused, by_result, extent, claimed, items_from, items_of, sound_in, refused_in, answer_at}
-use Rattle.sound_records.specs.Laws.{answer_of, AgreesWithRead}
+use Rattle.sound_records.specs.Laws.{answer_of, section_with, AgreesWithRead}
 
 -- these are the items of what was read
 record Agree (is : List Item) (o : Result (List Record) FrameFault) : Type 0 where
@@ -72,3 +73,16 @@ agrees address bytes =
       first_refusal = λ x xs h. ap contents (a.refused x xs h);
       lookups = λ h pc. lookups_agree pc (items_of address bytes) h;
     }
+
+-- ---- a section that was read
+
+sound_fdes : (address : ℕ) (bytes : List ℕ) (fdes : List FdeRecord) (xs : List RefusedRecord) → AgreesWithRead address bytes → section_of address bytes ≡ Ok (record { address = address; bytes = bytes; fdes = fdes })
+    → refused_in (items_of address bytes) ≡ xs → (fdes ≡ fdes_of (sound_in (items_of address bytes))) × ([] ≡ refused_in (items_of address bytes))
+sound_fdes address bytes fdes [] a e h =
+    let same : record { address = address; bytes = bytes; fdes = fdes } ≡ section_with address bytes (items_of address bytes) = ok_is {F = FrameFault} _ _ (sym e ∙ a.all_sound h) in
+    (ap (λ (s : SectionData). s.fdes) same, sym h)
+sound_fdes address bytes fdes (x ∷ xs) a e h = absurd (let never = sym e ∙ a.first_refusal x xs h in cc)
+
+pub nothing_refused : (address : ℕ) (bytes : List ℕ) (fdes : List FdeRecord) → AgreesWithRead address bytes → IsAnswered address bytes → HasFdes address bytes fdes
+    → (fdes ≡ fdes_of (sound_in (items_of address bytes))) × ([] ≡ refused_in (items_of address bytes))
+nothing_refused address bytes fdes a answered has = sound_fdes address bytes fdes (refused_in (items_of address bytes)) a (answered.contents fdes has) refl

@@ -1,20 +1,22 @@
 //! A section whose bad records cost themselves alone.
 
-ghost use Rattle.std.specs.Prelude.{◌≡◌, ◌<◌, length, map, Some, IfOk, IfSome, IfNone};
+ghost use Rattle.std.specs.Prelude.{◌≡◌, ◌<◌, [], length, map, Some, IfOk, IfSome, IfNone};
 ghost use Rattle.std.specs.List.{All};
 ghost use Rattle.frame_parse.specs.Entries.{fde_among, HasCie};
 ghost use Rattle.frame_parse.specs.Keeping.{KeepsFdes};
-ghost use Rattle.frame_parse.specs.Sections.{fdes_of, first_cover};
+ghost use Rattle.frame_parse.specs.Sections.{fdes_of, first_cover, HasFdes};
 ghost use Rattle.sound_records.specs.declared.answer.FdeAnswer.TheVariants.{Claimed};
 ghost use Rattle.sound_records.specs.Laws.{answer_of};
 ghost use Rattle.sound_records.specs.Items.{answer_at, items_of, refused_in, sound_in};
 ghost use Rattle.sound_records.specs.Sections.{answer_told, sound_section};
 
+use crate::agrees_with_read;
 use crate::answer::FdeAnswer;
 use crate::refused::{RefusedRecord, claim_at, first_claim, place_behind};
 use eh_bytes::Cursor;
 use frame_parse::{
-    CieRecord, Entry, Fde, FdeEntry, Section, is_end, records_are_kept, records_stand, whole_record,
+    CieRecord, Entry, Fde, FdeEntry, Section, is_end, records_are_kept, records_stand,
+    section_is_answered, whole_record,
 };
 use std::alloc::{AllocError, Global};
 use std::marker::Model;
@@ -108,6 +110,17 @@ impl SoundSection {
         } = records;
         let section = Section::of_records(alloc, address, bytes, cies, fdes)?;
         Ok(SoundSection { section, refused })
+    }
+
+    /// A section in which nothing was refused, as `Section::read` gives it.
+    pub fn of_section(alloc: Global, section: Section) -> SoundSection
+        requires { HasFdes section.address section.bytes section.fdes }
+        ensures { result ≡ record { section = section; refused = [] } }
+    {
+        agrees_with_read();
+        section_is_answered();
+        let refused = Vec::new(alloc);
+        SoundSection { section, refused }
     }
 
     /// The section of the sound records.
