@@ -3,12 +3,12 @@
 ghost use Rattle.std.specs.Prelude.{◌≡◌, ◌<◌};
 ghost use Rattle.word_rule.specs.Callers.{IsIdle};
 
-use crate::tree_rounds::{range, register_all};
+use crate::tree_rounds::{range, register_all, registry_of, split_off};
 use reg_model::{Found, Inserted, Removed};
 use registry_core::Registry;
 use std::alloc::Global;
+use std::process::Abort;
 use std::sync::Wait;
-use std::test::Fail;
 use std::thread::{Threads, join};
 use word_rule::{Caller, Reader};
 
@@ -105,48 +105,40 @@ fn write_and_read<R: Threads + Wait + Sync>(
 }
 
 // Of so many ranges two writers change these two: the stamp, where each was done.
-fn stamp_after<R: Threads + Wait + Sync>(
+fn stamp_after<R: Threads + Wait + Sync + Abort>(
     rt: &R,
     alloc: Global,
     ranges: u32,
     numbers: (u32, u32),
-) -> Result<Option<u32>, Fail>
+) -> Option<u32>
     requires few { (numbers.0 < ranges) × (numbers.1 < ranges) }
 {
-    let (registry, mut a) = Registry::new(alloc, 64, 1, ranges, Vec::new(alloc))?;
-    let b = registry.words().split(alloc, &mut a, 2 * TURNS)?;
+    let (registry, mut a) = registry_of(rt, alloc, 64, ranges);
+    let b = split_off(rt, alloc, &registry, &mut a, 2 * TURNS);
     let all = register_all(rt, &registry, &mut a, ranges);
     let mut reader = registry.reader();
     let (low, high) = two_write(rt, &registry, (a, b), numbers);
-    let Ok(Found::Hit { stamp, .. }) = registry.try_registered(&mut reader, 0x1000) else {
-        return Ok(None);
-    };
-    Ok(if all && low && high {
-        Some(stamp)
-    } else {
-        None
-    })
+    match registry.try_registered(&mut reader, 0x1000) {
+        Ok(Found::Hit { stamp, .. }) if all && low && high => Some(stamp),
+        _ => None,
+    }
 }
 
 #[test]
-fn two_writers_begin_by_sight_or_at_the_root(rt: HostRuntime) -> Result<(), Fail> {
-    let alloc = rt.alloc();
+fn two_writers_begin_by_sight_or_at_the_root(rt: HostRuntime) {
     // Of eight ranges the root is the leaf; of a hundred the first two share one.
-    assert!(rt; stamp_after(&rt, alloc, 8, (2, 3))? == Some(8 + 4 * TURNS));
-    assert!(rt; stamp_after(&rt, alloc, 100, (2, 3))? == Some(100 + 4 * TURNS));
-    assert!(rt; stamp_after(&rt, alloc, 100, (2, 90))? == Some(100 + 4 * TURNS));
-    Ok(())
+    for (ranges, low, high) in [(8, 2, 3), (100, 2, 3), (100, 2, 90)] {
+        assert!(rt; low < ranges && high < ranges);
+        let stamp = stamp_after(&rt, rt.alloc(), ranges, (low, high));
+        assert!(rt; stamp == Some(ranges + 4 * TURNS), "{ranges}, {high}");
+    }
 }
 
 #[test]
-fn each_try_of_a_reader_is_answered_beside_a_writer_of_another_leaf(
-    rt: HostRuntime,
-) -> Result<(), Fail> {
-    let alloc = rt.alloc();
-    let (registry, mut a) = Registry::new(alloc, 64, 1, 100, Vec::new(alloc))?;
+fn each_try_of_a_reader_is_answered_beside_a_writer_of_another_leaf(rt: HostRuntime) {
+    let (registry, mut a) = registry_of(&rt, rt.alloc(), 64, 100);
     let all = register_all(&rt, &registry, &mut a, 100);
     let reader = registry.reader();
     let (wrote, read) = write_and_read(&rt, &registry, a, reader, (2, 90));
     assert!(rt; all && wrote && read);
-    Ok(())
 }

@@ -3,12 +3,12 @@
 ghost use Rattle.std.specs.Prelude.{◌≡◌, ◌<◌, ◌≤◌, ◌+◌, ◌*◌};
 ghost use Rattle.word_rule.specs.Callers.{IsIdle};
 
-use crate::tree_rounds::range;
+use crate::tree_rounds::{range, registry_of, split_off};
 use reg_model::{Found, Inserted, Removed};
 use registry_core::Registry;
 use std::alloc::Global;
+use std::process::Abort;
 use std::sync::Wait;
-use std::test::Fail;
 use std::thread::{Threads, join};
 use word_rule::Caller;
 
@@ -189,45 +189,44 @@ fn quarter(first: u32) -> Part
 }
 
 // The changes of all threads by their numbers, none where two have the same, or one is above the
-// stamp.
-fn by_number(
-    alloc: Global,
-    parts: &[Vec<Step>],
-    stamp: u32,
-) -> Result<Option<Vec<Option<Step>>>, Fail> {
+// stamp, or a thread wanted for memory.
+fn by_number(alloc: Global, parts: &[Option<Vec<Step>>], stamp: u32) -> Option<Vec<Option<Step>>> {
     let mut steps = Vec::new(alloc);
     for _ in 0..stamp {
-        steps.push(None::<Step>)?;
+        steps.push(None::<Step>).ok()?;
     }
     for part in parts {
+        let Some(part) = part else {
+            return None;
+        };
         for step in part {
             match steps.get_mut((step.number as usize).saturating_sub(1)) {
                 Some(free) if free.is_none() => *free = Some(*step),
-                _ => return Ok(None),
+                _ => return None,
             }
         }
     }
-    Ok(Some(steps))
+    Some(steps)
 }
 
 // Which ranges are there after these changes: each comes where it wasn't there, and goes where it
 // was.
-fn there_after(alloc: Global, steps: &[Option<Step>]) -> Result<Option<Vec<bool>>, Fail> {
+fn there_after(alloc: Global, steps: &[Option<Step>]) -> Option<Vec<bool>> {
     let mut there = Vec::new(alloc);
     for _ in 0..RANGES {
-        there.push(false)?;
+        there.push(false).ok()?;
     }
     for step in steps {
         let Some(step) = step else {
-            return Ok(None);
+            return None;
         };
         let comes = matches!(step.change, Change::Comes);
         match there.get_mut(step.range as usize) {
             Some(is) if *is != comes => *is = comes,
-            _ => return Ok(None),
+            _ => return None,
         }
     }
-    Ok(Some(there))
+    Some(there)
 }
 
 // The stamp of a query at an address.
@@ -278,38 +277,34 @@ fn accepted<R: Wait>(
     alloc: Global,
     registry: &Registry,
     me: &mut Caller,
-    parts: &[Vec<Step>],
-) -> Result<Option<u32>, Fail>
+    parts: &[Option<Vec<Step>>],
+) -> Option<u32>
     requires table { me.old.table ≡ registry.now.table }
     requires idle { IsIdle me.old.log }
 {
     let stamp = stamp_at(rt, registry, me, 0);
-    let Some(steps) = by_number(alloc, parts, stamp)? else {
-        return Ok(None);
-    };
-    let Some(there) = there_after(alloc, &steps)? else {
-        return Ok(None);
-    };
-    Ok(if are_found(rt, registry, me, &there, stamp) {
+    let steps = by_number(alloc, parts, stamp)?;
+    let there = there_after(alloc, &steps)?;
+    if are_found(rt, registry, me, &there, stamp) {
         Some(stamp)
     } else {
         None
-    })
+    }
 }
 
 // What two threads come to that begin so far from one another.
-fn two_threads<R: Threads + Wait + Sync>(
+fn two_threads<R: Threads + Wait + Sync + Abort>(
     rt: &R,
     alloc: Global,
     nodes: u32,
     apart: u32,
-) -> Result<Option<u32>, Fail>
+) -> Option<u32>
     requires nodes { (4 ≤ nodes) × (nodes ≤ 16384) }
     requires near { apart ≤ 1000 }
 {
-    let (registry, mut me) = Registry::new(alloc, nodes, 1, RANGES, Vec::new(alloc))?;
-    let a = registry.words().split(alloc, &mut me, UPDATES)?;
-    let b = registry.words().split(alloc, &mut me, UPDATES)?;
+    let (registry, mut me) = registry_of(rt, alloc, nodes, RANGES);
+    let a = split_off(rt, alloc, &registry, &mut me, UPDATES);
+    let b = split_off(rt, alloc, &registry, &mut me, UPDATES);
     let low = Part {
         first: 0,
         ranges: 1_000,
@@ -319,56 +314,48 @@ fn two_threads<R: Threads + Wait + Sync>(
         ranges: 1_000,
     };
     let written = two_write(rt, alloc, &registry, (a, b), (low, high));
-    let (Some(one), Some(two)) = (written.0, written.1) else {
-        return Ok(None);
-    };
-    let parts = vec![in alloc; one, two]?;
-    accepted(rt, alloc, &registry, &mut me, &parts)
+    accepted(rt, alloc, &registry, &mut me, &[written.0, written.1])
 }
 
 // The same of four.
-fn four_threads<R: Threads + Wait + Sync>(
+fn four_threads<R: Threads + Wait + Sync + Abort>(
     rt: &R,
     alloc: Global,
     nodes: u32,
     apart: u32,
-) -> Result<Option<u32>, Fail>
+) -> Option<u32>
     requires nodes { (4 ≤ nodes) × (nodes ≤ 16384) }
     requires near { apart ≤ 500 }
 {
-    let (registry, mut me) = Registry::new(alloc, nodes, 1, RANGES, Vec::new(alloc))?;
-    let a = registry.words().split(alloc, &mut me, UPDATES)?;
-    let b = registry.words().split(alloc, &mut me, UPDATES)?;
-    let c = registry.words().split(alloc, &mut me, UPDATES)?;
-    let d = registry.words().split(alloc, &mut me, UPDATES)?;
+    let (registry, mut me) = registry_of(rt, alloc, nodes, RANGES);
+    let a = split_off(rt, alloc, &registry, &mut me, UPDATES);
+    let b = split_off(rt, alloc, &registry, &mut me, UPDATES);
+    let c = split_off(rt, alloc, &registry, &mut me, UPDATES);
+    let d = split_off(rt, alloc, &registry, &mut me, UPDATES);
     let (low, high) = four_write(rt, alloc, &registry, ((a, b), (c, d)), apart);
-    let (Some(one), Some(two), Some(three), Some(four)) = (low.0, low.1, high.0, high.1) else {
-        return Ok(None);
-    };
-    let parts = vec![in alloc; one, two, three, four]?;
-    accepted(rt, alloc, &registry, &mut me, &parts)
+    accepted(
+        rt,
+        alloc,
+        &registry,
+        &mut me,
+        &[low.0, low.1, high.0, high.1],
+    )
 }
 
 #[test]
-fn threads_on_parts_of_their_own(rt: HostRuntime) -> Result<(), Fail> {
-    let alloc = rt.alloc();
-    assert!(rt; two_threads(&rt, alloc, 4_096, 1_000)? == Some(UPDATES));
-    assert!(rt; four_threads(&rt, alloc, 4_096, 500)? == Some(UPDATES));
-    Ok(())
+fn threads_on_parts_of_their_own(rt: HostRuntime) {
+    assert!(rt; two_threads(&rt, rt.alloc(), 4_096, 1_000) == Some(UPDATES));
+    assert!(rt; four_threads(&rt, rt.alloc(), 4_096, 500) == Some(UPDATES));
 }
 
 #[test]
-fn threads_on_one_part(rt: HostRuntime) -> Result<(), Fail> {
-    let alloc = rt.alloc();
-    assert!(rt; two_threads(&rt, alloc, 4_096, 0)?.is_some());
-    assert!(rt; four_threads(&rt, alloc, 4_096, 0)?.is_some());
-    Ok(())
+fn threads_on_one_part(rt: HostRuntime) {
+    assert!(rt; two_threads(&rt, rt.alloc(), 4_096, 0).is_some());
+    assert!(rt; four_threads(&rt, rt.alloc(), 4_096, 0).is_some());
 }
 
 #[test]
-fn threads_with_few_nodes(rt: HostRuntime) -> Result<(), Fail> {
-    let alloc = rt.alloc();
-    assert!(rt; two_threads(&rt, alloc, 64, 1_000)?.is_some());
-    assert!(rt; four_threads(&rt, alloc, 64, 0)?.is_some());
-    Ok(())
+fn threads_with_few_nodes(rt: HostRuntime) {
+    assert!(rt; two_threads(&rt, rt.alloc(), 64, 1_000).is_some());
+    assert!(rt; four_threads(&rt, rt.alloc(), 64, 0).is_some());
 }

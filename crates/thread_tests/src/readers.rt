@@ -3,13 +3,13 @@ ghost use Rattle.std.specs.Prelude.{◌≡◌, ◌<◌, ◌≤◌};
 ghost use Rattle.word_rule.specs.Callers.{IsIdle};
 
 use crate::tree_rounds::{
-    ALL, EACH, Event, are_right, numbers_of, range, register_all, two_take_part,
+    ALL, EACH, Event, are_all_right, numbers_of, range, register_all, registry_of, split_off,
+    two_take_part,
 };
 use reg_model::{Found, Member};
 use registry_core::Registry;
 use std::alloc::Global;
 use std::sync::Wait;
-use std::test::Fail;
 use std::thread::{Threads, join, map_indices};
 use word_rule::{Caller, Reader};
 
@@ -88,28 +88,18 @@ fn read_side_by_side<R: Threads + Wait + Sync>(
 }
 
 #[test]
-fn sixteen_readers_beside_two_writers(rt: HostRuntime) -> Result<(), Fail> {
+fn sixteen_readers_beside_two_writers(rt: HostRuntime) {
     let alloc = rt.alloc();
-    let (registry, mut a) = Registry::new(alloc, 4_096, 1, ALL, Vec::new(alloc))?;
-    let b = registry.words().split(alloc, &mut a, EACH)?;
+    let (registry, mut a) = registry_of(&rt, alloc, 4_096, ALL);
+    let b = split_off(&rt, alloc, &registry, &mut a, EACH);
     let (written, read) = write_and_read(&rt, alloc, &registry, (a, b));
-    let (Some(one), Some(two), Some(read)) = (written.0, written.1, read) else {
+    let (parts, Some(read)) = ([written.0, written.1], read) else {
         panic!(rt; "no memory")
     };
-    let parts = vec![in alloc; one, two]?;
-    let Some(numbers) = numbers_of(alloc, &parts)? else {
-        panic!(rt; "a number that is missing, or stands twice")
+    let Some(numbers) = numbers_of(alloc, &parts) else {
+        panic!(rt; "no memory, or a number that is missing, or stands twice")
     };
-    for part in &parts {
-        assert!(rt; are_right(&numbers, part));
-    }
-    for part in &read {
-        let Some(looked) = part else {
-            panic!(rt; "no memory")
-        };
-        assert!(rt; are_right(&numbers, looked));
-    }
-    Ok(())
+    assert!(rt; are_all_right(&numbers, &parts) && are_all_right(&numbers, &read));
 }
 
 // The payload of what was found, and the stamp.
@@ -124,9 +114,8 @@ fn told(found: Found) -> (Option<u32>, u32) {
 }
 
 #[test]
-fn each_way_to_make_a_reader(rt: HostRuntime) -> Result<(), Fail> {
-    let alloc = rt.alloc();
-    let (registry, mut a) = Registry::new(alloc, 4, 1, 2, Vec::new(alloc))?;
+fn each_way_to_make_a_reader(rt: HostRuntime) {
+    let (registry, mut a) = registry_of(&rt, rt.alloc(), 4, 2);
     assert!(rt; register_all(&rt, &registry, &mut a, 2));
     let mut first = registry.reader_of(&mut a);
     let mut second = registry.another_reader(&mut first);
@@ -134,15 +123,10 @@ fn each_way_to_make_a_reader(rt: HostRuntime) -> Result<(), Fail> {
     assert!(rt; first.seen() == 2 && second.seen() == 2 && third.seen() == 2);
     let place = registry.find(&rt, &mut first, 0x1108);
     assert!(rt; told(place.registered) == (Some(1), 2) && place.loaded.is_none());
-    let Ok(found) = registry.try_registered(&mut second, 0x1110) else {
-        panic!(rt; "again")
-    };
-    assert!(rt; told(found) == (None, 2));
-    let Ok(found) = registry.try_loaded(&mut third, 0x1108) else {
-        panic!(rt; "again")
-    };
-    assert!(rt; told(found) == (None, 2));
+    let registered = registry.try_registered(&mut second, 0x1110);
+    let loaded = registry.try_loaded(&mut third, 0x1108);
+    assert!(rt; registered == Ok(Found::Miss { stamp: 2 }));
+    assert!(rt; loaded == Ok(Found::Miss { stamp: 2 }));
     let alone = a.alone();
     assert!(rt; alone);
-    Ok(())
 }

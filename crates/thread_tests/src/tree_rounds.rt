@@ -1,12 +1,13 @@
 //! Registered ranges, looked up while others come: the cases of the tree, and four threads.
-ghost use Rattle.std.specs.Prelude.{◌≡◌, ◌<◌, ◌≤◌, IfSome};
+ghost use Rattle.std.specs.Prelude.{◌≡◌, ◌<◌, ◌≤◌, ◌-◌, IfSome};
 ghost use Rattle.word_rule.specs.Callers.{IsIdle};
+ghost use Rattle.word_rule.specs.Places.{ALLOWANCE};
 
 use reg_model::{Found, Inserted, Member, Span};
 use registry_core::Registry;
 use std::alloc::Global;
+use std::process::Abort;
 use std::sync::Wait;
-use std::test::Fail;
 use std::thread::{Threads, join};
 use word_rule::Caller;
 
@@ -19,6 +20,46 @@ pub(crate) fn range(number: u32) -> Option<Member>
         span,
         payload: number,
     })
+}
+
+// A registry with so many nodes and payloads, and its first caller.
+pub(crate) fn registry_of(
+    rt: &impl Abort,
+    alloc: Global,
+    nodes: u32,
+    payloads: u32,
+) -> (Registry, Caller)
+    requires { (4 ≤ nodes) × (nodes ≤ 16384) }
+    ensures payloads { result.0.terms.payloads ≡ payloads }
+    ensures table { result.1.table ≡ result.0.table }
+    ensures idle { IsIdle result.1.log }
+    ensures left { result.1.left ≡ ALLOWANCE }
+{
+    match Registry::new(alloc, nodes, 1, payloads, Vec::new(alloc)) {
+        Ok(made) => made,
+        Err(_) => panic!(rt; "no memory"),
+    }
+}
+
+// Another caller, with so many update calls of one's own.
+pub(crate) fn split_off(
+    rt: &impl Abort,
+    alloc: Global,
+    registry: &Registry,
+    me: &mut Caller,
+    calls: u32,
+) -> Caller
+    requires table { me.old.table ≡ registry.now.table }
+    requires idle { IsIdle me.old.log }
+    requires calls { calls ≤ me.old.left }
+    ensures tables { (me.new.table ≡ me.old.table) × (result.table ≡ me.old.table) }
+    ensures idle { IsIdle me.new.log × IsIdle result.log }
+    ensures left { me.new.left ≡ me.old.left - calls }
+{
+    match registry.words().split(alloc, me, calls) {
+        Ok(other) => other,
+        Err(_) => panic!(rt; "no memory"),
+    }
 }
 
 // Whether the ranges with numbers below this one are registered in order, each with its number.
@@ -61,20 +102,19 @@ fn tried(registry: &Registry, me: &mut Caller, pc: u64) -> Option<(Option<u32>, 
 }
 
 #[test]
-fn eleven_ranges(rt: HostRuntime) -> Result<(), Fail> {
-    let alloc = rt.alloc();
-    let (registry, mut me) = Registry::new(alloc, 4, 1, 11, Vec::new(alloc))?;
+fn eleven_ranges(rt: HostRuntime) {
+    let (registry, mut me) = registry_of(&rt, rt.alloc(), 4, 11);
     assert!(rt; register_all(&rt, &registry, &mut me, 11));
-    assert!(rt; tried(&registry, &mut me, 0x1a08) == Some((Some(10), 11)));
-    assert!(rt; tried(&registry, &mut me, 0x1408) == Some((Some(4), 11)));
-    assert!(rt; tried(&registry, &mut me, 0x1450) == Some((None, 11)));
-    Ok(())
+    assert!(rt;
+        tried(&registry, &mut me, 0x1a08) == Some((Some(10), 11))
+            && tried(&registry, &mut me, 0x1408) == Some((Some(4), 11))
+            && tried(&registry, &mut me, 0x1450) == Some((None, 11))
+    );
 }
 
 #[test]
-fn four_nodes_are_full_at_twenty(rt: HostRuntime) -> Result<(), Fail> {
-    let alloc = rt.alloc();
-    let (registry, mut me) = Registry::new(alloc, 4, 1, 21, Vec::new(alloc))?;
+fn four_nodes_are_full_at_twenty(rt: HostRuntime) {
+    let (registry, mut me) = registry_of(&rt, rt.alloc(), 4, 21);
     assert!(rt; register_all(&rt, &registry, &mut me, 20));
     let (Some(next), Some(last), Some(same)) = (range(20), range(19), range(19)) else {
         panic!(rt; "spans")
@@ -87,7 +127,6 @@ fn four_nodes_are_full_at_twenty(rt: HostRuntime) -> Result<(), Fail> {
     };
     assert!(rt; registry.register(&rt, &mut me, same) == overlap);
     assert!(rt; tried(&registry, &mut me, 0x2308) == Some((Some(19), 20)));
-    Ok(())
 }
 
 // How many ranges each of four threads registers, and all of them.
@@ -213,46 +252,49 @@ fn four_take_part<R: Threads + Wait + Sync>(
 }
 
 // The number of each range, where an event says it, once each. One that none registered never has
-// any.
-pub(crate) fn numbers_of(alloc: Global, parts: &[Vec<Event>]) -> Result<Option<Vec<u32>>, Fail> {
+// any. None also where a thread wanted for memory.
+pub(crate) fn numbers_of(alloc: Global, parts: &[Option<Vec<Event>>]) -> Option<Vec<u32>> {
     let mut numbers = Vec::new(alloc);
     let mut taken = Vec::new(alloc);
     for _ in 0..ALL {
-        numbers.push(u32::MAX)?;
+        numbers.push(u32::MAX).ok()?;
     }
     for _ in parts {
         for _ in 0..EACH {
-            taken.push(false)?;
+            taken.push(false).ok()?;
         }
     }
     for part in parts {
-        for event in part {
+        let Some(events) = part else {
+            return None;
+        };
+        for event in events {
             let Event::Registered { range, answer } = event else {
                 continue;
             };
             let Inserted::Done { number } = answer else {
-                return Ok(None);
+                return None;
             };
             let Some(place) = numbers.get_mut(*range as usize) else {
-                return Ok(None);
+                return None;
             };
             *place = *number;
             match taken.get_mut((*number as usize).saturating_sub(1)) {
                 Some(free) if !*free => *free = true,
-                _ => return Ok(None),
+                _ => return None,
             }
         }
     }
-    Ok(if taken.iter().all(|one| *one) {
+    if taken.iter().all(|one| *one) {
         Some(numbers)
     } else {
         None
-    })
+    }
 }
 
 // Whether the range was found exactly where its number isn't above the stamp, and stamps and
 // numbers never fall.
-pub(crate) fn are_right(numbers: &[u32], events: &[Event]) -> bool {
+fn are_right(numbers: &[u32], events: &[Event]) -> bool {
     let mut since = 0;
     for event in events {
         let now = match event {
@@ -291,23 +333,28 @@ pub(crate) fn are_right(numbers: &[u32], events: &[Event]) -> bool {
     true
 }
 
-#[test]
-fn four_threads_register_ten_thousand_ranges(rt: HostRuntime) -> Result<(), Fail> {
-    let alloc = rt.alloc();
-    let (registry, mut a) = Registry::new(alloc, 4_096, 1, ALL, Vec::new(alloc))?;
-    let b = registry.words().split(alloc, &mut a, EACH)?;
-    let c = registry.words().split(alloc, &mut a, EACH)?;
-    let d = registry.words().split(alloc, &mut a, EACH)?;
-    let (low, high) = four_take_part(&rt, alloc, &registry, (a, b), (c, d));
-    let (Some(one), Some(two), Some(three), Some(four)) = (low.0, low.1, high.0, high.1) else {
-        panic!(rt; "no memory")
-    };
-    let parts = vec![in alloc; one, two, three, four]?;
-    let Some(numbers) = numbers_of(alloc, &parts)? else {
-        panic!(rt; "a number that is missing, or stands twice")
-    };
-    for part in &parts {
-        assert!(rt; are_right(&numbers, part));
+// Whether all threads were told what is right.
+pub(crate) fn are_all_right(numbers: &[u32], parts: &[Option<Vec<Event>>]) -> bool {
+    for part in parts {
+        match part {
+            Some(events) if are_right(numbers, events) => {}
+            _ => return false,
+        }
     }
-    Ok(())
+    true
+}
+
+#[test]
+fn four_threads_register_ten_thousand_ranges(rt: HostRuntime) {
+    let alloc = rt.alloc();
+    let (registry, mut a) = registry_of(&rt, alloc, 4_096, ALL);
+    let b = split_off(&rt, alloc, &registry, &mut a, EACH);
+    let c = split_off(&rt, alloc, &registry, &mut a, EACH);
+    let d = split_off(&rt, alloc, &registry, &mut a, EACH);
+    let (low, high) = four_take_part(&rt, alloc, &registry, (a, b), (c, d));
+    let parts = [low.0, low.1, high.0, high.1];
+    let Some(numbers) = numbers_of(alloc, &parts) else {
+        panic!(rt; "no memory, or a number that is missing, or stands twice")
+    };
+    assert!(rt; are_all_right(&numbers, &parts));
 }
