@@ -11,6 +11,7 @@ mod headers;
 mod rows;
 mod rules;
 mod sections;
+mod sound;
 mod steps;
 mod tables;
 mod words;

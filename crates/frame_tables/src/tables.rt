@@ -1,7 +1,7 @@
 //! What the lines so far made known, and who answers which question.
 
 use crate::words::{Refusal, Wanted, Words, refuse};
-use crate::{bytes, call_sites, expressions, headers, rows, sections, steps};
+use crate::{bytes, call_sites, expressions, headers, rows, sections, sound, steps};
 use frame_expr::{Memory, Regs};
 use frame_parse::Section;
 use std::alloc::Global;
@@ -87,6 +87,7 @@ impl Tables {
             "value" => expressions::value(self, words, text),
             "fdes" => sections::fdes(self, words, text),
             "fde" => sections::fde(self, words, text),
+            "sound" => sound::sound(self, words, text),
             "initial" => sections::initial(self, words, text),
             "program" => sections::program(self, words, text),
             "placed-initial" => sections::placed_initial(self, words, text),
