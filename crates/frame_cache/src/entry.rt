@@ -1,10 +1,10 @@
 //! A member as it is searched for.
-ghost use Rattle.std.specs.Prelude.{◌≡◌, ◌-◌, ◌%◌, min};
+ghost use Rattle.std.specs.Prelude.{◌≡◌};
 ghost use Rattle.reg_model.specs.SpanData.{contains};
 ghost use Rattle.frame_cache.specs.Recent.{no_entry};
-ghost use Rattle.frame_cache.specs.Slots.{HALVES};
+ghost use Rattle.frame_cache.specs.Slots.{block_of, blocks_reached};
 
-use crate::slots::HALVES;
+use crate::slots::{BLOCK, NUMBERS};
 use reg_model::{Member, Span};
 use std::marker::Model;
 
@@ -82,17 +82,18 @@ impl Entry {
         pc.wrapping_sub(self.first) <= self.reach
     }
 
-    /// The lower half of its first address.
-    pub(crate) fn low(&self) -> u32
-        ensures { result ≡ self.now.span.first % HALVES }
+    /// The number of the block in which it begins.
+    pub(crate) fn block(&self) -> u16
+        ensures { result ≡ block_of self.now.span.first }
     {
-        (self.first % HALVES) as u32
+        (self.first / BLOCK % NUMBERS) as u16
     }
 
-    /// How far behind its first address the last one is, at most the greatest lower half.
-    pub(crate) fn near(&self) -> u32
-        ensures { result ≡ min (self.now.span.last - self.now.span.first) (HALVES - 1) }
+    /// How many blocks later it ends, at most the greatest number.
+    pub(crate) fn blocks_reached(&self) -> u16
+        ensures { result ≡ blocks_reached self.now }
     {
-        self.reach.min(HALVES - 1) as u32
+        let last = self.first + self.reach;
+        (last / BLOCK - self.first / BLOCK).min(NUMBERS - 1) as u16
     }
 }

@@ -7,16 +7,18 @@ use crate::entry::Entry;
 use reg_model::Member;
 use std::marker::Model;
 
-/// How many lower halves there are of addresses.
-pub(crate) const HALVES: u64 = 1 << 32;
+/// How many addresses are a block. Code mostly begins with one.
+pub(crate) const BLOCK: u64 = 16;
+/// How many blocks have numbers of their own; further ones have the same again.
+pub(crate) const NUMBERS: u64 = 1 << 16;
 
-/// A member in each slot. Beside them stand the lower halves of their first addresses, and how far
-/// behind those the last ones are, at most the greatest such half: eight such numbers are compared
-/// by a few instructions.
+/// A member in each slot. Beside them stand the numbers of the blocks in which they begin, and how
+/// many blocks later they end, at most the greatest number: eight of these are compared by a few
+/// instructions.
 #[derive(Drop)]
 pub(crate) struct Slots {
-    lows: [u32; 8],
-    reaches: [u32; 8],
+    blocks: [u16; 8],
+    reaches: [u16; 8],
     members: [Entry; 8],
 }
 
@@ -29,7 +31,7 @@ impl Model for Slots {
 
     ghost view = { λ s. s.members };
 
-    ghost invariant = { λ s. AreMarked s.lows s.reaches s.members };
+    ghost invariant = { λ s. AreMarked s.blocks s.reaches s.members };
 }
 
 impl Slots {
@@ -38,7 +40,7 @@ impl Slots {
         ensures { length result ≡ 8 }
     {
         Slots {
-            lows: [0; 8],
+            blocks: [0; 8],
             reaches: [0; 8],
             members: [Entry::unused(); 8],
         }
@@ -58,8 +60,8 @@ impl Slots {
         ensures { self.new ≡ set self.old slot member.now }
     {
         let entry = Entry::of(member);
-        self.lows[slot as usize] = entry.low();
-        self.reaches[slot as usize] = entry.near();
+        self.blocks[slot as usize] = entry.block();
+        self.reaches[slot as usize] = entry.blocks_reached();
         self.members[slot as usize] = entry;
     }
 
@@ -70,10 +72,10 @@ impl Slots {
         ensures { result ≡ false → (i : ℕ) → i < 8
             → contains (in_slot self.now i).span pc ≡ false }
     {
-        let low = (pc % HALVES) as u32;
+        let block = (pc / BLOCK % NUMBERS) as u16;
         let mut near = false;
         for slot in 0..8 {
-            near |= low.wrapping_sub(self.lows[slot]) <= self.reaches[slot];
+            near |= block.wrapping_sub(self.blocks[slot]) <= self.reaches[slot];
         }
         near
     }
