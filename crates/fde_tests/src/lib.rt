@@ -6,3 +6,5 @@
 mod members;
 #[cfg(test)]
 mod one_writer;
+#[cfg(test)]
+mod sections;
