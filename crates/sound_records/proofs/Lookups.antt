@@ -1,5 +1,6 @@
 -- Items begin one after another, so what stands first is told by where it begins.
 use Rattle.std.proofs.Common.{◌≡◌, ℕ, zero, suc, ◌+◌, ◌<◌, ◌≤◌, List, [], ◌∷◌, length, Bool, true, false, cond, Option, Some, None, Result, Ok, Err, nat_lt, refl, sym, ap, subst, ◌∙◌, arith}
+use Rattle.std.specs.Prelude.{IfNone, IfSome}
 use Rattle.std.proofs.lemmas.Bool.{lt-ltb, le-ltb}
 use Rattle.eh_bytes.specs.CursorData.{CursorData}
 use Rattle.frame_parse.specs.declared.fault.FrameFault.{FrameFault}
@@ -15,7 +16,7 @@ use Rattle.sound_records.specs.declared.answer.FdeAnswer.{FdeAnswer}
 use Rattle.sound_records.specs.declared.answer.FdeAnswer.TheVariants.{NoFde, Found, Claimed}
 use Rattle.sound_records.specs.Items.{Item, Sound, Refused, by_result, extent, claimed, claims, items_from, items_of, sound_in, refused_in, answer_at}
 use Rattle.sound_records.specs.Laws.{answer_of}
-use Rattle.sound_records.specs.Sections.{first_claim, nearest}
+use Rattle.sound_records.specs.Sections.{claim_among, first_claim, nearest, unless_before}
 use Rattle.sound_records.proofs.Items.{extent_exact}
 use Rattle.sound_records.proofs.SoFar.{Stand}
 
@@ -131,39 +132,23 @@ answer_by stand pc s refused o claim are cover first =
     ∙ ap (λ (k : Option RefusedRecord). nearest (first_cover pc (fdes_of (sound_in (items_of s.address s.bytes)))) k) (first ∙ ap (λ (xs : List RefusedRecord). first_claim pc xs) are.1)
     ∙ sym (answer_is_nearest stand pc s.address s.bytes)
 
-found_choice : (b : Bool) (g f : FdeRecord) (x : RefusedRecord) → Found f ≡ cond b (Found g) (Claimed x) → Found f ≡ Found g
-found_choice true g f x e = e
-found_choice false g f x e = absurd cc
+-- the claim that answers, and where none does the section's own answer
+abbrev pub ClaimAnswers : FdeAnswer FdeRecord → Option FdeRecord → Option RefusedRecord → Type 0
+ClaimAnswers answer o claim = IfSome claim (λ x. answer ≡ Claimed x) × IfNone claim (answer ≡ answer_of o)
 
-no_choice : (b : Bool) (g : FdeRecord) (x : RefusedRecord) → NoFde ≡ cond b (Found g) (Claimed x) → ⊥
-no_choice true g x e = cc
-no_choice false g x e = cc
+claim_choice_answers : (b : Bool) (f : FdeRecord) (x : RefusedRecord) → ClaimAnswers (cond b (Found f) (Claimed x)) (Some f) (cond b None (Some x))
+claim_choice_answers true f x = (tt, refl)
+claim_choice_answers false f x = (refl, tt)
 
--- where no claim stands first the answer is the section's own
-no_claim_found : (o : Option FdeRecord) (claim : Option RefusedRecord) (f : FdeRecord) → Found f ≡ nearest o claim → Found f ≡ answer_of o
-no_claim_found None None f e = absurd cc
-no_claim_found (Some g) None f e = e
-no_claim_found None (Some x) f e = absurd cc
-no_claim_found (Some g) (Some x) f e = found_choice (nat_lt g.start x.start) g f x e
+nearest_claims : (o : Option FdeRecord) (claim : Option RefusedRecord) → ClaimAnswers (nearest o claim) o (unless_before claim o)
+nearest_claims None None = (tt, refl)
+nearest_claims (Some f) None = (tt, refl)
+nearest_claims None (Some x) = (refl, tt)
+nearest_claims (Some f) (Some x) = claim_choice_answers (nat_lt f.start x.start) f x
 
-no_claim_none : (o : Option FdeRecord) (claim : Option RefusedRecord) → NoFde ≡ nearest o claim → NoFde ≡ answer_of o
-no_claim_none None None e = refl
-no_claim_none (Some g) None e = absurd cc
-no_claim_none None (Some x) e = absurd cc
-no_claim_none (Some g) (Some x) e = absurd (no_choice (nat_lt g.start x.start) g x e)
-
-pub found_answers : Stand → (pc : ℕ) (s : SectionData) (refused : List RefusedRecord) (f : FdeRecord)
-    → (s.fdes ≡ fdes_of (sound_in (items_of s.address s.bytes))) × (refused ≡ refused_in (items_of s.address s.bytes)) → Found f ≡ answer_at pc (items_of s.address s.bytes)
-    → answer_at pc (items_of s.address s.bytes) ≡ answer_of (first_cover pc s.fdes)
-found_answers stand pc s refused f are e =
+pub claim_answers : Stand → (pc : ℕ) (s : SectionData) (refused : List RefusedRecord) → (s.fdes ≡ fdes_of (sound_in (items_of s.address s.bytes))) × (refused ≡ refused_in (items_of s.address s.bytes))
+    → ClaimAnswers (answer_at pc (items_of s.address s.bytes)) (first_cover pc s.fdes) (claim_among pc s.fdes refused)
+claim_answers stand pc s refused are =
     let o = first_cover pc s.fdes in
     let claim = first_claim pc refused in
-    sym e ∙ no_claim_found o claim f (e ∙ sym (answer_by stand pc s refused o claim are refl refl))
-
-pub none_answers : Stand → (pc : ℕ) (s : SectionData) (refused : List RefusedRecord)
-    → (s.fdes ≡ fdes_of (sound_in (items_of s.address s.bytes))) × (refused ≡ refused_in (items_of s.address s.bytes)) → NoFde ≡ answer_at pc (items_of s.address s.bytes)
-    → answer_at pc (items_of s.address s.bytes) ≡ answer_of (first_cover pc s.fdes)
-none_answers stand pc s refused are e =
-    let o = first_cover pc s.fdes in
-    let claim = first_claim pc refused in
-    sym e ∙ no_claim_none o claim (e ∙ sym (answer_by stand pc s refused o claim are refl refl))
+    subst (λ (k : FdeAnswer FdeRecord). ClaimAnswers k o (unless_before claim o)) (answer_by stand pc s refused o claim are refl refl) (nearest_claims o claim)

@@ -3,7 +3,7 @@ use Rattle.std.specs.Prelude.{ℕ, List, [], ◌∷◌, length, drop, nat_lt, Op
 use Rattle.std.specs.Prelude.{if◌then◌else◌}
 use Rattle.eh_bytes.specs.CursorData.{CursorData}
 use Rattle.frame_parse.specs.Entries.{FdeRecord}
-use Rattle.frame_parse.specs.Sections.{SectionData}
+use Rattle.frame_parse.specs.Sections.{SectionData, first_cover}
 use Rattle.sound_records.specs.declared.refused.RefusedRecord.{RefusedRecord}
 use Rattle.sound_records.specs.declared.answer.FdeAnswer.{FdeAnswer}
 use Rattle.sound_records.specs.declared.answer.FdeAnswer.TheVariants.{NoFde, Found, Claimed}
@@ -41,6 +41,16 @@ nearest None None = NoFde
 nearest (Some f) None = Found f
 nearest None (Some x) = Claimed x
 nearest (Some f) (Some x) = if nat_lt f.start x.start then Found f else Claimed x
+
+-- the first claim, unless an FDE that covers the address stands before it in the bytes
+abbrev pub unless_before : Option RefusedRecord → Option FdeRecord → Option RefusedRecord
+unless_before None f = None
+unless_before (Some x) None = Some x
+unless_before (Some x) (Some f) = if nat_lt f.start x.start then None else Some x
+
+-- the refused record that answers, of sound FDEs and of those that were refused
+abbrev pub claim_among : ℕ → List FdeRecord → List RefusedRecord → Option RefusedRecord
+claim_among pc fdes refused = unless_before (first_claim pc refused) (first_cover pc fdes)
 
 -- ---- a step of reading
 

@@ -8,7 +8,7 @@ ghost use Rattle.frame_parse.specs.Sections.{fdes_of, first_cover, HasFdes};
 ghost use Rattle.sound_records.specs.declared.answer.FdeAnswer.TheVariants.{Claimed};
 ghost use Rattle.sound_records.specs.Laws.{answer_of};
 ghost use Rattle.sound_records.specs.Items.{answer_at, items_of, refused_in, sound_in};
-ghost use Rattle.sound_records.specs.Sections.{answer_told, sound_section};
+ghost use Rattle.sound_records.specs.Sections.{answer_told, claim_among, sound_section};
 
 use crate::agrees_with_read;
 use crate::answer::FdeAnswer;
@@ -73,6 +73,25 @@ fn records_of(alloc: Global, section: u64, bytes: &[u8]) -> Result<Records, Allo
         fdes,
         refused,
     })
+}
+
+/// The refused record that answers.
+fn claim_among(section: &Section, refused: &[RefusedRecord], pc: u64) -> Option<RefusedRecord>
+    ensures { result ≡ claim_among pc section.now.fdes refused.now }
+{
+    match first_claim(refused, pc) {
+        None => None,
+        Some(record) => match section.fde_at(pc) {
+            None => Some(record),
+            Some(fde) => {
+                if fde.place() < record.start {
+                    None
+                } else {
+                    Some(record)
+                }
+            }
+        },
+    }
 }
 
 /// A section of its sound records, and the records that were refused.
@@ -165,9 +184,13 @@ impl SoundSection {
             }
         }
     }
+
     /// The refused record that claims an address before any FDE that covers it. Where there is none
-    /// the section of the sound records answers, and so do its rows and steps.
+    /// the section of the sound records answers, and so do its rows and steps. Where no record is
+    /// refused, that is one test.
+    #[inline(always)]
     pub fn claim_at(&self, pc: u64) -> Option<RefusedRecord>
+        ensures claim { result ≡ claim_among pc self.now.section.fdes self.now.refused }
         ensures claimed { IfSome result (λ x. answer_at pc
             (items_of self.now.section.address self.now.section.bytes) ≡ Claimed x) }
         ensures none { IfNone result (answer_at pc
@@ -175,11 +198,6 @@ impl SoundSection {
             ≡ answer_of (first_cover pc self.now.section.fdes)) }
     {
         records_stand();
-        let _ = &self.section;
-        match self.fde_at(pc) {
-            FdeAnswer::Claimed(found) => Some(found),
-            FdeAnswer::Found(_) => None,
-            FdeAnswer::NoFde => None,
-        }
+        claim_among(&self.section, &self.refused, pc)
     }
 }
