@@ -27,6 +27,19 @@ static enum outcome read_one(void) {
   return DONE;
 }
 
+static enum outcome read_sound_one(void) {
+  frames_section out = {0};
+  frames_refusal refusal = {99, 99, 99, 99};
+  frames_refused told = {.count = 99};
+  if (!frames_c_read_sound(0x2000, section_bytes, 60, &refusal, &told, &out)) {
+    CHECK(refusal.kind == FRAMES_NO_MEMORY && told.count == 99 && out.at == NULL);
+    return REFUSED;
+  }
+  CHECK(told.count == 1 && told.first.kind == FRAMES_SHORT && frames_c_count(out, &out) == 1);
+  frames_c_free(out);
+  return DONE;
+}
+
 /* A header for which there is no memory changes no answer. */
 static enum outcome read_both(void) {
   frames_section out = {0};
@@ -167,8 +180,9 @@ int main(void) {
   frames_refusal refusal;
   CHECK(frames_c_read(0x2000, section_bytes, 84, &refusal, &section));
   CHECK(frames_c_row_table(section, &table, &section) == FRAMES_ROW_TABLE_MADE);
-  enum outcome (*const calls[])(void) = {read_one,    read_both,    share,        record_one,
-                                         make_table,  share_table,  list_modules, share_modules};
+  enum outcome (*const calls[])(void) = {read_one,    read_sound_one, read_both,    share,
+                                         record_one,  make_table,     share_table,  list_modules,
+                                         share_modules};
   for (size_t i = 0; i < sizeof calls / sizeof *calls; i++) CHECK(each_refused(calls[i]) == DONE);
   frames_c_row_table_free(table);
   frames_c_free(section);

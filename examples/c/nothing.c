@@ -76,6 +76,7 @@ static int readers(void) {
 static int sections(void) {
   frames_section share = {0};
   frames_fde fde;
+  frames_claim claim;
   frames_entry entry;
   frames_row row;
   size_t count;
@@ -83,6 +84,7 @@ static int sections(void) {
   ENDS(frames_c_free(section));
   ENDS(frames_c_count(section, &section));
   ENDS(frames_c_find(section, pc, &fde, &section));
+  ENDS(frames_c_claim(section, pc, &claim, &section));
   ENDS(frames_c_table(section, &entry, 1, &count, &section));
   ENDS(frames_c_row(section, pc, &row, &section));
   ENDS(frames_c_rows(section, &pc, 1, &row, 1, &section));

@@ -112,6 +112,20 @@ bool frames_c_read_with_header(uint64_t address, const uint8_t *bytes, size_t le
                                size_t header_length, frames_refusal *refusal, frames_header *told,
                                frames_section *out) FRAMES_C_NONNULL;
 
+/* How many records are refused, and the first one's refusal, all 0 where none is. */
+typedef struct {
+  uint64_t count;
+  frames_refusal first;
+} frames_refused;
+
+/* Reads the section so that a bad record costs itself alone, and a bad CIE those that lead to it.
+ * What stands behind a record that isn't whole isn't read. True: `out` has the section of the other
+ * records, and `told` what was refused. False: `refusal` says that memory ran out, or that there are
+ * too many bytes. Where nothing is refused, this is the section of frames_c_read. */
+bool frames_c_read_sound(uint64_t address, const uint8_t *bytes, size_t length,
+                         frames_refusal *refusal, frames_refused *told, frames_section *out)
+    FRAMES_C_NONNULL;
+
 /* Another share of the same section, which is freed by itself. False: memory ran out. */
 bool frames_c_share(frames_section section, frames_section *out, frames_section *back)
     FRAMES_C_NONNULL;
@@ -137,9 +151,23 @@ typedef struct {
   uint32_t place;
 } frames_fde;
 
-/* The first FDE in order of bytes that covers an address. False: none does, and `out` is as it
- * was. */
+/* The first FDE in order of bytes that covers an address. False: none does, or a refused record
+ * answers, and `out` is as it was. */
 bool frames_c_find(frames_section section, uint64_t pc, frames_fde *out, frames_section *back)
+    FRAMES_C_NONNULL;
+
+/* A refused record: the addresses that it claims, as an FDE says them by its CIE, and its refusal. */
+typedef struct {
+  uint64_t first;
+  uint64_t range;
+  frames_refusal refusal;
+} frames_claim;
+
+/* The refused record that answers at an address: the first in order of bytes that claims it, where
+ * no FDE that covers it stands before. False: none does, as ever in a section of frames_c_read, and
+ * `out` is as it was. Where one does, no FDE has a row there, and no step is made by another. Of a
+ * refused FDE whose CIE is refused too the addresses aren't known, and it claims none. */
+bool frames_c_claim(frames_section section, uint64_t pc, frames_claim *out, frames_section *back)
     FRAMES_C_NONNULL;
 
 /* The addresses of an FDE, and the place of its first byte. */
@@ -156,7 +184,8 @@ enum frames_table_made {
 };
 
 /* Writes the FDEs that aren't empty in order of their first addresses. Where it is 2, the
- * entries are all there, and are no table. */
+ * entries are all there, and are no table. It has FDEs alone: where records were refused, who
+ * searches it asks frames_c_claim first. */
 uint64_t frames_c_table(frames_section section, frames_entry *entries, size_t room, size_t *count,
                         frames_section *back) FRAMES_C_NONNULL;
 
@@ -182,7 +211,8 @@ enum frames_cfa {
   FRAMES_CFA_MISSING = 0,    /* no instruction says it                       */
   FRAMES_CFA_OFFSET = 1,     /* the column plus the offset, modulo 2^64      */
   FRAMES_CFA_EXPRESSION = 2, /* the value of an expression                   */
-  FRAMES_CFA_NO_FDE = 3      /* in a batch: no FDE covers the address        */
+  FRAMES_CFA_NO_FDE = 3,     /* in a batch: no FDE covers the address        */
+  FRAMES_CFA_REFUSED = 4     /* in a batch: a refused record answers there   */
 };
 
 enum frames_rule {
@@ -196,7 +226,8 @@ enum frames_rule {
   FRAMES_VAL_EXPRESSION = 7  /* the value of an expression                   */
 };
 
-/* The row of an address. False: no FDE covers it, and `out` is as it was. */
+/* The row of an address. False: no FDE covers it, or a refused record answers, and `out` is as it
+ * was. */
 bool frames_c_row(frames_section section, uint64_t pc, frames_row *out, frames_section *back)
     FRAMES_C_NONNULL;
 
@@ -243,7 +274,8 @@ enum frames_step {
   FRAMES_NO_FDE = 1,     /* no FDE covers the address                               */
   FRAMES_NO_ROW = 2,     /* no rule for the CFA, or none for the return address     */
   FRAMES_OUTERMOST = 3,  /* the return address is undefined: there is none before   */
-  FRAMES_NO_BYTES = 4    /* the eight bytes at `missing` aren't there               */
+  FRAMES_NO_BYTES = 4,   /* the eight bytes at `missing` aren't there               */
+  FRAMES_REFUSED = 5     /* a refused record answers at the address: frames_c_claim */
 };
 
 /* Makes of a frame the one that called it. Where it isn't 0, the registers are as they were. */

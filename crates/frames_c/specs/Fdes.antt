@@ -1,5 +1,5 @@
 -- FDEs, as C is told.
-use Rattle.std.specs.Prelude.{ℕ, Bool, true, false, Option, Some, None}
+use Rattle.std.specs.Prelude.{◌≡◌, ℕ, Bool, true, false, Option, Some, None}
 use Rattle.std.specs.Option.{unwrap_or}
 use Rattle.frame_parse.specs.Entries.{FdeRecord}
 use Rattle.frames_c.specs.declared.find.FramesFde.{FramesFde}
@@ -25,3 +25,8 @@ fde_told f = record {
   signal = flag f.cie.augmentation.signal;
   place = f.start;
 }
+
+-- the FDE that answers, or nothing where none does
+abbrev pub AnswersFde : Option FdeRecord → Bool → FramesFde → FramesFde → Type 0
+AnswersFde (Some f) found old new = (found ≡ true) × (new ≡ fde_told f)
+AnswersFde None found old new = (found ≡ false) × (new ≡ old)

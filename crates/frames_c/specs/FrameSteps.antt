@@ -2,7 +2,8 @@
 use Rattle.std.specs.Prelude.{◌≡◌, ℕ, zero, suc, List, Bool, Option, Some, None, slice_index}
 use Rattle.frame_expr.specs.Regions.{RegionData}
 use Rattle.frame_expr.specs.Registers.{return_address_column}
-use Rattle.frame_parse.specs.Sections.{SectionData, FdeData}
+use Rattle.frame_parse.specs.Sections.{FdeData}
+use Rattle.sound_records.specs.declared.refused.RefusedRecord.{RefusedRecord}
 use Rattle.unwind_step.specs.Backtrace.{fde_in, lookup_address}
 use Rattle.unwind_step.specs.NextFrame.{IsNextFrame}
 use Rattle.unwind_step.specs.declared.frame.AddressKind.{AddressKind}
@@ -10,6 +11,7 @@ use Rattle.unwind_step.specs.declared.frame.AddressKind.TheVariants.{Instruction
 use Rattle.unwind_step.specs.declared.next.Stepped.{Stepped}
 use Rattle.unwind_step.specs.declared.next.Stepped.TheVariants.{Frame, NoRow, Undefined, NoBytes}
 use Rattle.frames_c.specs.Fdes.{flag}
+use Rattle.frames_c.specs.Held.{LoadedData, claim_in}
 use Rattle.frames_c.specs.declared.step.FramesFrame.{FramesFrame}
 
 -- whose address the return address's column has
@@ -23,7 +25,7 @@ frame_look frame =
     lookup_address (address_told frame.at_instruction)
     (slice_index frame.columns return_address_column)
 
--- what came of it; 1 is for an address that no FDE covers
+-- what came of it; 1 is for an address that no FDE covers, 5 for a claim
 abbrev pub outcome_told : Stepped → ℕ
 outcome_told (Frame regs) = 0
 outcome_told NoRow = 2
@@ -46,7 +48,14 @@ AnswersOutcome (Some f) memory old result new =
     × (result ≡ outcome_told outcome)
     × (new ≡ frame_after f.entry.cie.augmentation.signal outcome old)
 
+-- 5: a refused record answers, and then the frame stays
+abbrev pub AnswersUnless : Option RefusedRecord → Option FdeData → List RegionData → FramesFrame
+    → ℕ → FramesFrame → Type 0
+AnswersUnless (Some x) found memory old result new = (result ≡ 5) × (new ≡ old)
+AnswersUnless None found memory old result new = AnswersOutcome found memory old result new
+
 -- what the section and the memory make of a frame
-abbrev pub AnswersStep : SectionData → List RegionData → FramesFrame → ℕ → FramesFrame → Type 0
-AnswersStep section memory old result new =
-    AnswersOutcome (fde_in (frame_look old) section) memory old result new
+abbrev pub AnswersStep : LoadedData → List RegionData → FramesFrame → ℕ → FramesFrame → Type 0
+AnswersStep l memory old result new =
+    AnswersUnless (claim_in (frame_look old) l) (fde_in (frame_look old) l.section) memory old
+    result new

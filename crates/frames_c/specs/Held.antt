@@ -1,12 +1,16 @@
 -- What a handle leads to.
-use Rattle.std.specs.Prelude.{◌≡◌, List, Option, Some, None, []}
-use Rattle.std.specs.Option.{option_map, unwrap_or}
+use Rattle.std.specs.Prelude.{◌≡◌, ℕ, List, Option, Some, None, []}
+use Rattle.std.specs.Option.{unwrap_or}
 use Rattle.eh_hdr.specs.declared.table.TableEntry.{TableEntry}
 use Rattle.frame_parse.specs.Sections.{SectionData}
+use Rattle.sound_records.specs.declared.refused.RefusedRecord.{RefusedRecord}
+use Rattle.sound_records.specs.Sections.{claim_among}
 
--- a section, and what its header has for a table, where it was read with a header that was accepted
+-- a section of sound records, those that were refused in order of bytes, and what its header has
+-- for a table, where it was read with a header that was accepted
 pub record LoadedData : Type 0 where
   pub section : SectionData
+  pub refused : List RefusedRecord
   pub table : Option (Option (List TableEntry))
 
 -- it leads to something, or to nothing
@@ -16,13 +20,22 @@ IsHeld {A} held = (x : A) × (held ≡ Some x)
 abbrev pub IsVacant : {A : Type 0} → Option A → Type 0
 IsVacant held = held ≡ None
 
--- the section whose rows a row table has
-abbrev pub section_of_rows : Option SectionData → SectionData
-section_of_rows held = unwrap_or held (record { address = 0; bytes = []; fdes = [] })
-
--- the section to which a handle leads
-abbrev pub loaded_section : Option LoadedData → Option SectionData
-loaded_section held = option_map (λ l. l.section) held
+-- that to which a handle of a section leads, or of its row table
+abbrev pub held_loaded : Option LoadedData → LoadedData
+held_loaded held = unwrap_or held (record {
+  section = record { address = 0; bytes = []; fdes = [] };
+  refused = [];
+  table = None;
+})
 
 abbrev pub held_section : Option LoadedData → SectionData
-held_section held = section_of_rows (loaded_section held)
+held_section held = (held_loaded held).section
+
+-- the refused record that answers at an address; of a section in which none was refused, none does
+abbrev pub claim_in : ℕ → LoadedData → Option RefusedRecord
+claim_in pc l = claim_among pc l.section.fdes l.refused
+
+-- what is there, unless a refused record answers
+abbrev pub unless_claimed : {A B : Type 0} → Option A → Option B → Option B
+unless_claimed None x = x
+unless_claimed (Some c) x = None

@@ -10,4 +10,5 @@ pub mod Batches
 pub mod HeaderAnswers
 pub mod RowTables
 pub mod CallSiteTables
+pub mod Claims
 pub mod StackLines

@@ -1,5 +1,5 @@
 -- What reading leaves: a handle of the section.
-use Rattle.std.specs.Prelude.{◌≡◌, ℕ, List, Option, Some, None}
+use Rattle.std.specs.Prelude.{◌≡◌, ℕ, List, Option, Some, None, []}
 use Rattle.c_sections.specs.Loads.{IsLoaded}
 use Rattle.frames_c.specs.Held.{LoadedData}
 
@@ -7,6 +7,10 @@ use Rattle.frames_c.specs.Held.{LoadedData}
 abbrev pub LeadsToLoaded : ℕ → List ℕ → Option LoadedData → Type 0
 LeadsToLoaded address bytes held =
     (loaded : LoadedData) × (held ≡ Some loaded) × IsLoaded address bytes loaded.section
+
+-- nothing was refused in it
+abbrev pub HasNothingRefused : Option LoadedData → Type 0
+HasNothingRefused held = (loaded : LoadedData) × (held ≡ Some loaded) × (loaded.refused ≡ [])
 
 -- no table of a header is kept beside it
 abbrev pub HasNoTable : Option LoadedData → Type 0

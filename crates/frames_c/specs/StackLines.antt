@@ -23,7 +23,7 @@ use Rattle.frames_c.specs.declared.step.FramesFrame.{FramesFrame}
 -- the section whose frames a module's share tells
 abbrev pub module_section : ModuleRows → SectionData
 module_section (Section loaded) = loaded.section
-module_section (Table section) = section
+module_section (Table loaded) = loaded.section
 
 -- the modules to which a handle leads
 abbrev pub modules_in : Option (List ModuleData) → List ModuleData

@@ -3,12 +3,13 @@
 ghost use Rattle.std.specs.Prelude.{◌≡◌, None};
 ghost use Rattle.frame_expr.specs.Regions.{word_at};
 ghost use Rattle.told_memory.specs.Telling.{told_regions};
-ghost use Rattle.frames_c.specs.Held.{IsHeld, IsVacant, held_section, section_of_rows};
+ghost use Rattle.frames_c.specs.Held.{IsHeld, IsVacant, held_loaded};
 ghost use Rattle.frames_c.specs.FrameSteps.{AnswersStep};
 ghost use Rattle.frames_c.specs.AskedSteps.{ServesMemory, told_in};
 
 use crate::handle::SectionHandle;
 use crate::row_handle::RowTableHandle;
+use crate::share::LoadedSection;
 use crate::step::{FramesFrame, step_by};
 use frame_expr::Lent;
 use std::alloc::Global;
@@ -17,16 +18,20 @@ use told_memory::{ToldMemory, ToldWord};
 use unwind_step::RowSource;
 
 /// Makes of a frame the one before it by what was told of a memory, or asks for a word.
-fn step_told<S: RowSource>(source: &S, told: &ToldMemory<'_>, frame: &mut FramesFrame) -> u64
-    ensures step { AnswersStep (S.section source.now) (told_in told.now) frame.old result
-        frame.new }
-    ensures serves { ServesMemory (S.section source.now) (told_in told.now) frame.old result
-        frame.new }
+fn step_told<S: RowSource>(
+    section: &LoadedSection,
+    source: &S,
+    told: &ToldMemory<'_>,
+    frame: &mut FramesFrame,
+) -> u64
+    requires { S.section source.now ≡ section.now.section }
+    ensures step { AnswersStep section.now (told_in told.now) frame.old result frame.new }
+    ensures serves { ServesMemory section.now (told_in told.now) frame.old result frame.new }
     ensures anew { result ≡ 4 → word_at frame.new.missing (told_in told.now) ≡ None }
 {
     told_words_serve();
     asks_anew();
-    step_by(source, told, frame)
+    step_by(section, source, told, frame)
 }
 
 /// Makes of a frame the one before it, as `frames_c_step` does, by what was told of a memory: bytes
@@ -46,9 +51,9 @@ pub extern "C" fn frames_c_step_asking(
     requires held { IsHeld section.held }
     requires back { IsVacant back.old.held }
     ensures back { back.new.held ≡ section.held }
-    ensures step { AnswersStep (held_section section.held)
+    ensures step { AnswersStep (held_loaded section.held)
         (told_regions address stack.now words.now) frame.old result frame.new }
-    ensures serves { ServesMemory (held_section section.held)
+    ensures serves { ServesMemory (held_loaded section.held)
         (told_regions address stack.now words.now) frame.old result frame.new }
     ensures anew { result ≡ 4
         → word_at frame.new.missing (told_regions address stack.now words.now) ≡ None }
@@ -58,7 +63,8 @@ pub extern "C" fn frames_c_step_asking(
         address,
         bytes: stack,
     };
-    let outcome = step_told(share.loaded(), &ToldMemory { lent, words }, frame);
+    let told = ToldMemory { lent, words };
+    let outcome = step_told(share.loaded(), share.loaded(), &told, frame);
     *back = SectionHandle::of(share);
     outcome
 }
@@ -77,9 +83,9 @@ pub extern "C" fn frames_c_row_table_step_asking(
     requires held { IsHeld table.held }
     requires back { IsVacant back.old.held }
     ensures back { back.new.held ≡ table.held }
-    ensures step { AnswersStep (section_of_rows table.held)
+    ensures step { AnswersStep (held_loaded table.held)
         (told_regions address stack.now words.now) frame.old result frame.new }
-    ensures serves { ServesMemory (section_of_rows table.held)
+    ensures serves { ServesMemory (held_loaded table.held)
         (told_regions address stack.now words.now) frame.old result frame.new }
     ensures anew { result ≡ 4
         → word_at frame.new.missing (told_regions address stack.now words.now) ≡ None }
@@ -89,7 +95,8 @@ pub extern "C" fn frames_c_row_table_step_asking(
         address,
         bytes: stack,
     };
-    let outcome = step_told(&share.rows(), &ToldMemory { lent, words }, frame);
+    let told = ToldMemory { lent, words };
+    let outcome = step_told(share.loaded(), &share.rows(), &told, frame);
     *back = RowTableHandle::of(share);
     outcome
 }

@@ -1,11 +1,11 @@
 //! The rows of many addresses at once.
 
 ghost use Rattle.std.specs.Prelude.{◌≡◌, length};
-ghost use Rattle.frames_c.specs.Held.{IsHeld, IsVacant, held_section};
+ghost use Rattle.frames_c.specs.Held.{IsHeld, IsVacant, held_loaded};
 ghost use Rattle.frames_c.specs.Batches.{IsBatchRow, AreRowsBelow, AnswersRows};
 
 use crate::handle::SectionHandle;
-use crate::row::{FramesRow, row_in};
+use crate::row::{FramesRow, row_by_fde};
 use crate::share::LoadedSection;
 use std::alloc::Global;
 
@@ -18,19 +18,33 @@ const NO_ROW: FramesRow = FramesRow {
     numbers: [0; 17],
 };
 
-/// Writes the row of an address, or that no FDE covers it.
+/// The row of an address at which a refused record answers, in a batch.
+const REFUSED_ROW: FramesRow = FramesRow {
+    cfa: 4,
+    cfa_column: 0,
+    cfa_offset: 0,
+    rules: [0; 17],
+    numbers: [0; 17],
+};
+
+/// Writes the row of an address, or why there is none.
 fn write_row(section: &LoadedSection, pc: u64, out: &mut FramesRow)
-    ensures { IsBatchRow section.now.section pc out.new }
+    ensures { IsBatchRow section.now pc out.new }
 {
-    if !row_in(section, pc, out) {
-        *out = NO_ROW;
+    match section.claim_at(pc) {
+        Some(_) => *out = REFUSED_ROW,
+        None => {
+            if !row_by_fde(section, pc, out) {
+                *out = NO_ROW;
+            }
+        }
     }
 }
 
 /// Writes the row of each address in its place.
 fn write_rows(section: &LoadedSection, pcs: &[u64], rows: &mut [FramesRow])
     requires { length rows.old ≡ length pcs.now }
-    ensures rows { AreRowsBelow (length pcs.now) section.now.section pcs.now rows.new }
+    ensures rows { AreRowsBelow (length pcs.now) section.now pcs.now rows.new }
     ensures length { length rows.new ≡ length pcs.now }
 {
     for index in 0..pcs.len() {
@@ -39,7 +53,8 @@ fn write_rows(section: &LoadedSection, pcs: &[u64], rows: &mut [FramesRow])
 }
 
 /// The rows of many addresses, each in the place of its address. One that no FDE covers has a CFA
-/// rule of kind 3. False where there aren't as many rows as addresses, and then nothing is written.
+/// rule of kind 3, and one at which a refused record answers of kind 4. False where there aren't as
+/// many rows as addresses, and then nothing is written.
 #[unsafe(no_mangle)]
 pub extern "C" fn frames_c_rows(
     alloc: Global,
@@ -51,7 +66,7 @@ pub extern "C" fn frames_c_rows(
     requires held { IsHeld section.held }
     requires back { IsVacant back.old.held }
     ensures back { back.new.held ≡ section.held }
-    ensures rows { AnswersRows (held_section section.held) pcs.now rows.old result rows.new }
+    ensures rows { AnswersRows (held_loaded section.held) pcs.now rows.old result rows.new }
 {
     let fits = rows.len() == pcs.len();
     let share = section.open(alloc);

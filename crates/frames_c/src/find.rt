@@ -1,10 +1,10 @@
 //! The FDE of an address.
 
 ghost use Rattle.std.specs.Prelude.{◌≡◌, ◌<◌, ◌^◌};
-ghost use Rattle.std.specs.Option.{option_map, unwrap_or};
 ghost use Rattle.frame_parse.specs.Sections.{first_cover};
-ghost use Rattle.frames_c.specs.Held.{IsHeld, IsVacant, held_section};
-ghost use Rattle.frames_c.specs.Fdes.{fde_told, flag, is_there};
+ghost use Rattle.frames_c.specs.Held.{IsHeld, IsVacant, claim_in, held_loaded, held_section};
+ghost use Rattle.frames_c.specs.Held.{unless_claimed};
+ghost use Rattle.frames_c.specs.Fdes.{fde_told, flag, AnswersFde};
 
 use crate::handle::SectionHandle;
 use crate::share::LoadedSection;
@@ -52,10 +52,8 @@ fn flag(holds: bool) -> u8
 }
 
 /// Writes the FDE of an address, where there is one.
-fn find(section: &LoadedSection, pc: u64, out: &mut FramesFde) -> bool
-    ensures found { result ≡ is_there (first_cover pc section.now.section.fdes) }
-    ensures fde { out.new
-        ≡ unwrap_or (option_map fde_told (first_cover pc section.now.section.fdes)) out.old }
+fn find_fde(section: &LoadedSection, pc: u64, out: &mut FramesFde) -> bool
+    ensures { AnswersFde (first_cover pc section.now.section.fdes) result out.old out.new }
 {
     match section.fde_at(pc) {
         None => false,
@@ -66,8 +64,19 @@ fn find(section: &LoadedSection, pc: u64, out: &mut FramesFde) -> bool
     }
 }
 
-/// The first FDE in order of bytes that covers an address; false where none does, and then nothing
-/// is written.
+/// The same, unless a refused record answers.
+fn find(section: &LoadedSection, pc: u64, out: &mut FramesFde) -> bool
+    ensures { AnswersFde (unless_claimed (claim_in pc section.now)
+        (first_cover pc section.now.section.fdes)) result out.old out.new }
+{
+    match section.claim_at(pc) {
+        Some(_) => false,
+        None => find_fde(section, pc, out),
+    }
+}
+
+/// The first FDE in order of bytes that covers an address; false where none does, or a refused
+/// record answers, and then nothing is written.
 #[unsafe(no_mangle)]
 pub extern "C" fn frames_c_find(
     alloc: Global,
@@ -79,9 +88,8 @@ pub extern "C" fn frames_c_find(
     requires held { IsHeld section.held }
     requires back { IsVacant back.old.held }
     ensures back { back.new.held ≡ section.held }
-    ensures found { result ≡ is_there (first_cover pc (held_section section.held).fdes) }
-    ensures fde { out.new ≡ unwrap_or
-        (option_map fde_told (first_cover pc (held_section section.held).fdes)) out.old }
+    ensures fde { AnswersFde (unless_claimed (claim_in pc (held_loaded section.held))
+        (first_cover pc (held_section section.held).fdes)) result out.old out.new }
 {
     let share = section.open(alloc);
     let found = find(share.loaded(), pc, out);

@@ -1,12 +1,13 @@
 //! A section with its header is read in one call.
 
-ghost use Rattle.std.specs.Prelude.{◌≡◌, ◌⊎◌, ◌<◌, ◌^◌, length, true, false, IfOk, IfErr};
+ghost use Rattle.std.specs.Prelude.{◌≡◌, ◌⊎◌, ◌<◌, ◌^◌, [], length, true, false, IfOk, IfErr};
 ghost use Rattle.c_sections.specs.Refusals.{IsToldRefusal};
 ghost use Rattle.eh_hdr.specs.Headers.{IsHeader, IsRefusedHeader};
 ghost use Rattle.eh_hdr.specs.Tables.{IsSortedTable};
 ghost use Rattle.eh_hdr.specs.declared.fault.HeaderFault.TheVariants.{NoMemory};
+ghost use Rattle.frame_parse.specs.Sections.{HasFdes};
 ghost use Rattle.frames_c.specs.Held.{IsVacant};
-ghost use Rattle.frames_c.specs.Loads.{LeadsToLoaded};
+ghost use Rattle.frames_c.specs.Loads.{LeadsToLoaded, HasNothingRefused};
 ghost use Rattle.frames_c.specs.HeaderAnswers.{header_refused, IsHeaderTold, LeadsWithHeader};
 
 use crate::handle::SectionHandle;
@@ -75,8 +76,10 @@ fn with_table(
     address: u64,
     bytes: &[u8],
 ) -> (LoadedSection, FramesHeader)
-    requires { length section.bytes < 2 ^ 32 }
+    requires read { HasFdes section.address section.bytes section.fdes }
+    requires short { length section.bytes < 2 ^ 32 }
     ensures section { result.0.section ≡ section }
+    ensures sound { result.0.refused ≡ [] }
     ensures told { IsHeaderTold address result.0 bytes.now result.1 }
 {
     match read_table(alloc, address, bytes, &section) {
@@ -86,11 +89,11 @@ fn with_table(
                 kind: 0,
                 at: 0,
             };
-            (LoadedSection::new(section, Some(table)), told)
+            (LoadedSection::strict(alloc, section, Some(table)), told)
         }
         Err(fault) => {
             let told = FramesHeader::refused(fault);
-            (LoadedSection::new(section, None), told)
+            (LoadedSection::strict(alloc, section, None), told)
         }
     }
 }
@@ -111,6 +114,7 @@ pub extern "C" fn frames_c_read_with_header(
 ) -> bool
     requires out { IsVacant out.old.held }
     ensures section { result ≡ true → LeadsToLoaded address bytes.now out.new.held }
+    ensures sound { result ≡ true → HasNothingRefused out.new.held }
     ensures header { result ≡ true
         → LeadsWithHeader header_address header.now out.new.held told.new }
     ensures unrefused { result ≡ true → refusal.new ≡ refusal.old }

@@ -1,12 +1,12 @@
 //! Sections are read, shared and freed.
 
-ghost use Rattle.std.specs.Prelude.{◌≡◌, true, false, length, None, IfOk, IfErr, IfSome};
+ghost use Rattle.std.specs.Prelude.{◌≡◌, [], true, false, length, None, IfOk, IfErr, IfSome};
 ghost use Rattle.frame_parse.specs.declared.fault.FrameFault.TheVariants.{NoMemory};
 ghost use Rattle.c_sections.specs.declared.refusal.LoadFault.TheVariants.{Frames};
 ghost use Rattle.c_sections.specs.Loads.{IsLoaded};
 ghost use Rattle.c_sections.specs.Refusals.{IsLoadFault, IsToldRefusal};
 ghost use Rattle.frames_c.specs.Held.{IsHeld, IsVacant, held_section};
-ghost use Rattle.frames_c.specs.Loads.{LeadsToLoaded, HasNoTable};
+ghost use Rattle.frames_c.specs.Loads.{LeadsToLoaded, HasNothingRefused, HasNoTable};
 
 use crate::handle::SectionHandle;
 use crate::share::{LoadedSection, SectionShare};
@@ -34,11 +34,12 @@ pub(crate) fn shared(
 
 fn load(alloc: Global, address: u64, bytes: &[u8]) -> Result<Box<SectionShare, Global>, LoadFault>
     ensures loaded { IfOk result (λ share. IsLoaded address bytes.now share.value.section) }
+    ensures sound { IfOk result (λ share. share.value.refused ≡ []) }
     ensures table { IfOk result (λ share. share.value.table ≡ None) }
     ensures fault { IfErr result (IsLoadFault address bytes.now) }
 {
     let section = read_section(alloc, address, bytes)?;
-    shared(alloc, LoadedSection::new(section, None))
+    shared(alloc, LoadedSection::strict(alloc, section, None))
 }
 
 /// Reads the section whose bytes stand at an address. The bytes are copied.
@@ -52,6 +53,7 @@ pub extern "C" fn frames_c_read(
 ) -> bool
     requires out { IsVacant out.old.held }
     ensures section { result ≡ true → LeadsToLoaded address bytes.now out.new.held }
+    ensures sound { result ≡ true → HasNothingRefused out.new.held }
     ensures table { result ≡ true → HasNoTable out.new.held }
     ensures unrefused { result ≡ true → refusal.new ≡ refusal.old }
     ensures refusal { result ≡ false → IsToldRefusal address bytes.now refusal.new }

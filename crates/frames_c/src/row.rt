@@ -2,7 +2,8 @@
 
 ghost use Rattle.std.specs.Prelude.{◌≡◌, length, true, false};
 ghost use Rattle.unwind_step.specs.Backtrace.{fde_in};
-ghost use Rattle.frames_c.specs.Held.{IsHeld, IsVacant, held_section};
+ghost use Rattle.frames_c.specs.Held.{IsHeld, IsVacant, claim_in, held_loaded, held_section};
+ghost use Rattle.frames_c.specs.Held.{unless_claimed};
 ghost use Rattle.frames_c.specs.Rows.{rule_kind, rule_number, cfa_rule_kind, cfa_rule_column};
 ghost use Rattle.frames_c.specs.Rows.{cfa_rule_offset};
 ghost use Rattle.frames_c.specs.Rows.{AreToldRules, IsToldRow, IsRowOf, AnswersRow};
@@ -91,7 +92,7 @@ fn write_row(fde: &Fde<'_>, pc: u64, out: &mut FramesRow)
 }
 
 /// Writes the row of an address, where an FDE covers it.
-pub(crate) fn row_in(section: &LoadedSection, pc: u64, out: &mut FramesRow) -> bool
+pub(crate) fn row_by_fde(section: &LoadedSection, pc: u64, out: &mut FramesRow) -> bool
     ensures { AnswersRow (fde_in pc section.now.section) pc result out.old out.new }
 {
     match section.fde_at(pc) {
@@ -103,8 +104,19 @@ pub(crate) fn row_in(section: &LoadedSection, pc: u64, out: &mut FramesRow) -> b
     }
 }
 
+/// The same, unless a refused record answers.
+fn row_in(section: &LoadedSection, pc: u64, out: &mut FramesRow) -> bool
+    ensures { AnswersRow (unless_claimed (claim_in pc section.now) (fde_in pc section.now.section))
+        pc result out.old out.new }
+{
+    match section.claim_at(pc) {
+        Some(_) => false,
+        None => row_by_fde(section, pc, out),
+    }
+}
+
 /// The row of an address by the first FDE in order of bytes that covers it; false where none does,
-/// and then nothing is written.
+/// or a refused record answers, and then nothing is written.
 #[unsafe(no_mangle)]
 pub extern "C" fn frames_c_row(
     alloc: Global,
@@ -116,7 +128,8 @@ pub extern "C" fn frames_c_row(
     requires held { IsHeld section.held }
     requires back { IsVacant back.old.held }
     ensures back { back.new.held ≡ section.held }
-    ensures row { AnswersRow (fde_in pc (held_section section.held)) pc result out.old out.new }
+    ensures row { AnswersRow (unless_claimed (claim_in pc (held_loaded section.held))
+        (fde_in pc (held_section section.held))) pc result out.old out.new }
 {
     let share = section.open(alloc);
     let found = row_in(share.loaded(), pc, out);

@@ -3,8 +3,7 @@
 ghost use Rattle.std.specs.Prelude.{◌≡◌, Option, Some};
 ghost use Rattle.std.specs.Coded.{coded_option};
 ghost use Rattle.c_handle.specs.Handles.{handle_owns};
-ghost use Rattle.frame_parse.specs.Sections.{SectionData};
-ghost use Rattle.frames_c.specs.Held.{IsHeld};
+ghost use Rattle.frames_c.specs.Held.{LoadedData, IsHeld};
 ghost use Rattle.frames_c.specs.contracts.row_share.TableShare.{the_row};
 
 use crate::row_share::TableShare;
@@ -18,7 +17,7 @@ use std::marker::{Model, Send};
 #[derive(Drop)]
 pub struct RowTableHandle {
     at: *mut u8,
-    pub ghost held: { Option SectionData } by { coded_option the_row.coded },
+    pub ghost held: { Option LoadedData } by { coded_option the_row.coded },
 }
 
 impl Model for RowTableHandle {

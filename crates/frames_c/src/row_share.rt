@@ -4,10 +4,11 @@ ghost use Rattle.std.specs.Prelude.{◌≡◌, ◌⊎◌, IfOk, IfErr};
 ghost use Rattle.std.specs.List.{AllZip};
 ghost use Rattle.row_table.specs.Tables.{IsRowTableOf, HasTooManyRows};
 ghost use Rattle.unwind_step.specs.Backtrace.{fde_in};
+ghost use Rattle.frames_c.specs.Held.{claim_in, unless_claimed};
 ghost use Rattle.frames_c.specs.Rows.{IsToldPlaced, AnswersRow};
 
 use crate::row::FramesRow;
-use crate::share::SectionShare;
+use crate::share::{LoadedSection, SectionShare};
 use crate::told_rows::told_rows;
 use frame_parse::Section;
 use row_table::{RowTable, SectionRows, TableFault};
@@ -25,13 +26,13 @@ pub struct RowsOfSection {
 
 impl Model for RowsOfSection {
     ghost use Rattle.std.specs.List.{AllZip};
-    ghost use Rattle.frame_parse.specs.Sections.{SectionData};
     ghost use Rattle.row_table.specs.Tables.{IsRowTableOf};
+    ghost use Rattle.frames_c.specs.Held.{LoadedData};
     ghost use Rattle.frames_c.specs.Rows.{IsToldPlaced};
 
-    ghost Value = { SectionData };
+    ghost Value = { LoadedData };
 
-    ghost view = { λ r. r.share.section };
+    ghost view = { λ r. r.share };
 
     ghost invariant = { λ r. IsRowTableOf r.share.section r.table
         × AllZip IsToldPlaced r.table.rows.distinct r.told.items };
@@ -40,7 +41,7 @@ impl Model for RowsOfSection {
 impl RowsOfSection {
     /// Makes the table.
     pub(crate) fn of(alloc: Global, share: SectionShare) -> Result<RowsOfSection, TableFault>
-        ensures rows { IfOk result (λ rows. rows ≡ share.section) }
+        ensures rows { IfOk result (λ rows. rows ≡ share) }
         ensures refused { IfErr result (λ fault. (fault ≡ TableFault.NoMemory)
             ⊎ HasTooManyRows share.section) }
     {
@@ -51,17 +52,27 @@ impl RowsOfSection {
 
     /// The section by its table.
     pub(crate) fn rows(&self) -> SectionRows<'_>
-        ensures { result ≡ self.now }
+        ensures { result ≡ self.now.section }
     {
         SectionRows::new(self.share.loaded().section(), &self.table)
     }
 
-    /// Writes the row of an address, where an FDE covers it.
+    /// Writes the row of an address, where an FDE answers.
     pub(crate) fn row_in(&self, pc: u64, out: &mut FramesRow) -> bool
-        ensures { AnswersRow (fde_in pc self.now) pc result out.old out.new }
+        ensures { AnswersRow (unless_claimed (claim_in pc self.now) (fde_in pc self.now.section))
+            pc result out.old out.new }
     {
-        let section = self.share.loaded().section();
-        copy_row(section, &self.table, &self.told, pc, out)
+        let loaded = self.share.loaded();
+        match loaded.claim_at(pc) {
+            Some(_) => false,
+            None => copy_row(loaded.section(), &self.table, &self.told, pc, out),
+        }
+    }
+
+    pub(crate) fn loaded(&self) -> &LoadedSection
+        ensures { result.now ≡ self.now }
+    {
+        self.share.loaded()
     }
 }
 
@@ -94,9 +105,9 @@ pub struct TableShare {
 
 impl Model for TableShare {
     ghost use Rattle.std.specs.Arc.{arc_value};
-    ghost use Rattle.frame_parse.specs.Sections.{SectionData};
+    ghost use Rattle.frames_c.specs.Held.{LoadedData};
 
-    ghost Value = { SectionData };
+    ghost Value = { LoadedData };
 
     ghost view = { λ s. arc_value s.rows };
 }
@@ -121,14 +132,21 @@ impl TableShare {
     }
 
     pub(crate) fn rows(&self) -> SectionRows<'_>
-        ensures { result ≡ self.now }
+        ensures { result ≡ self.now.section }
     {
         self.rows.rows()
     }
 
-    /// Writes the row of an address, where an FDE covers it.
+    pub(crate) fn loaded(&self) -> &LoadedSection
+        ensures { result.now ≡ self.now }
+    {
+        self.rows.loaded()
+    }
+
+    /// Writes the row of an address, where an FDE answers.
     pub(crate) fn row_in(&self, pc: u64, out: &mut FramesRow) -> bool
-        ensures { AnswersRow (fde_in pc self.now) pc result out.old out.new }
+        ensures { AnswersRow (unless_claimed (claim_in pc self.now) (fde_in pc self.now.section))
+            pc result out.old out.new }
     {
         self.rows.row_in(pc, out)
     }

@@ -3,7 +3,8 @@
 ghost use Rattle.std.specs.Prelude.{◌≡◌, ◌⊎◌, true, false, IfOk, IfErr, IfSome, [], ◌∷◌};
 ghost use Rattle.row_table.specs.Tables.{HasTooManyRows};
 ghost use Rattle.unwind_step.specs.Backtrace.{fde_in};
-ghost use Rattle.frames_c.specs.Held.{IsHeld, IsVacant, section_of_rows};
+ghost use Rattle.frames_c.specs.Held.{IsHeld, IsVacant, claim_in, held_loaded, held_section};
+ghost use Rattle.frames_c.specs.Held.{unless_claimed};
 ghost use Rattle.frames_c.specs.Recorded.{IsRecorded, HasNone, recorded_in};
 ghost use Rattle.frames_c.specs.FrameSteps.{AnswersStep};
 ghost use Rattle.frames_c.specs.Rows.{AnswersRow};
@@ -22,7 +23,7 @@ use std::alloc::Global;
 
 /// The first share of a section's row table, in a box of its own.
 fn made(alloc: Global, share: &SectionShare) -> Result<Box<TableShare, Global>, TableFault>
-    ensures share { IfOk result (λ table. table.value ≡ share.now.section) }
+    ensures share { IfOk result (λ table. table.value ≡ share.now) }
     ensures refused { IfErr result (λ fault. (fault ≡ TableFault.NoMemory)
         ⊎ HasTooManyRows share.now.section) }
 {
@@ -127,7 +128,8 @@ pub extern "C" fn frames_c_row_table_row(
     requires held { IsHeld table.held }
     requires back { IsVacant back.old.held }
     ensures back { back.new.held ≡ table.held }
-    ensures row { AnswersRow (fde_in pc (section_of_rows table.held)) pc result out.old out.new }
+    ensures row { AnswersRow (unless_claimed (claim_in pc (held_loaded table.held))
+        (fde_in pc (held_section table.held))) pc result out.old out.new }
 {
     let share = table.open(alloc);
     let found = share.row_in(pc, out);
@@ -151,12 +153,12 @@ pub extern "C" fn frames_c_row_table_step(
     requires memory_back { HasNone memory_back.old.held }
     ensures back { back.new.held ≡ table.held }
     ensures memory_back { memory_back.new.held ≡ memory.held }
-    ensures step { AnswersStep (section_of_rows table.held) (recorded_in memory.held)
+    ensures step { AnswersStep (held_loaded table.held) (recorded_in memory.held)
         frame.old result frame.new }
 {
     let share = table.open(alloc);
     let recorded = memory.open(alloc);
-    let outcome = step_by(&share.rows(), &*recorded, frame);
+    let outcome = step_by(share.loaded(), &share.rows(), &*recorded, frame);
     *memory_back = MemoryHandle::of(recorded);
     *back = RowTableHandle::of(share);
     outcome
@@ -175,7 +177,7 @@ pub extern "C" fn frames_c_row_table_step_lent(
     requires held { IsHeld table.held }
     requires back { IsVacant back.old.held }
     ensures back { back.new.held ≡ table.held }
-    ensures step { AnswersStep (section_of_rows table.held)
+    ensures step { AnswersStep (held_loaded table.held)
         (record { address = address; bytes = stack.now } ∷ []) frame.old result frame.new }
 {
     let share = table.open(alloc);
@@ -183,7 +185,7 @@ pub extern "C" fn frames_c_row_table_step_lent(
         address,
         bytes: stack,
     };
-    let outcome = step_by(&share.rows(), &lent, frame);
+    let outcome = step_by(share.loaded(), &share.rows(), &lent, frame);
     *back = RowTableHandle::of(share);
     outcome
 }

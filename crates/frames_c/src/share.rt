@@ -1,23 +1,25 @@
 //! What the handle of a section leads to.
 
-ghost use Rattle.std.specs.Prelude.{◌≡◌, ◌<◌, ◌^◌, IfOk, IfSome, length};
+ghost use Rattle.std.specs.Prelude.{◌≡◌, ◌<◌, ◌^◌, [], IfOk, IfSome, length};
 ghost use Rattle.std.specs.Option.{option_map};
 ghost use Rattle.eh_hdr.specs.Tables.{IsSortedTable};
-ghost use Rattle.frame_parse.specs.Sections.{first_cover};
+ghost use Rattle.frame_parse.specs.Sections.{first_cover, HasFdes};
+ghost use Rattle.frames_c.specs.Held.{claim_in};
 
 use eh_hdr::SearchTable;
 use frame_parse::{Fde, Section};
 use frame_rows::row_at;
+use sound_records::{RefusedRecord, SoundSection};
 use std::alloc::{AllocError, Global};
 use std::marker::Model;
 use std::sync::Arc;
 use unwind_step::{FdeRow, RowSource};
 
-/// A section whose places are numbers of four bytes, and the table of its header, where it was read
-/// with one.
+/// A section whose places are numbers of four bytes, the records that are refused in it, and the
+/// table of its header, where it was read with one.
 #[derive(Drop)]
 pub struct LoadedSection {
-    section: Section,
+    sound: SoundSection,
     table: Option<SearchTable>,
 }
 
@@ -28,25 +30,62 @@ impl Model for LoadedSection {
 
     ghost Value = { LoadedData };
 
-    ghost view = { λ l. record { section = l.section; table = l.table } };
+    ghost view = { λ l. record {
+      section = l.sound.section;
+      refused = l.sound.refused;
+      table = l.table;
+    } };
 
-    ghost invariant = { λ l. (length l.section.bytes < 2 ^ 32)
-        × IfSome l.table (IsSortedTable l.section.fdes) };
+    ghost invariant = { λ l. (length l.sound.section.bytes < 2 ^ 32)
+        × IfSome l.table (IsSortedTable l.sound.section.fdes) };
 }
 
 impl LoadedSection {
-    pub(crate) fn new(section: Section, table: Option<SearchTable>) -> LoadedSection
+    pub(crate) fn new(sound: SoundSection, table: Option<SearchTable>) -> LoadedSection
+        requires short { length sound.section.bytes < 2 ^ 32 }
+        requires table { IfSome table (IsSortedTable sound.section.fdes) }
+        ensures { result ≡ record {
+          section = sound.section;
+          refused = sound.refused;
+          table = table;
+        } }
+    {
+        LoadedSection { sound, table }
+    }
+
+    /// A section in which nothing is refused.
+    pub(crate) fn strict(
+        alloc: Global,
+        section: Section,
+        table: Option<SearchTable>,
+    ) -> LoadedSection
+        requires read { HasFdes section.address section.bytes section.fdes }
         requires short { length section.bytes < 2 ^ 32 }
         requires table { IfSome table (IsSortedTable section.fdes) }
-        ensures { result ≡ record { section = section; table = table } }
+        ensures { result ≡ record { section = section; refused = []; table = table } }
     {
-        LoadedSection { section, table }
+        LoadedSection::new(SoundSection::of_section(alloc, section), table)
     }
 
     pub(crate) fn section(&self) -> &Section
         ensures { result.now ≡ self.now.section }
     {
-        &self.section
+        self.sound.section()
+    }
+
+    /// The records that are refused, in order of bytes.
+    pub(crate) fn refused(&self) -> &[RefusedRecord]
+        ensures { result.now ≡ self.now.refused }
+    {
+        self.sound.refused()
+    }
+
+    /// The refused record that answers at an address. Where there is none the FDEs do.
+    #[inline(always)]
+    pub(crate) fn claim_at(&self, pc: u64) -> Option<RefusedRecord>
+        ensures { result ≡ claim_in pc self.now }
+    {
+        self.sound.claim_at(pc)
     }
 
     /// The first FDE in order of bytes that covers an address, by the table where there is one.
@@ -56,10 +95,11 @@ impl LoadedSection {
             (λ f. (f.section ≡ self.now.section.address) × (f.bytes ≡ self.now.section.bytes)) }
         ensures place { IfSome result (λ f. f.entry.start < 2 ^ 32) }
     {
-        self.section.known();
+        let section = self.sound.section();
+        section.known();
         match &self.table {
-            None => self.section.fde_at(pc),
-            Some(table) => table.fde_at(&self.section, pc),
+            None => section.fde_at(pc),
+            Some(table) => table.fde_at(section, pc),
         }
     }
 }

@@ -1,7 +1,7 @@
 //! One frame of a stack from another.
 
 ghost use Rattle.std.specs.Prelude.{◌≡◌, [], ◌∷◌};
-ghost use Rattle.frames_c.specs.Held.{IsHeld, IsVacant, held_section};
+ghost use Rattle.frames_c.specs.Held.{IsHeld, IsVacant, held_loaded};
 ghost use Rattle.frames_c.specs.Recorded.{IsRecorded, HasNone, recorded_in};
 ghost use Rattle.frames_c.specs.FrameSteps.{frame_look, outcome_told, frame_after, AnswersStep};
 
@@ -60,9 +60,12 @@ impl FramesFrame {
 
 /// Makes of a frame the one before it.
 fn step_in<M: WordSource>(section: &LoadedSection, memory: &M, frame: &mut FramesFrame) -> u64
-    ensures { AnswersStep section.now.section (M.regions memory.now) frame.old result frame.new }
+    ensures { AnswersStep section.now (M.regions memory.now) frame.old result frame.new }
 {
     let look = frame.look();
+    if section.claim_at(look).is_some() {
+        return 5;
+    }
     match section.fde_at(look) {
         None => 1,
         Some(fde) => {
@@ -77,17 +80,22 @@ fn step_in<M: WordSource>(section: &LoadedSection, memory: &M, frame: &mut Frame
 
 /// Makes of a frame the one before it, by what tells the rows of a section.
 pub(crate) fn step_by<S: RowSource, M: WordSource>(
+    section: &LoadedSection,
     source: &S,
     memory: &M,
     frame: &mut FramesFrame,
 ) -> u64
-    ensures { AnswersStep (S.section source.now) (M.regions memory.now) frame.old result
-        frame.new }
+    requires { S.section source.now ≡ section.now.section }
+    ensures { AnswersStep section.now (M.regions memory.now) frame.old result frame.new }
 {
+    let look = frame.look();
+    if section.claim_at(look).is_some() {
+        return 5;
+    }
     let regs = Regs {
         columns: frame.columns,
     };
-    match step_at(source, frame.look(), &regs, memory) {
+    match step_at(source, look, &regs, memory) {
         None => 1,
         Some(found) => frame.take(found.outcome, found.signal),
     }
@@ -95,7 +103,8 @@ pub(crate) fn step_by<S: RowSource, M: WordSource>(
 
 /// Makes of a frame the one before it, by the section and the recorded memory. What came of it: 0
 /// the frame, 1 no FDE covers the address, 2 no row leads to a frame, 3 it was the outermost, 4
-/// bytes were wanted that weren't recorded. The registers change where it is 0 alone.
+/// bytes were wanted that weren't recorded, 5 a refused record answers. The registers change where
+/// it is 0 alone.
 #[unsafe(no_mangle)]
 pub extern "C" fn frames_c_step(
     alloc: Global,
@@ -111,7 +120,7 @@ pub extern "C" fn frames_c_step(
     requires memory_back { HasNone memory_back.old.held }
     ensures back { back.new.held ≡ section.held }
     ensures memory_back { memory_back.new.held ≡ memory.held }
-    ensures step { AnswersStep (held_section section.held) (recorded_in memory.held)
+    ensures step { AnswersStep (held_loaded section.held) (recorded_in memory.held)
         frame.old result frame.new }
 {
     let share = section.open(alloc);
@@ -136,7 +145,7 @@ pub extern "C" fn frames_c_step_lent(
     requires held { IsHeld section.held }
     requires back { IsVacant back.old.held }
     ensures back { back.new.held ≡ section.held }
-    ensures step { AnswersStep (held_section section.held)
+    ensures step { AnswersStep (held_loaded section.held)
         (record { address = address; bytes = stack.now } ∷ []) frame.old result frame.new }
 {
     let share = section.open(alloc);

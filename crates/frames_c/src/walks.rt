@@ -2,7 +2,7 @@
 
 ghost use Rattle.std.specs.Prelude.{◌≡◌, ◌<◌, ◌≤◌, [], ◌∷◌, true, false, Some, length, take, drop};
 ghost use Rattle.std.specs.Prelude.{IfSome};
-ghost use Rattle.frames_c.specs.Held.{IsHeld, IsVacant, held_section, section_of_rows};
+ghost use Rattle.frames_c.specs.Held.{IsHeld, IsVacant, held_section};
 ghost use Rattle.frames_c.specs.StackLines.{AnswersModule, AnswersWalk, frame_given, modules_in};
 ghost use Rattle.frames_c.specs.StackLines.{module_section, missing_after, walk_end_told};
 
@@ -93,7 +93,7 @@ pub extern "C" fn frames_c_modules_add_rows(
     ensures module { AnswersModule (modules_in modules.held) (record {
       first = first;
       size = size;
-      section = section_of_rows table.held;
+      section = held_section table.held;
     }) result (modules_in back.new.held) }
     ensures back { IsHeld back.new.held }
 {
