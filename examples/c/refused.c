@@ -102,6 +102,34 @@ static int steps(frames_section *section) {
   return 0;
 }
 
+/* A walk goes on to the frame that was called there, and ends. */
+static int walks(frames_section *section) {
+  frames_section share = {0};
+  frames_row_table table = {0};
+  frames_modules modules = {0};
+  frames_line lines[4];
+  size_t count = 9;
+  CHECK(frames_c_modules(&modules) && frames_c_share(*section, &share, section));
+  CHECK(frames_c_modules_add(modules, 0x1000, 0x20, share, &modules) == FRAMES_MODULE_ADDED);
+  CHECK(frames_c_row_table(*section, &table, section) == FRAMES_ROW_TABLE_MADE);
+  CHECK(frames_c_modules_add_rows(modules, 0x1020, 0x10, table, &modules) == FRAMES_MODULE_ADDED);
+  frames_frame frame = innermost();
+  CHECK(frames_c_walk(modules, 0x7000, stack, 32, &frame, lines, 4, &count, &modules) ==
+        FRAMES_WALK_REFUSED);
+  CHECK(count == 2 && lines[1].pc == 0x1016 && frame.columns[16] == 0x1016);
+  frames_c_modules_free(modules);
+  modules.at = NULL;
+  CHECK(frames_c_row_table(*section, &table, section) == FRAMES_ROW_TABLE_MADE);
+  CHECK(frames_c_modules(&modules));
+  CHECK(frames_c_modules_add_rows(modules, 0x1000, 0x30, table, &modules) == FRAMES_MODULE_ADDED);
+  frame = innermost();
+  CHECK(frames_c_walk(modules, 0x7000, stack, 32, &frame, lines, 4, &count, &modules) ==
+        FRAMES_WALK_REFUSED);
+  CHECK(count == 2 && lines[1].pc == 0x1016);
+  frames_c_modules_free(modules);
+  return 0;
+}
+
 static int first_refused(void) {
   uint8_t bytes[84];
   overlap(bytes);
@@ -110,7 +138,7 @@ static int first_refused(void) {
   frames_section section = {0};
   CHECK(read_sound(bytes, 84, &told, &section));
   CHECK(is_first(&told, 1, (frames_refusal){FRAMES_OPCODE, 24, 41, 0x3f}));
-  int wrong = lookups(&section) || steps(&section);
+  int wrong = lookups(&section) || steps(&section) || walks(&section);
   frames_c_free(section);
   return wrong;
 }

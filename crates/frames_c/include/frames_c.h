@@ -444,7 +444,8 @@ enum frames_walk_end {
   FRAMES_WALK_NO_ROW = 2,    /* no rule for the CFA, or none for the return address            */
   FRAMES_WALK_OUTERMOST = 3, /* the return address is undefined: there is none before          */
   FRAMES_WALK_NO_BYTES = 4,  /* the eight bytes at `missing` aren't among those that were lent */
-  FRAMES_WALK_NO_MODULE = 5  /* no module has the last frame's address                         */
+  FRAMES_WALK_NO_MODULE = 5, /* no module has the last frame's address                         */
+  FRAMES_WALK_REFUSED = 6    /* a refused record of its module answers there: frames_c_claim   */
 };
 
 /* Walks from a frame to its callers by bytes that are lent, as frames_c_step_lent steps: the first

@@ -2,7 +2,6 @@
 use Rattle.std.specs.Prelude.{◌≡◌, ℕ, zero, suc, ◌≤◌, List, [], ◌∷◌, ◌++◌, map, Option}
 use Rattle.std.specs.Option.{unwrap_or}
 use Rattle.frame_expr.specs.Regions.{RegionData}
-use Rattle.frame_parse.specs.Sections.{SectionData}
 use Rattle.stack_walk.specs.Modules.{ModuleData, IsModuleFault, modules_end}
 use Rattle.stack_walk.specs.StackWalks.{WalksStack}
 use Rattle.stack_walk.specs.declared.list.ModuleFault.{ModuleFault}
@@ -10,9 +9,10 @@ use Rattle.stack_walk.specs.declared.list.ModuleFault.TheVariants.{NotAbove, NoM
 use Rattle.stack_walk.specs.declared.shown.ShownFrame.{ShownFrame}
 use Rattle.stack_walk.specs.declared.shown.WalkEnd.{WalkEnd}
 use Rattle.stack_walk.specs.declared.shown.WalkEnd.TheVariants.{NoModule, NoFde, NoRow, Undefined}
-use Rattle.stack_walk.specs.declared.shown.WalkEnd.TheVariants.{NoBytes, Room}
+use Rattle.stack_walk.specs.declared.shown.WalkEnd.TheVariants.{NoBytes, Refused, Room}
 use Rattle.unwind_step.specs.declared.frame.Frame.{Frame}
 use Rattle.frames_c.specs.FrameSteps.{address_told}
+use Rattle.frames_c.specs.Held.{LoadedData}
 use Rattle.frames_c.specs.declared.lines.FramesLine.{FramesLine}
 use Rattle.frames_c.specs.declared.modules.ModuleRows.{ModuleRows}
 use Rattle.frames_c.specs.declared.modules.ModuleRows.TheVariants.{Section, Table}
@@ -20,10 +20,19 @@ use Rattle.frames_c.specs.declared.step.FramesFrame.{FramesFrame}
 
 -- ---- modules
 
--- the section whose frames a module's share tells
-abbrev pub module_section : ModuleRows → SectionData
-module_section (Section loaded) = loaded.section
-module_section (Table loaded) = loaded.section
+-- the section whose frames a module's share tells, and what was refused in it
+abbrev pub module_loaded : ModuleRows → LoadedData
+module_loaded (Section loaded) = loaded
+module_loaded (Table loaded) = loaded
+
+-- code of a size from an address on, with that
+abbrev pub module_with : ℕ → ℕ → LoadedData → ModuleData
+module_with first size loaded = record {
+  first = first;
+  size = size;
+  section = loaded.section;
+  refused = loaded.refused;
+}
 
 -- the modules to which a handle leads
 abbrev pub modules_in : Option (List ModuleData) → List ModuleData
@@ -61,6 +70,7 @@ walk_end_told NoRow = 2
 walk_end_told Undefined = 3
 walk_end_told (NoBytes a) = 4
 walk_end_told NoModule = 5
+walk_end_told Refused = 6
 
 -- the address at which eight bytes were wanted
 abbrev pub missing_after : WalkEnd → ℕ → ℕ

@@ -3,11 +3,12 @@
 ghost use Rattle.std.specs.Prelude.{◌≡◌, ◌≤◌, ◌++◌, ◌∷◌, [], OnOk, OnErr, IfOk, IfErr};
 ghost use Rattle.stack_walk.specs.Modules.{IsModuleFault, modules_end};
 ghost use Rattle.stack_walk.specs.StackWalks.{GoesUp};
-ghost use Rattle.frames_c.specs.StackLines.{module_section};
+ghost use Rattle.frames_c.specs.StackLines.{module_loaded, module_with};
 
 use crate::row_share::TableShare;
 use crate::share::SectionShare;
 use frame_expr::{Regs, WordSource};
+use sound_records::RefusedRecord;
 use stack_walk::{ModuleFault, Modules, SharedSource, StepSource, WalkEnd, take_step};
 use std::alloc::{AllocError, Global};
 use std::marker::Model;
@@ -21,7 +22,17 @@ pub enum ModuleRows {
 }
 
 impl StepSource for ModuleRows {
-    ghost section = { module_section };
+    ghost section = { λ r. (module_loaded r).section };
+
+    ghost refused = { λ r. (module_loaded r).refused };
+
+    #[inline(always)]
+    fn claim_at(&self, pc: u64) -> Option<RefusedRecord> {
+        match self {
+            ModuleRows::Section { share } => share.loaded().claim_at(pc),
+            ModuleRows::Table { share } => share.loaded().claim_at(pc),
+        }
+    }
 
     fn step_at<M: WordSource>(&self, look: u64, regs: &Regs, memory: &M) -> Option<FoundStep> {
         match self {
@@ -93,11 +104,8 @@ impl LoadedModules {
 
     /// Adds a module above the others.
     pub(crate) fn add(&mut self, first: u64, size: u64, rows: ModuleRows) -> Result<(), ModuleFault>
-        ensures ok { OnOk result (self.new ≡ self.old ++ record {
-          first = first;
-          size = size;
-          section = module_section rows;
-        } ∷ []) }
+        ensures ok { OnOk result
+            (self.new ≡ self.old ++ module_with first size (module_loaded rows) ∷ []) }
         ensures above { OnOk result (modules_end self.old ≤ first) }
         ensures refused { OnErr result (self.new ≡ self.old) }
         ensures fault { IfErr result (IsModuleFault self.old first) }

@@ -2,9 +2,10 @@
 
 ghost use Rattle.std.specs.Prelude.{◌≡◌, ◌<◌, ◌≤◌, [], ◌∷◌, true, false, Some, length, take, drop};
 ghost use Rattle.std.specs.Prelude.{IfSome};
-ghost use Rattle.frames_c.specs.Held.{IsHeld, IsVacant, held_section};
+ghost use Rattle.frames_c.specs.Held.{IsHeld, IsVacant, held_loaded};
 ghost use Rattle.frames_c.specs.StackLines.{AnswersModule, AnswersWalk, frame_given, modules_in};
-ghost use Rattle.frames_c.specs.StackLines.{module_section, missing_after, walk_end_told};
+ghost use Rattle.frames_c.specs.StackLines.{module_loaded, module_with, missing_after};
+ghost use Rattle.frames_c.specs.StackLines.{walk_end_told};
 
 use crate::handle::SectionHandle;
 use crate::lines::{FramesLine, told_address};
@@ -35,11 +36,8 @@ pub extern "C" fn frames_c_modules(alloc: Global, out: &mut ModulesHandle) -> bo
 
 /// What came of a module: 0 that it is added.
 fn add(modules: &mut LoadedModules, first: u64, size: u64, rows: ModuleRows) -> u64
-    ensures { AnswersModule modules.old (record {
-      first = first;
-      size = size;
-      section = module_section rows;
-    }) result modules.new }
+    ensures { AnswersModule modules.old (module_with first size (module_loaded rows)) result
+        modules.new }
 {
     match modules.add(first, size, rows) {
         Ok(()) => 0,
@@ -63,11 +61,8 @@ pub extern "C" fn frames_c_modules_add(
     requires modules { IsHeld modules.held }
     requires held { IsHeld section.held }
     requires back { IsVacant back.old.held }
-    ensures module { AnswersModule (modules_in modules.held) (record {
-      first = first;
-      size = size;
-      section = held_section section.held;
-    }) result (modules_in back.new.held) }
+    ensures module { AnswersModule (modules_in modules.held)
+        (module_with first size (held_loaded section.held)) result (modules_in back.new.held) }
     ensures back { IsHeld back.new.held }
 {
     let mut list = modules.open(alloc);
@@ -90,11 +85,8 @@ pub extern "C" fn frames_c_modules_add_rows(
     requires modules { IsHeld modules.held }
     requires held { IsHeld table.held }
     requires back { IsVacant back.old.held }
-    ensures module { AnswersModule (modules_in modules.held) (record {
-      first = first;
-      size = size;
-      section = held_section table.held;
-    }) result (modules_in back.new.held) }
+    ensures module { AnswersModule (modules_in modules.held)
+        (module_with first size (held_loaded table.held)) result (modules_in back.new.held) }
     ensures back { IsHeld back.new.held }
 {
     let mut list = modules.open(alloc);
@@ -181,6 +173,7 @@ fn told_end(end: WalkEnd, frame: &mut FramesFrame) -> u64
             4
         }
         WalkEnd::NoModule => 5,
+        WalkEnd::Refused => 6,
     }
 }
 
@@ -210,7 +203,8 @@ fn walk_over(
 /// address on: a line for each frame from this one on, as long as there is room, which is for one
 /// at least. Why there are no more: 0 another frame has no room, 1 no FDE covers the address, 2 no
 /// row leads to a frame, 3 it was the outermost, 4 bytes were wanted that weren't lent, 5 no module
-/// has the address. The frame is afterwards the last one shown, and where it is 0 the next.
+/// has the address, 6 a refused record answers there. The frame is afterwards the last one shown,
+/// and where it is 0 the next.
 #[unsafe(no_mangle)]
 pub extern "C" fn frames_c_walk(
     alloc: Global,

@@ -1,6 +1,6 @@
 //! A section beside its table, as what tells the section's rows.
 
-ghost use Rattle.std.specs.Prelude.{◌≡◌};
+ghost use Rattle.std.specs.Prelude.{◌≡◌, []};
 ghost use Rattle.row_table.specs.Tables.{IsRowTableOf};
 ghost use Rattle.stack_walk.specs.StackWalks.{GoesUp};
 
@@ -8,6 +8,7 @@ use crate::following::{Followed, follow};
 use crate::table::RowTable;
 use frame_expr::{Regs, WordSource};
 use frame_parse::Section;
+use sound_records::RefusedRecord;
 use stack_walk::{StepSource, WalkEnd, take_step};
 use std::marker::Model;
 use unwind_step::{AddressKind, FdeRow, FoundStep, Frame, RowSource, step_at};
@@ -57,6 +58,13 @@ impl RowSource for SectionRows<'_> {
 
 impl StepSource for SectionRows<'_> {
     ghost section = { λ r. r };
+
+    ghost refused = { λ _. [] };
+
+    #[inline(always)]
+    fn claim_at(&self, _pc: u64) -> Option<RefusedRecord> {
+        None
+    }
 
     fn step_at<M: WordSource>(&self, look: u64, regs: &Regs, memory: &M) -> Option<FoundStep> {
         step_at(self, look, regs, memory)

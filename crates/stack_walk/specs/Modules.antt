@@ -4,17 +4,22 @@ use Rattle.std.specs.Prelude.{nat_le, nat_lt, ◌&&◌}
 use Rattle.std.specs.List.{find}
 use Rattle.frame_expr.specs.Regions.{RegionData}
 use Rattle.frame_parse.specs.Sections.{SectionData, first_cover}
+use Rattle.sound_records.specs.declared.refused.RefusedRecord.{RefusedRecord}
+use Rattle.sound_records.specs.Sections.{claim_among}
 use Rattle.unwind_step.specs.Sources.{IsStepIn}
 use Rattle.stack_walk.specs.declared.list.ModuleFault.{ModuleFault}
 use Rattle.stack_walk.specs.declared.list.ModuleFault.TheVariants.{NotAbove, NoMemory}
 use Rattle.stack_walk.specs.declared.modules.ModuleStep.{ModuleStep}
-use Rattle.stack_walk.specs.declared.modules.ModuleStep.TheVariants.{NoModule, NoFde, Found}
+use Rattle.stack_walk.specs.declared.modules.ModuleStep.TheVariants.{NoModule, NoFde, Refused}
+use Rattle.stack_walk.specs.declared.modules.ModuleStep.TheVariants.{Found}
 
--- code from an address on, and the section that tells its frames
+-- code from an address on, the section that tells its frames, and the records that were refused in
+-- it, in order of bytes
 pub record ModuleData : Type 0 where
   pub first : ℕ
   pub size : ℕ
   pub section : SectionData
+  pub refused : List RefusedRecord
 
 -- the first address after a module
 abbrev pub module_end : ModuleData → ℕ
@@ -43,12 +48,20 @@ has_code_at pc m = nat_le m.first pc && nat_lt pc (module_end m)
 unfoldable pub module_at : ℕ → List ModuleData → Option ModuleData
 module_at pc ms = find (has_code_at pc) ms
 
+-- the refused record of a module that answers at an address
+abbrev pub module_claim : ℕ → ModuleData → Option RefusedRecord
+module_claim pc m = claim_among pc m.section.fdes m.refused
+
 -- what comes of a frame's registers by the module of the address at which they are looked up
 abbrev pub IsModuleStep
     : List ModuleData → ℕ → List ℕ → List RegionData → ModuleStep → Type 0
 IsModuleStep ms look old memory NoModule = module_at look ms ≡ None
 IsModuleStep ms look old memory NoFde =
-    (m : ModuleData) × (module_at look ms ≡ Some m) × (first_cover look m.section.fdes ≡ None)
-IsModuleStep ms look old memory (Found step) =
+    (m : ModuleData) × (module_at look ms ≡ Some m) × (module_claim look m ≡ None)
+    × (first_cover look m.section.fdes ≡ None)
+IsModuleStep ms look old memory Refused =
     (m : ModuleData) × (module_at look ms ≡ Some m)
+    × ((x : RefusedRecord) × (module_claim look m ≡ Some x))
+IsModuleStep ms look old memory (Found step) =
+    (m : ModuleData) × (module_at look ms ≡ Some m) × (module_claim look m ≡ None)
     × IsStepIn m.section look old memory step.outcome step.signal

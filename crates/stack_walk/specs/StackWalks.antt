@@ -12,8 +12,8 @@ use Rattle.stack_walk.specs.Modules.{ModuleData, IsModuleStep}
 use Rattle.stack_walk.specs.declared.modules.ModuleStep.TheVariants as steps
 use Rattle.stack_walk.specs.declared.shown.ShownFrame.{ShownFrame}
 use Rattle.stack_walk.specs.declared.shown.WalkEnd.{WalkEnd}
-use Rattle.stack_walk.specs.declared.shown.WalkEnd.TheVariants.{NoModule, NoFde, NoRow, Undefined}
-use Rattle.stack_walk.specs.declared.shown.WalkEnd.TheVariants.{NoBytes, Room}
+use Rattle.stack_walk.specs.declared.shown.WalkEnd.TheVariants.{NoModule, NoFde, Refused, NoRow}
+use Rattle.stack_walk.specs.declared.shown.WalkEnd.TheVariants.{Undefined, NoBytes, Room}
 
 -- where a frame is looked up
 abbrev pub look_of : Frame → ℕ
@@ -38,6 +38,7 @@ GoesUp s memory f None new =
     × (new.address ≡ address_kind signal)
 GoesUp s memory f (Some NoModule) new = ⊥
 GoesUp s memory f (Some NoFde) new = (new ≡ f) × (first_cover (look_of f) s.fdes ≡ None)
+GoesUp s memory f (Some Refused) new = ⊥
 GoesUp s memory f (Some NoRow) new =
     (new ≡ f) × ((signal : Bool) × ComesBy s memory f signal stepped.NoRow)
 GoesUp s memory f (Some Undefined) new =
@@ -66,6 +67,8 @@ EndsWalk ms memory f NoModule stands =
     (stands ≡ f) × IsModuleStep ms (look_of f) f.regs.columns memory steps.NoModule
 EndsWalk ms memory f NoFde stands =
     (stands ≡ f) × IsModuleStep ms (look_of f) f.regs.columns memory steps.NoFde
+EndsWalk ms memory f Refused stands =
+    (stands ≡ f) × IsModuleStep ms (look_of f) f.regs.columns memory steps.Refused
 EndsWalk ms memory f NoRow stands =
     (stands ≡ f) × ((signal : Bool) × ComesOf ms memory f signal stepped.NoRow)
 EndsWalk ms memory f Undefined stands =

@@ -1,5 +1,5 @@
 -- Walks beside backtraces.
-use Rattle.std.specs.Prelude.{◌≡◌, List, None, Some, MatchOption, slice_get}
+use Rattle.std.specs.Prelude.{◌≡◌, List, Option, None, Some, MatchOption, slice_get}
 use Rattle.unwind_step.specs.Backtrace.{hit_of, lookup_address}
 use Rattle.unwind_step.specs.declared.backtrace.End.{End}
 use Rattle.unwind_step.specs.declared.backtrace.End.TheVariants as ends
@@ -7,8 +7,8 @@ use Rattle.unwind_step.specs.declared.backtrace.FrameLine.{FrameLine}
 use Rattle.stack_walk.specs.Modules.{ModuleData, module_at}
 use Rattle.stack_walk.specs.declared.shown.ShownFrame.{ShownFrame}
 use Rattle.stack_walk.specs.declared.shown.WalkEnd.{WalkEnd}
-use Rattle.stack_walk.specs.declared.shown.WalkEnd.TheVariants.{NoModule, NoFde, NoRow, Undefined}
-use Rattle.stack_walk.specs.declared.shown.WalkEnd.TheVariants.{NoBytes, Room}
+use Rattle.stack_walk.specs.declared.shown.WalkEnd.TheVariants.{NoModule, NoFde, Refused, NoRow}
+use Rattle.stack_walk.specs.declared.shown.WalkEnd.TheVariants.{Undefined, NoBytes, Room}
 
 -- the place of a line is a hit of the number of its module, and a miss where no module has it
 abbrev pub HitsModule : List ModuleData → FrameLine → Type 0
@@ -24,11 +24,12 @@ pub record TellsSame (ms : List ModuleData) (shown : ShownFrame) (line : FrameLi
   pub look : line.look ≡ lookup_address shown.address shown.pc
   pub place : HitsModule ms line
 
--- why a backtrace ends where a walk does
-abbrev pub end_as : WalkEnd → End
-end_as NoModule = ends.NoObject
-end_as NoFde = ends.NoFde
-end_as NoRow = ends.NoRow
-end_as Undefined = ends.Undefined
-end_as (NoBytes a) = ends.NoBytes a
-end_as Room = ends.Long
+-- why a backtrace ends where a walk does; none does where a refused record answers
+abbrev pub end_as : WalkEnd → Option End
+end_as NoModule = Some ends.NoObject
+end_as NoFde = Some ends.NoFde
+end_as Refused = None
+end_as NoRow = Some ends.NoRow
+end_as Undefined = Some ends.Undefined
+end_as (NoBytes a) = Some (ends.NoBytes a)
+end_as Room = Some ends.Long

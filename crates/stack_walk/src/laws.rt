@@ -1,6 +1,6 @@
 //! Laws of the definitions. Each is the contract of a function that does nothing.
 
-ghost use Rattle.std.specs.Prelude.{◌≡◌, ◌≤◌, List, length, map};
+ghost use Rattle.std.specs.Prelude.{◌≡◌, ◌≤◌, List, Some, length, map};
 ghost use Rattle.std.specs.List.{AllZip};
 ghost use Rattle.frame_expr.specs.Regions.{RegionData};
 ghost use Rattle.frame_expr.specs.declared.regs.Regs.{Regs};
@@ -18,7 +18,7 @@ pub fn walks_unfold()
     ensures { (ms : List ModuleData) (memory : List RegionData) (regs : Regs)
         (shown : List ShownFrame) (end : WalkEnd) (stands : Frame) (trace : TraceData)
         → WalksStack ms memory (innermost regs) shown end stands
-        → AllZip (TellsSame ms) shown trace.frames → trace.end ≡ end_as end
+        → AllZip (TellsSame ms) shown trace.frames → end_as end ≡ Some trace.end
         → length trace.frames ≤ 256 → (end ≡ Room → length trace.frames ≡ 256)
         → Unfolds (map (λ m. m.section) ms) memory regs trace }
 {}

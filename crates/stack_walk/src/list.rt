@@ -1,9 +1,11 @@
 //! Modules in ascending order, of which that of an address is found by halving.
 
 ghost use Rattle.std.specs.Prelude.{◌≡◌, ◌≤◌, ◌++◌, ◌∷◌, [], OnOk, OnErr, IfOk, IfErr, IfSome};
-ghost use Rattle.std.specs.Prelude.{MatchOption, MatchBool, None, ◌<◌};
+ghost use Rattle.std.specs.Prelude.{MatchOption, MatchBool, None, ◌<◌, List};
 ghost use Rattle.std.specs.Option.{option_map};
 ghost use Rattle.frame_parse.specs.Sections.{SectionData, first_cover};
+ghost use Rattle.sound_records.specs.Sections.{claim_among};
+ghost use Rattle.sound_records.specs.declared.refused.RefusedRecord.{RefusedRecord};
 ghost use Rattle.unwind_step.specs.Sources.{IsStepIn};
 ghost use Rattle.stack_walk.specs.Modules.{AreModulesFrom, IsModuleFault, has_code_at, module_at};
 ghost use Rattle.stack_walk.specs.Modules.{modules_end, module_end};
@@ -14,6 +16,7 @@ use crate::modules::{ModuleList, ModuleStep};
 use crate::shown::WalkEnd;
 use frame_expr::{Regs, WordSource};
 use frame_parse::Section;
+use sound_records::RefusedRecord;
 use std::alloc::{AllocError, AllocFailed, Global};
 use std::marker::Model;
 use unwind_step::{FoundStep, Frame, step_at};
@@ -22,6 +25,12 @@ use unwind_step::{FoundStep, Frame, step_at};
 pub trait StepSource {
     /// The section whose frames it tells.
     ghost section: { Self → SectionData };
+    /// The records that were refused in it, in order of bytes.
+    ghost refused: { Self → List RefusedRecord };
+
+    /// The refused record that answers at an address: where there is one, no FDE does.
+    fn claim_at(&self, pc: u64) -> Option<RefusedRecord>
+        ensures { result ≡ claim_among pc (section self.now).fdes (refused self.now) };
 
     /// What comes of registers that are looked up at an address. None where no FDE covers it.
     fn step_at<M: WordSource>(&self, look: u64, regs: &Regs, memory: &M) -> Option<FoundStep>
@@ -38,6 +47,13 @@ pub trait StepSource {
 impl StepSource for Section {
     ghost section = { λ s. s };
 
+    ghost refused = { λ _. [] };
+
+    #[inline(always)]
+    fn claim_at(&self, _pc: u64) -> Option<RefusedRecord> {
+        None
+    }
+
     fn step_at<M: WordSource>(&self, look: u64, regs: &Regs, memory: &M) -> Option<FoundStep> {
         step_at(self, look, regs, memory)
     }
@@ -51,7 +67,8 @@ impl StepSource for Section {
 pub trait SharedSource: StepSource {
     /// Another share of the same.
     fn another(&self) -> Result<Self, AllocError>
-        ensures { IfOk result (λ other. Self.section other ≡ Self.section self.now) };
+        ensures section { IfOk result (λ other. Self.section other ≡ Self.section self.now) }
+        ensures refused { IfOk result (λ other. Self.refused other ≡ Self.refused self.now) };
 }
 
 /// Why a module isn't added.
@@ -90,6 +107,7 @@ impl<T: StepSource> Model for Module<T> {
       first = m.first;
       size = m.size;
       section = T.section m.source;
+      refused = T.refused m.source;
     } };
 }
 
@@ -151,7 +169,12 @@ impl<T: StepSource + Drop> Modules<T> {
     /// Adds a module above all that are there.
     pub fn add(&mut self, first: u64, size: u64, source: T) -> Result<(), ModuleFault>
         ensures ok { OnOk result (self.new
-            ≡ self.old ++ record { first = first; size = size; section = T.section source } ∷ []) }
+            ≡ self.old ++ record {
+              first = first;
+              size = size;
+              section = T.section source;
+              refused = T.refused source;
+            } ∷ []) }
         ensures above { OnOk result (modules_end self.old ≤ first) }
         ensures refused { OnErr result (self.new ≡ self.old) }
         ensures fault { IfErr result (IsModuleFault self.old first) }
@@ -235,6 +258,9 @@ impl<T: StepSource> ModuleList for Modules<T> {
         let Some(module) = module_of(&self.list, look) else {
             return ModuleStep::NoModule;
         };
+        if let Some(_) = module.source.claim_at(look) {
+            return ModuleStep::Refused;
+        }
         match module.source.step_at(look, regs, memory) {
             None => ModuleStep::NoFde,
             Some(step) => ModuleStep::Found { step },
@@ -242,9 +268,13 @@ impl<T: StepSource> ModuleList for Modules<T> {
     }
 
     fn go_up<M: WordSource>(&self, frame: &mut Frame, memory: &M) -> Option<WalkEnd> {
-        let Some(module) = module_of(&self.list, frame.look()) else {
+        let look = frame.look();
+        let Some(module) = module_of(&self.list, look) else {
             return Some(WalkEnd::NoModule);
         };
+        if let Some(_) = module.source.claim_at(look) {
+            return Some(WalkEnd::Refused);
+        }
         module.source.go_up(frame, memory)
     }
 }

@@ -15,6 +15,8 @@ pub enum ModuleStep {
     NoModule,
     /// One has it, and no FDE of its section covers it.
     NoFde,
+    /// A record of its section that is refused answers.
+    Refused,
     /// An FDE covers it, and this came of it.
     Found { step: FoundStep },
 }

@@ -22,6 +22,8 @@ pub enum WalkEnd {
     NoModule,
     /// One has it, and no FDE of its section covers it.
     NoFde,
+    /// A record of its section that is refused claims the address, before any FDE that covers it.
+    Refused,
     /// No rule says where the CFA is, or where the return address is.
     NoRow,
     /// The return address is undefined: it was the outermost frame.
