@@ -118,10 +118,10 @@ pub(crate) fn claim_at(
 }
 
 /// Whether a refused record claims an address.
-fn claims(record: &RefusedRecord, pc: u64) -> bool
-    ensures { result ≡ claims pc record.now.claim }
+fn claims(refused: &RefusedRecord, pc: u64) -> bool
+    ensures { result ≡ claims pc refused.now.claim }
 {
-    match record.claim {
+    match refused.claim {
         None => false,
         Some(claim) => claim.first <= pc && pc - claim.first < claim.range,
     }
