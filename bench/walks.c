@@ -4,8 +4,10 @@
  *
  *   cc -O2 -fno-optimize-sibling-calls -DLIBUNWIND -Icrates/frames_c/include -Iexamples/c \
  *     bench/walks.c FOLDER/libfovradus_frames.a -Wl,--wrap=malloc,--wrap=realloc,--wrap=free \
- *     -lunwind -o walks
- *   walks DEPTH */
+ *     -lgcc_s -lunwind -o walks
+ *   walks DEPTH
+ *
+ * libunwind has an _Unwind_Backtrace of its own, which serves where it is linked before libgcc_s. */
 #define _GNU_SOURCE
 #include "heap_calls.h"
 #include "loaded_objects.h"

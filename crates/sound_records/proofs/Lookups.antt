@@ -13,7 +13,7 @@ use Rattle.frame_parse.specs.Sections.{SectionData, is_end, with_record, fdes_of
 use Rattle.sound_records.specs.declared.refused.Claim.{Claim}
 use Rattle.sound_records.specs.declared.refused.RefusedRecord.{RefusedRecord}
 use Rattle.sound_records.specs.declared.answer.FdeAnswer.{FdeAnswer}
-use Rattle.sound_records.specs.declared.answer.FdeAnswer.TheVariants.{NoFde, Found, Claimed}
+use Rattle.sound_records.specs.declared.answer.FdeAnswer.TheVariants.{Found, Claimed}
 use Rattle.sound_records.specs.Items.{Item, Sound, Refused, by_result, extent, claimed, claims, items_from, items_of, sound_in, refused_in, answer_at}
 use Rattle.sound_records.specs.Laws.{answer_of}
 use Rattle.sound_records.specs.Sections.{claim_among, first_claim, nearest, unless_before}
