@@ -33,13 +33,22 @@ static uint64_t now(void) {
 
 /* ---- each walk, which gives the number of its frames ---- */
 
+/* Those that a call keeps; getcontext would ask the system for the mask of signals, too. */
+static inline __attribute__((always_inline)) void take_own_registers(frames_frame *frame) {
+  frame->at_instruction = 1;
+  __asm__ volatile("movq %%rbx, 24(%0)\n\tmovq %%rbp, 48(%0)\n\tmovq %%rsp, 56(%0)\n\t"
+                   "movq %%r12, 96(%0)\n\tmovq %%r13, 104(%0)\n\tmovq %%r14, 112(%0)\n\t"
+                   "movq %%r15, 120(%0)\n\tleaq 1f(%%rip), %%rax\n\tmovq %%rax, 128(%0)\n1:"
+                   :
+                   : "r"(frame->columns)
+                   : "rax", "memory");
+}
+
 static __attribute__((noinline)) size_t walk_ours(void) {
   static frames_frame frame;
   static frames_line lines[FRAMES];
   static size_t count;
-  ucontext_t context;
-  getcontext(&context);
-  take_registers(&context, &frame);
+  take_own_registers(&frame);
   const uint8_t *low = (const uint8_t *)frame.columns[7], *top = (const uint8_t *)environ;
   frames_c_walk(modules, frame.columns[7], low, (size_t)(top - low), &frame, lines, FRAMES, &count,
                 &modules);

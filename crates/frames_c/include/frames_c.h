@@ -23,8 +23,8 @@
  *     signal handler, or in the forked child of a process with threads. No other call takes memory,
  *     frees it, or waits.
  *
- * A stack can't be unwound through a call, since the library has no unwind tables: a profiler whose
- * signal interrupts a call sees the stack end there.
+ * A stack can be unwound through a call, at each of its instructions: the library has an .eh_frame,
+ * which is tried and not proved.
  */
 #ifndef FRAMES_C_H
 #define FRAMES_C_H

@@ -67,9 +67,8 @@
  * handler runs, where the lock is that of the call interrupted; a lookup may be AGAIN so. That a
  * handler interrupts a call is beyond what is proved.
  *
- * A stack can't be unwound through a call, since the library has no unwind tables: a profiler whose
- * signal interrupts a lookup sees the stack end there. Nothing is ever thrown through a call, as
- * none calls back.
+ * A stack can be unwound through a call, at each of its instructions: the library has an .eh_frame,
+ * which is tried and not proved. Nothing is ever thrown through a call, as none calls back.
  *
  * In the forked child of a process with threads: the same calls, and no other. Where a thread was
  * within an update when the process was forked, its locks stay taken in the child: updates are BUSY

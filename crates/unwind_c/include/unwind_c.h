@@ -61,8 +61,8 @@
  * there are AGAIN however often they are tried. A program that holds back signals and forks during
  * updates has neither.
  *
- * A stack can't be unwound through a call, since the library has no unwind tables, and nothing is
- * ever thrown through one, as none calls back.
+ * A stack can be unwound through a call, at each of its instructions: the library has an .eh_frame,
+ * which is tried and not proved. Nothing is ever thrown through a call, as none calls back.
  */
 #ifndef UNWIND_C_H
 #define UNWIND_C_H
