@@ -7,3 +7,4 @@ pub mod Numbers
 pub mod CourseLaws
 pub mod Initials
 pub mod FollowedRows
+pub mod ManyRestored

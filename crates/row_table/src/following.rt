@@ -4,14 +4,14 @@
 //! table for each column.
 
 ghost use Rattle.std.specs.Prelude.{◌≡◌, ◌≢◌, ◌<◌, List, ℕ, Ok, Err, slice_index};
-ghost use Rattle.std.specs.Prelude.{IfSome, length, slice_index_or};
+ghost use Rattle.std.specs.Prelude.{◌+◌, IfSome, length, slice_index_or};
 ghost use Rattle.frame_expr.specs.Regions.{RegionData};
 ghost use Rattle.frame_parse.specs.Blocks.{block_in};
 ghost use Rattle.frame_rows.specs.declared.rule.RuleWith.TheVariants.{Unset};
 ghost use Rattle.frame_rows.specs.Rules.{lent_row, rule_told};
 ghost use Rattle.unwind_step.specs.NextFrame.{AreRestored, FailsFirst, Leads};
 ghost use Rattle.unwind_step.specs.Rules.{IsCfa, IsRestored};
-ghost use Rattle.row_table.specs.Followed.{FollowsRow};
+ghost use Rattle.row_table.specs.Followed.{FollowsRow, Restores};
 ghost use Rattle.row_table.specs.declared.following.Followed.TheVariants.{Frame, NoBytes};
 
 use crate::lent_row::LentRow;
@@ -75,23 +75,113 @@ fn rule_of(row: &PlacedRow, column: usize) -> &PlacedRule
     &row.columns[column]
 }
 
+/// Restores the next column.
+#[inline(always)]
+fn restore_one<M: WordSource>(
+    row: &PlacedRow,
+    column: usize,
+    cfa: u64,
+    memory: &M,
+    regs: &mut Regs,
+) -> Followed
+    requires { column < 17 }
+    ensures restores { Restores column (column + 1) row.now cfa (M.regions memory.now)
+        regs.old.columns result regs.new.columns }
+    ensures count { length regs.new.columns ≡ 17 }
+{
+    restore(column, rule_of(row, column), cfa, memory, regs)
+}
+
+/// Restores the next two columns.
+#[inline(always)]
+fn restore_two<M: WordSource>(
+    row: &PlacedRow,
+    column: usize,
+    cfa: u64,
+    memory: &M,
+    regs: &mut Regs,
+) -> Followed
+    requires { column + 1 < 17 }
+    ensures restores { Restores column (column + 2) row.now cfa (M.regions memory.now)
+        regs.old.columns result regs.new.columns }
+    ensures count { length regs.new.columns ≡ 17 }
+{
+    match restore_one(row, column, cfa, memory, regs) {
+        Followed::Frame => restore_one(row, column + 1, cfa, memory, regs),
+        other => other,
+    }
+}
+
+/// Restores the next four columns.
+#[inline(always)]
+fn restore_four<M: WordSource>(
+    row: &PlacedRow,
+    column: usize,
+    cfa: u64,
+    memory: &M,
+    regs: &mut Regs,
+) -> Followed
+    requires { column + 3 < 17 }
+    ensures restores { Restores column (column + 4) row.now cfa (M.regions memory.now)
+        regs.old.columns result regs.new.columns }
+    ensures count { length regs.new.columns ≡ 17 }
+{
+    match restore_two(row, column, cfa, memory, regs) {
+        Followed::Frame => restore_two(row, column + 2, cfa, memory, regs),
+        other => other,
+    }
+}
+
+/// Restores the next eight columns.
+#[inline(always)]
+fn restore_eight<M: WordSource>(
+    row: &PlacedRow,
+    column: usize,
+    cfa: u64,
+    memory: &M,
+    regs: &mut Regs,
+) -> Followed
+    requires { column + 7 < 17 }
+    ensures restores { Restores column (column + 8) row.now cfa (M.regions memory.now)
+        regs.old.columns result regs.new.columns }
+    ensures count { length regs.new.columns ≡ 17 }
+{
+    match restore_four(row, column, cfa, memory, regs) {
+        Followed::Frame => restore_four(row, column + 4, cfa, memory, regs),
+        other => other,
+    }
+}
+
+/// Restores sixteen columns. By no loop: so each has branches of its own, and what one of them
+/// does need not be guessed for all.
+#[inline(always)]
+fn restore_sixteen<M: WordSource>(
+    row: &PlacedRow,
+    cfa: u64,
+    memory: &M,
+    regs: &mut Regs,
+) -> Followed
+    ensures restores { Restores 0 16 row.now cfa (M.regions memory.now)
+        regs.old.columns result regs.new.columns }
+    ensures count { length regs.new.columns ≡ 17 }
+{
+    match restore_eight(row, 0, cfa, memory, regs) {
+        Followed::Frame => restore_eight(row, 8, cfa, memory, regs),
+        other => other,
+    }
+}
+
 /// Restores all columns by frequent rules, from the first one on.
 #[inline(always)]
 fn restore_all<M: WordSource>(row: &PlacedRow, cfa: u64, memory: &M, regs: &mut Regs) -> Followed
-    ensures restored { result ≡ Frame → (bytes : List ℕ) → AreRestored 17
-        (lent_row bytes row.now) cfa regs.old.columns (M.regions memory.now) regs.new.columns }
-    ensures fails { (address : ℕ) → result ≡ NoBytes address → (bytes : List ℕ) → FailsFirst
-        (lent_row bytes row.now) cfa regs.old.columns (M.regions memory.now)
-        (record { address = address }) }
+    ensures restores { Restores 0 17 row.now cfa (M.regions memory.now)
+        regs.old.columns result regs.new.columns }
     ensures count { length regs.new.columns ≡ 17 }
 {
-    for column in 0..17usize {
-        match restore(column, rule_of(row, column), cfa, memory, regs) {
-            Followed::Frame => {}
-            other => return other,
-        }
+    match restore_sixteen(row, cfa, memory, regs) {
+        Followed::Frame => restore_one(row, 16, cfa, memory, regs),
+        other => other,
     }
-    Followed::Frame
 }
 
 /// The number in a column; those above 16 have none.

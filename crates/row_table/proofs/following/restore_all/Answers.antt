@@ -1,29 +1,14 @@
-use Rattle.std.proofs.Common.{◌≢◌, ◌∙◌, sym, arith}
-use Rattle.row_table.proofs.FollowedRows.{first_failed, one_more_restored}
+use Rattle.std.proofs.Common.{arith}
+use Rattle.row_table.proofs.ManyRestored.{goes_on, stops}
 use Rattle.row_table.proofs.following.restore_all.Goals as goal
 
-pub loop-column-preserved : goal.loop-column-preserved
-loop-column-preserved g c =
-    let was = c.loop-column in
-    let old = c.args.regs.now.columns in
-    let memory = g.M.WordSource.regions c.args.memory.now in
-    record {
-      restored = λ bytes.
-          let here = c.restore.ensures.restored c.in-Frame.is bytes old (sym (was.invariant.others was.column (omega arith))) in
-          one_more_restored bytes c.args.row.now was.column c.args.cfa old memory was.regs.columns c.restore.new.regs.columns c.rule_of.result.now c.rule_of.ensures (was.invariant.restored bytes) c.restore.ensures.others here;
-      others = λ r le. let ne : r ≢ was.column = omega arith in c.restore.ensures.others r ne ∙ was.invariant.others r (omega arith);
-      all = λ _. c.restore.ensures.count;
-    }
+pub returns-in-Frame-clause-restores : goal.returns-in-Frame-clause-restores
+returns-in-Frame-clause-restores g c =
+    let half = rw c.in-Frame.is at c.restore_sixteen.ensures.restores in
+    goes_on c.args.row.now c.args.cfa (g.M.WordSource.regions c.args.memory.now) 0 16 17 17 c.args.regs.now.columns c.restore_sixteen.new.regs.columns c.restore_one.result c.restore_one.new.regs.columns (omega arith) half c.restore_one.ensures.restores
 
 pub returns-in_default : goal.returns-in_default
-returns-in_default g c =
-    let was = c.loop-column in
-    let old = c.args.regs.now.columns in
-    let memory = g.M.WordSource.regions c.args.memory.now in
-    record {
-      restored = λ is. absurd (c.in_default.not-Frame is);
-      fails = λ address is bytes.
-          first_failed bytes c.args.row.now was.column c.args.cfa old memory was.regs.columns c.rule_of.result.now (record { address = address }) (omega (arith, c.loop-column-test.true)) c.rule_of.ensures
-          (was.invariant.restored bytes) (c.restore.ensures.fails address is bytes old);
-      count = c.restore.ensures.count;
-    }
+returns-in_default g c = record {
+  restores = stops c.args.row.now c.args.cfa (g.M.WordSource.regions c.args.memory.now) 0 16 17 c.args.regs.now.columns c.restore_sixteen.result c.restore_sixteen.new.regs.columns c.in_default.not-Frame c.restore_sixteen.ensures.restores;
+  count = c.restore_sixteen.ensures.count;
+}

@@ -1,0 +1,14 @@
+use Rattle.std.proofs.Common.{arith}
+use Rattle.row_table.proofs.ManyRestored.{goes_on, stops}
+use Rattle.row_table.proofs.following.restore_sixteen.Goals as goal
+
+pub returns-in-Frame-clause-restores : goal.returns-in-Frame-clause-restores
+returns-in-Frame-clause-restores g c =
+    let half = rw c.in-Frame.is at c.restore_eight.ensures.restores in
+    goes_on c.args.row.now c.args.cfa (g.M.WordSource.regions c.args.memory.now) 0 8 16 16 c.args.regs.now.columns c.restore_eight.new.regs.columns c.restore_eight-in-Frame.result c.restore_eight-in-Frame.new.regs.columns (omega arith) half c.restore_eight-in-Frame.ensures.restores
+
+pub returns-in_default : goal.returns-in_default
+returns-in_default g c = record {
+  restores = stops c.args.row.now c.args.cfa (g.M.WordSource.regions c.args.memory.now) 0 8 16 c.args.regs.now.columns c.restore_eight.result c.restore_eight.new.regs.columns c.in_default.not-Frame c.restore_eight.ensures.restores;
+  count = c.restore_eight.ensures.count;
+}
