@@ -121,7 +121,8 @@ typedef struct {
 /* Reads the section so that a bad record costs itself alone, and a bad CIE those that lead to it.
  * What stands behind a record that isn't whole isn't read. True: `out` has the section of the other
  * records, and `told` what was refused. False: `refusal` says that memory ran out, or that there are
- * too many bytes. Where nothing is refused, this is the section of frames_c_read. */
+ * too many bytes. Where nothing is refused, this is the section of frames_c_read; else a lookup goes
+ * through the refused records one by one. */
 bool frames_c_read_sound(uint64_t address, const uint8_t *bytes, size_t length,
                          frames_refusal *refusal, frames_refused *told, frames_section *out)
     FRAMES_C_NONNULL;

@@ -200,8 +200,9 @@ void unwind_c_deregister(unwind_writer writer, uint64_t key, unwind_told *told,
 void unwind_c_move(unwind_writer writer, unwind_writer into, uint64_t key, unwind_told *told,
                    unwind_writer *back, unwind_writer *into_back) UNWIND_C_NONNULL;
 
-/* Tells under which keys sections stand, so that all of them can be moved or given up: how many keys
- * there are. As many as there is room for are written, in no order. */
+/* Tells the keys that the library lists, so that all that stands can be moved or given up: how many
+ * they are. Each under which a section stands is one of them. As many as there is room for are
+ * written, in no order. */
 size_t unwind_c_keys(unwind_writer writer, uint64_t *keys, size_t room,
                      unwind_writer *back) UNWIND_C_NONNULL;
 
