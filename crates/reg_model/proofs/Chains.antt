@@ -1,5 +1,5 @@
 -- Chains of calls: their receipts hold in the history that they make, and their stamps and numbers rise.
-use Rattle.std.proofs.Common.{◌≡◌, ℕ, ◌+◌, ◌<◌, ◌≤◌, List, [], ◌∷◌, ◌++◌, Option, Some, None, cond, ◌&&◌, eqb, leb, MatchOption, ◌∙◌, ap, subst, append_assoc, arith}
+use Rattle.std.proofs.Common.{◌≡◌, ℕ, ◌+◌, ◌-◌, ◌*◌, ◌<◌, ◌≤◌, List, [], ◌∷◌, ◌++◌, Option, Some, None, cond, ◌&&◌, eqb, leb, MatchOption, ◌∙◌, ap, subst, append_assoc, arith}
 use Rattle.std.specs.List.{AllByRecursion}
 use Rattle.std.specs.Option.{is_some}
 use Rattle.std.proofs.lemmas.Bool.Decides.{nat_tests}
@@ -7,39 +7,43 @@ use Rattle.std.proofs.lemmas.List.{append-nil}
 use Rattle.std.proofs.lemmas.List.Sums.{sum_by-cons}
 use Rattle.reg_model.specs.State.{State}
 use Rattle.reg_model.specs.History.{Fits, after}
-use Rattle.reg_model.specs.Receipt.{moment, accepted, made, HadTenMembers}
+use Rattle.reg_model.specs.Receipt.{moment, accepted, made, HadRegistered, IsFilled}
 use Rattle.reg_model.specs.Numbers.{has_number}
 use Rattle.reg_model.specs.PlainRegistryData.{PlainRegistryData, LeadsTo, Step}
 use Rattle.reg_model.specs.Chain.{Chain, HasRoom, PlainStep, all_made, HoldsAlways, IsBetween, Rises}
 use Rattle.reg_model.specs.declared.answer.Inserted.TheVariants as inserted
 use Rattle.reg_model.specs.declared.answer.Update.{Update}
 use Rattle.reg_model.specs.declared.answer.Receipt.{Receipt}
-use Rattle.reg_model.specs.declared.answer.Receipt.TheVariants.{Register, Deregister, Load, Unload, Query}
+use Rattle.reg_model.specs.declared.answer.Receipt.TheVariants.{Register, Deregister, Replace, Load, Unload, Query}
 use Rattle.reg_model.proofs.Receipts.{step_holds, holds_on}
 
-filled_from : (start : State) (history : List Update) (since : ℕ) (r : Receipt) → HasRoom r → HadTenMembers start history since r
-filled_from start history since (Register m (inserted.Full stamp)) room = absurd room
-filled_from start history since (Register m (inserted.Done number)) room = tt
-filled_from start history since (Register m (inserted.Overlap other stamp)) room = tt
-filled_from start history since (Register m inserted.Spent) room = tt
-filled_from start history since (Deregister base answer) room = tt
-filled_from start history since (Load m answer) room = tt
-filled_from start history since (Unload base answer) room = tt
-filled_from start history since (Query half pc found) room = tt
+had_from : (least : ℕ) (start : State) (history : List Update) (since : ℕ) (r : Receipt) → HasRoom r → HadRegistered least start history since r
+had_from least start history since (Register m (inserted.Full stamp)) room = absurd room
+had_from least start history since (Register m (inserted.Done number)) room = tt
+had_from least start history since (Register m (inserted.Overlap other stamp)) room = tt
+had_from least start history since (Register m inserted.Spent) room = tt
+had_from least start history since (Deregister base answer) room = tt
+had_from least start history since (Replace m answer) room = tt
+had_from least start history since (Load m answer) room = tt
+had_from least start history since (Unload base answer) room = tt
+had_from least start history since (Query half pc found) room = tt
+
+filled_from : (start : State) (history : List Update) (nodes callers since : ℕ) (r : Receipt) → HasRoom r → IsFilled start history nodes callers since r
+filled_from start history nodes callers since r room = record { ten = had_from 10 start history since r room; most = λ _. had_from (2 * (nodes - 4 * callers)) start history since r room }
 
 pub chain_leads : (start : State) (history : List Update) (a b : PlainRegistryData) (receipts : List Receipt) → LeadsTo start history a → Chain PlainStep a receipts b → LeadsTo start (history ++ all_made receipts) b
 chain_leads start history a b [] leads chain = rw (append-nil, chain) leads
 chain_leads start history a b (r ∷ receipts) leads (mid, call, chain) =
-    let next = step_holds start history a mid 0 0 0 r leads call.step (filled_from start (history ++ made r) 0 r call.room) in
+    let next = step_holds start history a mid 0 0 0 r leads call.step (filled_from start (history ++ made r) 0 0 0 r call.room) in
     rw (← append_assoc history (made r) (all_made receipts)) (chain_leads start (history ++ made r) mid b receipts next.0 chain)
 
 pub chain_holds : (start : State) (history : List Update) (a b : PlainRegistryData) (receipts : List Receipt) → LeadsTo start history a → Chain PlainStep a receipts b → AllByRecursion (HoldsAlways start (history ++ all_made receipts)) receipts
 chain_holds start history a b [] leads chain = tt
 chain_holds start history a b (r ∷ receipts) leads (mid, call, chain) =
-    let next = λ (nodes callers since : ℕ). step_holds start history a mid nodes callers since r leads call.step (filled_from start (history ++ made r) since r call.room) in
+    let next = λ (nodes callers since : ℕ). step_holds start history a mid nodes callers since r leads call.step (filled_from start (history ++ made r) nodes callers since r call.room) in
     let P : List Update → Type 0 = λ all. AllByRecursion (HoldsAlways start all) (r ∷ receipts) in
     subst P (append_assoc history (made r) (all_made receipts)) (
-      record { always = λ nodes callers since. holds_on start (history ++ made r) (all_made receipts) nodes callers callers since r (next nodes callers since).1 },
+      record { always = λ nodes callers since. holds_on start (history ++ made r) (all_made receipts) nodes callers callers since r (omega arith) (next nodes callers since).1 },
       chain_holds start (history ++ made r) mid b receipts (next 0 0 0).0 chain,
     )
 

@@ -1,16 +1,16 @@
 -- Receipts: a right answer holds where it was given, and holds on.
-use Rattle.std.proofs.Common.{◌≡◌, ℕ, ◌+◌, ◌-◌, ◌<◌, ◌≤◌, List, [], ◌∷◌, ◌++◌, length, Option, Some, None, MatchOption, IfSome, sym, ◌∙◌, ap, subst, arith, length-append}
+use Rattle.std.proofs.Common.{◌≡◌, ℕ, ◌+◌, ◌-◌, ◌*◌, ◌<◌, ◌≤◌, List, [], ◌∷◌, ◌++◌, length, Option, Some, None, MatchOption, IfSome, sym, ◌∙◌, ap, subst, arith, length-append}
 use Rattle.std.specs.List.{slice_get}
 use Rattle.std.specs.Option.{option_to_list}
 use Rattle.std.proofs.lemmas.List.{append-nil}
 use Rattle.reg_model.proofs.Histories.{state_after-append, IsHistory-append, state_at-append, state_at-length, slice_get-append, slice_get-next}
 use Rattle.reg_model.specs.State.{State}
 use Rattle.reg_model.specs.History.{Fits, after, state_at}
-use Rattle.reg_model.specs.Receipt.{moment, accepted, made, made_before, IsRight, HadTenMembers, Holds}
+use Rattle.reg_model.specs.Receipt.{moment, accepted, made, made_before, IsRight, HadRegistered, IsFilled, Holds}
 use Rattle.reg_model.specs.PlainRegistryData.{PlainRegistryData, LeadsTo, Step}
 use Rattle.reg_model.specs.declared.answer.Update.{Update}
 use Rattle.reg_model.specs.declared.answer.Receipt.{Receipt}
-use Rattle.reg_model.specs.declared.answer.Receipt.TheVariants.{Register, Deregister, Load, Unload, Query}
+use Rattle.reg_model.specs.declared.answer.Receipt.TheVariants.{Register, Deregister, Replace, Load, Unload, Query}
 use Rattle.reg_model.specs.declared.answer.Inserted.TheVariants as inserted
 
 -- the update's place in the history stays
@@ -22,25 +22,29 @@ before_within : (a : Option Update) (n m : ℕ) → n ≤ m → elim a [ None �
 before_within None n m within = within
 before_within (Some u) n m within = omega arith
 
--- ten members were registered at a moment that stays
-filled_on : (start : State) (history more : List Update) (since : ℕ) (r : Receipt) → moment r ≤ length history → HadTenMembers start history since r → HadTenMembers start (history ++ more) since r
-filled_on start history more since (Register m (inserted.Full stamp)) within (j, from, to, many) =
-    (j, from, to, rw (state_at-append start history more j (omega arith)) many)
-filled_on start history more since (Register m (inserted.Done number)) within filled = tt
-filled_on start history more since (Register m (inserted.Overlap other stamp)) within filled = tt
-filled_on start history more since (Register m inserted.Spent) within filled = tt
-filled_on start history more since (Deregister base answer) within filled = tt
-filled_on start history more since (Load m answer) within filled = tt
-filled_on start history more since (Unload base answer) within filled = tt
-filled_on start history more since (Query half pc found) within filled = tt
+-- so many members were registered at a moment that stays
+had_on : (start : State) (history more : List Update) (since least fewer : ℕ) (r : Receipt) → fewer ≤ least → moment r ≤ length history → HadRegistered least start history since r → HadRegistered fewer start (history ++ more) since r
+had_on start history more since least fewer (Register m (inserted.Full stamp)) less within (j, from, to, many) =
+    (j, from, to, rw (state_at-append start history more j (omega arith)) (omega (arith, less, many)))
+had_on start history more since least fewer (Register m (inserted.Done number)) less within filled = tt
+had_on start history more since least fewer (Register m (inserted.Overlap other stamp)) less within filled = tt
+had_on start history more since least fewer (Register m inserted.Spent) less within filled = tt
+had_on start history more since least fewer (Deregister base answer) less within filled = tt
+had_on start history more since least fewer (Replace m answer) less within filled = tt
+had_on start history more since least fewer (Load m answer) less within filled = tt
+had_on start history more since least fewer (Unload base answer) less within filled = tt
+had_on start history more since least fewer (Query half pc found) less within filled = tt
 
 -- an answer that holds goes on to hold when the history grows and callers come
-pub holds_on : (start : State) (history more : List Update) (nodes callers callers' since : ℕ) (r : Receipt) → Holds start history nodes callers since r → Holds start (history ++ more) nodes callers' since r
-holds_on start history more nodes callers callers' since r holds = record {
+pub holds_on : (start : State) (history more : List Update) (nodes callers callers' since : ℕ) (r : Receipt) → callers ≤ callers' → Holds start history nodes callers since r → Holds start (history ++ more) nodes callers' since r
+holds_on start history more nodes callers callers' since r later holds = record {
   within = (let within = holds.within in rw length-append (omega arith));
   numbered = numbered_on history more (moment r) (accepted r) holds.within holds.numbered;
   right = rw (state_at-append start history more (made_before r) (before_within (accepted r) (moment r) (length history) holds.within)) holds.right;
-  filled = filled_on start history more since r holds.within holds.filled;
+  filled = record {
+    ten = had_on start history more since 10 10 r (omega arith) holds.within holds.filled.ten;
+    most = λ two. had_on start history more since (2 * (nodes - 4 * callers)) (2 * (nodes - 4 * callers')) r (omega (arith, later)) holds.within (holds.filled.most (omega (arith, later, two)));
+  };
 }
 
 before_is : (a : Option Update) (n m : ℕ) → MatchOption a (n ≡ m) (λ u. n ≡ m + 1) → elim a [ None ↦ n | Some u ↦ n - 1 ] ≡ m
@@ -73,7 +77,7 @@ numbered_next history n m (Some u) is moment =
     (rw length-append (omega arith), (omega arith, ap (slice_get (history ++ u ∷ [])) last ∙ slice_get-next history u []))
 
 -- What a step of the registry for one thread answers holds in the history, which grows by what the step made.
-pub step_holds : (start : State) (history : List Update) (old new : PlainRegistryData) (nodes callers since : ℕ) (r : Receipt) → LeadsTo start history old → Step old r new → HadTenMembers start (history ++ made r) since r → LeadsTo start (history ++ made r) new × Holds start (history ++ made r) nodes callers since r
+pub step_holds : (start : State) (history : List Update) (old new : PlainRegistryData) (nodes callers since : ℕ) (r : Receipt) → LeadsTo start history old → Step old r new → IsFilled start (history ++ made r) nodes callers since r → LeadsTo start (history ++ made r) new × Holds start (history ++ made r) nodes callers since r
 step_holds start history old new nodes callers since r leads step filled =
     let now = moment_is (accepted r) (moment r) old.updates (new ≡ old) (λ u. Fits u old.state) (λ u. new ≡ record { state = after u old.state; updates = old.updates + 1 }) step.changes in
     let next = numbered_next history (moment r) old.updates (accepted r) leads.updates now in (

@@ -1,8 +1,9 @@
 -- Receipts: what an answer says of a history.
-use Rattle.std.specs.Prelude.{◌≡◌, ℕ, ◌-◌, ◌<◌, ◌≤◌, List, [], ◌∷◌, length, max, Option, Some, None}
-use Rattle.std.specs.Prelude.{IsNone, slice_get, IfSome, MatchOption}
+use Rattle.std.specs.Prelude.{◌≡◌, ℕ, ◌-◌, ◌*◌, ◌<◌, ◌≤◌, List, [], ◌∷◌, length, max, Option, Some, None}
+use Rattle.std.specs.Prelude.{IsNone, IsSomeAnd, slice_get, IfSome, MatchOption}
 use Rattle.std.specs.Option.{option_to_list}
-use Rattle.reg_model.specs.State.{State, objects, at_base, IsFree, IsLowestOverlap}
+use Rattle.reg_model.specs.State.{State, objects, at_base, at_span, IsFree, IsLowestOverlap}
+use Rattle.reg_model.specs.SpanData.{SpanData}
 use Rattle.reg_model.specs.History.{state_at}
 use Rattle.reg_model.specs.Query.{query}
 use Rattle.reg_model.specs.declared.span.Member.{Member}
@@ -14,11 +15,13 @@ use Rattle.reg_model.specs.declared.answer.Inserted.TheVariants as inserted
 use Rattle.reg_model.specs.declared.answer.Loading.TheVariants as loading
 use Rattle.reg_model.specs.declared.answer.Removed.{Removed}
 use Rattle.reg_model.specs.declared.answer.Removed.TheVariants as removed
+use Rattle.reg_model.specs.declared.answer.Replaced.{Replaced}
+use Rattle.reg_model.specs.declared.answer.Replaced.TheVariants as replaced
 use Rattle.reg_model.specs.declared.answer.Half.TheVariants.{Registered, Loaded}
 use Rattle.reg_model.specs.declared.answer.Place.{Place}
 use Rattle.reg_model.specs.declared.answer.Receipt.{Receipt}
-use Rattle.reg_model.specs.declared.answer.Receipt.TheVariants.{Register, Deregister, Load, Unload}
-use Rattle.reg_model.specs.declared.answer.Receipt.TheVariants.{Query}
+use Rattle.reg_model.specs.declared.answer.Receipt.TheVariants.{Register, Deregister, Replace}
+use Rattle.reg_model.specs.declared.answer.Receipt.TheVariants.{Load, Unload, Query}
 
 -- the member that was found
 abbrev pub member_of : Found → Option Member
@@ -39,6 +42,9 @@ moment (Register m inserted.Spent) = 0
 moment (Deregister base (removed.Done number m)) = number
 moment (Deregister base (removed.NotFound stamp)) = stamp
 moment (Deregister base removed.Spent) = 0
+moment (Replace m (replaced.Done number payload)) = number
+moment (Replace m (replaced.NotFound stamp)) = stamp
+moment (Replace m replaced.Spent) = 0
 moment (Load m (loading.Done number)) = number
 moment (Load m (loading.Overlap other stamp)) = stamp
 moment (Load m (loading.LoadFull stamp)) = stamp
@@ -52,6 +58,7 @@ moment (Query half pc found) = stamp_of found
 abbrev pub accepted : Receipt → Option Update
 accepted (Register m (inserted.Done number)) = Some (update.Register m)
 accepted (Deregister base (removed.Done number m)) = Some (update.Deregister base)
+accepted (Replace m (replaced.Done number payload)) = Some (update.Replace m)
 accepted (Load m (loading.Done number)) = Some (update.Load m)
 accepted (Unload base (removed.Done number m)) = Some (update.Unload base)
 accepted _ = None
@@ -70,6 +77,13 @@ IsRightRemoval base members (removed.Done number m) = at_base base members ≡ S
 IsRightRemoval base members (removed.NotFound stamp) = IsNone (at_base base members)
 IsRightRemoval base members removed.Spent = ⊥
 
+-- the answer to a replacement: the payload that the member had, or that none has this whole span
+abbrev pub IsRightReplacement : SpanData → List Member → Replaced → Type 0
+IsRightReplacement span members (replaced.Done number payload) =
+    IsSomeAnd (at_span span members) (λ m. m.payload ≡ payload)
+IsRightReplacement span members (replaced.NotFound stamp) = IsNone (at_span span members)
+IsRightReplacement span members replaced.Spent = ⊥
+
 -- The answer is right of the state before it. That an accepted update fits is said of the history.
 -- Spent is no answer of a registry that has a state.
 abbrev pub IsRight : State → Receipt → Type 0
@@ -78,6 +92,7 @@ IsRight s (Register m (inserted.Overlap other stamp)) = IsLowestOverlap m.span s
 IsRight s (Register m (inserted.Full stamp)) = IsFree m.span s.registered
 IsRight s (Register m inserted.Spent) = ⊥
 IsRight s (Deregister base answer) = IsRightRemoval base s.registered answer
+IsRight s (Replace m answer) = IsRightReplacement m.span s.registered answer
 IsRight s (Load m (loading.Done number)) = Unit {0}
 IsRight s (Load m (loading.Overlap other stamp)) = IsLowestOverlap m.span (objects s) other
 IsRight s (Load m (loading.LoadFull stamp)) =
@@ -86,12 +101,19 @@ IsRight s (Load m loading.Spent) = ⊥
 IsRight s (Unload base answer) = IsRightRemoval base s.loaded answer
 IsRight s (Query half pc found) = query half pc s ≡ member_of found
 
--- A tree that is full has two leaves or a full one: at some moment since, and not after the stamp,
--- ten members were registered. (That the number of members grows with the nodes is not said yet.)
-abbrev pub HadTenMembers : State → List Update → ℕ → Receipt → Type 0
-HadTenMembers start history since (Register m (inserted.Full stamp)) =
-    (j : ℕ) × (since ≤ j) × (j ≤ stamp) × (10 ≤ length (state_at start history j).registered)
-HadTenMembers start history since _ = Unit {0}
+-- at some moment since, and not after the stamp of a Full, so many members were registered
+abbrev pub HadRegistered : ℕ → State → List Update → ℕ → Receipt → Type 0
+HadRegistered least start history since (Register m (inserted.Full stamp)) =
+    (j : ℕ) × (since ≤ j) × (j ≤ stamp) × (least ≤ length (state_at start history j).registered)
+HadRegistered least start history since _ = Unit {0}
+
+-- A tree that is full has two leaves or a full one. All nodes but those that callers may have out
+-- are in it, each for two members at least.
+pub record IsFilled (start : State) (history : List Update) (nodes callers since : ℕ)
+    (r : Receipt) : Type 0 where
+  pub ten : HadRegistered 10 start history since r
+  pub most : 2 ≤ nodes - 4 * callers
+      → HadRegistered (2 * (nodes - 4 * callers)) start history since r
 
 -- an accepted update stands in the history under its number
 abbrev pub IsAtNumber : List Update → Receipt → Type 0
@@ -105,7 +127,7 @@ pub record Holds (start : State) (history : List Update) (nodes callers since : 
   pub within : moment r ≤ length history
   pub numbered : IsAtNumber history r
   pub right : IsRight (state_at start history (made_before r)) r
-  pub filled : HadTenMembers start history since r
+  pub filled : IsFilled start history nodes callers since r
 
 -- each receipt of a list holds
 abbrev pub AllHold : State → List Update → ℕ → ℕ → ℕ → List Receipt → Type 0

@@ -1,7 +1,7 @@
 -- The state of a registry: three lists of members.
 use Rattle.std.specs.Prelude.{ℕ, ◌≤◌, List, [], ◌∷◌, ◌++◌, length, Option, ◌==◌, All, Contains}
 use Rattle.std.specs.List.{find}
-use Rattle.reg_model.specs.SpanData.{SpanData, Overlaps}
+use Rattle.reg_model.specs.SpanData.{SpanData, Overlaps, is_same_span}
 use Rattle.reg_model.specs.declared.span.Member.{Member}
 
 -- what is registered, what the loader has loaded, what it was given for good, and how many may be
@@ -39,6 +39,10 @@ pub record IsLawful (s : State) : Type 0 where
 -- the member with this first address
 abbrev pub at_base : ℕ → List Member → Option Member
 at_base base members = find (λ m. m.span.first == base) members
+
+-- the member with this whole span
+abbrev pub at_span : SpanData → List Member → Option Member
+at_span span members = find (λ m. is_same_span m.span span) members
 
 -- of the members that overlap the span, this one has the least first address
 pub record IsLowestOverlap (span : SpanData) (members : List Member) (m : Member) : Type 0 where

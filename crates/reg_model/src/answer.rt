@@ -5,11 +5,13 @@ use std::alloc::{AllocError, AllocFailed};
 use std::error::Error;
 use std::fmt;
 
-/// A change of the registry. An unload or a deregistration names its member by the first address.
+/// A change of the registry. An unload or a deregistration names its member by the first address, a
+/// replacement by its whole span.
 #[derive(Clone, Copy, Debug, PartialEq, Eq)]
 pub enum Update {
     Register { member: Member },
     Deregister { base: u64 },
+    Replace { member: Member },
     Load { member: Member },
     Unload { base: u64 },
 }
@@ -55,6 +57,14 @@ pub enum Removed {
     Spent,
 }
 
+/// The answer to a replacement. `payload` is the one that the member had before.
+#[derive(Clone, Copy, Debug, PartialEq, Eq)]
+pub enum Replaced {
+    Done { number: u32, payload: u32 },
+    NotFound { stamp: u32 },
+    Spent,
+}
+
 /// Why a try of a lookup was not answered: a word changed between two loads, or was locked.
 #[derive(Clone, Copy, Debug, PartialEq, Eq)]
 pub enum Again {
@@ -74,6 +84,7 @@ pub enum Half {
 pub enum Receipt {
     Register { member: Member, answer: Inserted },
     Deregister { base: u64, answer: Removed },
+    Replace { member: Member, answer: Replaced },
     Load { member: Member, answer: Loading },
     Unload { base: u64, answer: Removed },
     Query { half: Half, pc: u64, found: Found },
