@@ -3,6 +3,7 @@ use Rattle.std.proofs.Common.{◌≡◌, ℕ, ◌<◌, ◌≤◌, zero, suc, Lis
 use Rattle.std.specs.List.{slice_get, filter, All, Contains}
 use Rattle.std.proofs.lemmas.List.{take-append-le, take_all}
 use Rattle.std.proofs.lemmas.List.Elements.{All-filter, All-push, All-cons, All-head, All-tail, All-contains, Contains-append_cases, Contains-push_cases}
+use Rattle.reg_model.proofs.Replacing.{AreDisjoint-with_payload}
 use Rattle.reg_model.specs.SpanData.{Overlaps}
 use Rattle.reg_model.specs.State.{State, objects, IsFree, AreDisjoint, IsLawful}
 use Rattle.reg_model.specs.Query.{member_at}
@@ -10,7 +11,7 @@ use Rattle.reg_model.specs.SpanData.{contains}
 use Rattle.reg_model.specs.History.{Fits, after, IsHistory, state_after, state_at}
 use Rattle.reg_model.specs.declared.span.Member.{Member}
 use Rattle.reg_model.specs.declared.answer.Update.{Update}
-use Rattle.reg_model.specs.declared.answer.Update.TheVariants.{Register, Deregister, Load, Unload}
+use Rattle.reg_model.specs.declared.answer.Update.TheVariants.{Register, Deregister, Replace, Load, Unload}
 
 pub state_after-append : (s : State) (us vs : List Update) → state_after s (us ++ vs) ≡ state_after (state_after s us) vs
 state_after-append s [] vs = refl
@@ -69,6 +70,7 @@ length-filter_le test (m ∷ members) =
 pub lawful_after : (u : Update) (s : State) → IsLawful s → Fits u s → IsLawful (after u s)
 lawful_after (Register m) s lawful fits = record { registered = AreDisjoint-push s.registered m lawful.registered fits; objects = lawful.objects; room = lawful.room }
 lawful_after (Deregister base) s lawful fits = record { registered = AreDisjoint-filter (λ m. not (eqb m.span.first base)) [] s.registered lawful.registered; objects = lawful.objects; room = lawful.room }
+lawful_after (Replace m) s lawful fits = record { registered = AreDisjoint-with_payload m s.registered lawful.registered; objects = lawful.objects; room = lawful.room }
 lawful_after (Load m) s lawful fits = record {
   registered = lawful.registered;
   objects = rw (← append_assoc s.fixed s.loaded (m ∷ [])) (AreDisjoint-push (objects s) m lawful.objects fits.0);

@@ -1,5 +1,6 @@
 pub mod Spans
 pub mod Members
+pub mod Replacing
 pub mod Histories
 pub mod Receipts
 pub mod Numbers

@@ -2,15 +2,16 @@
 
 ghost use Rattle.std.specs.Prelude.{◌≡◌, ◌+◌, ◌^◌, ◌<◌, ◌≤◌, ◌↔◌, ◌==◌, ◌++◌, vec_len, not};
 ghost use Rattle.std.specs.Prelude.{IsTrue, IfOk, IfSome, OnErr, MatchOption};
-ghost use Rattle.reg_model.specs.State.{opening, at_base, IsFree, AreDisjoint, IsLowestOverlap};
-ghost use Rattle.reg_model.specs.History.{without};
+ghost use Rattle.reg_model.specs.State.{opening, at_base, at_span, IsFree, AreDisjoint};
+ghost use Rattle.reg_model.specs.State.{IsLowestOverlap};
+ghost use Rattle.reg_model.specs.History.{without, with_payload};
 ghost use Rattle.reg_model.specs.Query.{member_at};
 ghost use Rattle.reg_model.specs.PlainRegistryData.{Step, IsDoneOrOverlap};
 ghost use Rattle.reg_model.specs.Receipt.{IsPlace};
 ghost use Rattle.reg_model.specs.declared.answer.Receipt.TheVariants as receipt;
 ghost use Rattle.reg_model.specs.declared.answer.Half.TheVariants as half;
 
-use crate::answer::{Found, Inserted, Loading, NoMemory, Place, Removed};
+use crate::answer::{Found, Inserted, Loading, NoMemory, Place, Removed, Replaced};
 use crate::span::{Member, Span};
 use std::alloc::Global;
 use std::marker::Model;
@@ -103,6 +104,24 @@ impl PlainRegistry {
                 Removed::Done {
                     number: stamp + 1,
                     member,
+                }
+            }
+        }
+    }
+
+    /// Gives the registered member that has this one's span its payload.
+    pub fn replace(&mut self, member: Member) -> Replaced
+        requires { self.old.updates < 2 ^ 26 }
+        ensures step { Step self.old (receipt.Replace member result) self.new }
+    {
+        let stamp = self.updates;
+        match exchange(&mut self.registered, &member) {
+            None => Replaced::NotFound { stamp },
+            Some(old) => {
+                self.updates = stamp + 1;
+                Replaced::Done {
+                    number: stamp + 1,
+                    payload: old.payload,
                 }
             }
         }
@@ -213,6 +232,21 @@ fn remove_base(members: &mut Vec<Member>, base: u64)
             ensures { result ≡ not (member.now.span.first == base) }
         { member.span.first() != base },
     );
+}
+
+/// Gives the member with this one's span its payload, and answers what it was before.
+fn exchange(members: &mut [Member], member: &Member) -> Option<Member>
+    ensures before { result ≡ at_span member.now.span members.old }
+    ensures payload { members.new ≡ with_payload member.now members.old }
+{
+    let mut before = None;
+    for place in members.iter_mut() {
+        if place.span == member.span {
+            before = before.or(Some(*place));
+            *place = *member;
+        }
+    }
+    before
 }
 
 /// Of the members that overlap the span, the one with the least first address.
