@@ -1,13 +1,15 @@
 -- What a lawful change makes of the entries of the whole tree.
-use Rattle.std.proofs.Common.{◌≡◌, ℕ, ◌⊎◌, ◌↔◌, refl, sym, ◌∙◌, subst, Bool, false, IsTrue, inl}
-use Rattle.std.proofs.Common.{inr}
+use Rattle.std.proofs.Common.{◌≡◌, ℕ, ◌⊎◌, ◌↔◌, refl, ap, sym, ◌∙◌, subst, Bool, false, IsTrue}
+use Rattle.std.proofs.Common.{inl, inr}
 use Rattle.std.specs.Prelude.{Option, Some, None}
 use Rattle.std.specs.List.{Contains}
 use Rattle.std.proofs.lemmas.Bool.{cases_Bool, cond-true, cond-false, or_left, or_from, ltb-true}
 use Rattle.std.proofs.lemmas.Bool.{both_ways}
+use Rattle.reg_model.specs.SpanData.{SpanData}
 use Rattle.reg_model.specs.declared.span.Member.{Member}
 use Rattle.reg_model.specs.declared.answer.Update.{Update}
-use Rattle.reg_model.specs.declared.answer.Update.TheVariants.{Register, Deregister, Load, Unload}
+use Rattle.reg_model.specs.declared.answer.Update.TheVariants.{Register, Deregister, Replace}
+use Rattle.reg_model.specs.declared.answer.Update.TheVariants.{Load, Unload}
 use Rattle.tree_shape.specs.Numbers.{times, is_among}
 use Rattle.tree_shape.specs.NodeData.{entries_of}
 use Rattle.tree_shape.specs.Trees.{Contents, HasEntry}
@@ -132,6 +134,31 @@ module _ (f : Contents) (live : ℕ → Bool) (top : ℕ) (group fresh : ℕ →
           λ h. elim (group_or_not m h.0) [
             | inl inside ↦ (parts m).1 (inr ((becomes.1 m).1 (inside, h.1)))
             | inr none ↦ (parts m).1 (inl (h.0, none))
+          ],
+        ),
+      )
+  tree_becomes (Some (Replace m)) becomes =
+      let taken = becomes.0 in (
+        (taken.0, (of_group taken.0 taken.1.0, taken.1.1)),
+        λ x. (
+          λ h. elim ((parts x).0 h) [
+            | inl kept ↦ inl (
+              kept.0,
+              λ e. kept.1 (subst (HasEntry f group)
+                  (sym (one_at f live tree x taken.0 kept.0 (of_group taken.0 taken.1.0)
+                  (ap (λ (s : SpanData). s.first) (e ∙ sym taken.1.1)))) taken.1.0),
+            )
+            | inr new' ↦ elim ((becomes.1 x).0 new') [
+              | inl old ↦ inl (of_group x old.0, old.1)
+              | inr e ↦ inr e
+            ]
+          ],
+          λ h. elim h [
+            | inl old ↦ elim (group_or_not x old.0) [
+              | inl inside ↦ (parts x).1 (inr ((becomes.1 x).1 (inl (inside, old.1))))
+              | inr none ↦ (parts x).1 (inl (old.0, none))
+            ]
+            | inr e ↦ (parts x).1 (inr ((becomes.1 x).1 (inr e)))
           ],
         ),
       )

@@ -10,7 +10,8 @@ use Rattle.std.proofs.lemmas.Slice.Eq.{slice_eq-Decides}
 use Rattle.reg_model.specs.declared.span.Member.{Member}
 use Rattle.segment_array.specs.Ascending.{AscendFrom}
 use Rattle.reg_model.specs.declared.answer.Update.{Update}
-use Rattle.reg_model.specs.declared.answer.Update.TheVariants.{Register, Deregister, Load, Unload}
+use Rattle.reg_model.specs.declared.answer.Update.TheVariants.{Register, Deregister, Replace}
+use Rattle.reg_model.specs.declared.answer.Update.TheVariants.{Load, Unload}
 use Rattle.tree_shape.specs.declared.pair.Pair.{Pair}
 use Rattle.tree_shape.specs.declared.limits.TheConstants.{HIGHEST_LEVEL}
 use Rattle.tree_shape.specs.NodeData.{NodeData, Body, Pairs, Entries, Link, entries_of, entries_in, pairs_in, EntriesWithin, Cut}
@@ -23,8 +24,10 @@ use Rattle.tree_shape.proofs.Times.{In, all_at, all_from, all_among, all_times, 
 use Rattle.tree_shape.proofs.Leads.{contains_in, in_contains}
 use Rattle.tree_shape.proofs.Halves.{among}
 use Rattle.tree_shape.proofs.Leaves.{left_in, left_from}
+use Rattle.tree_shape.proofs.Payloads.{same_span_decides, listed_payload}
 use Rattle.tree_shape.proofs.Transfers.{become_same}
-use Rattle.reg_model.specs.History.{without}
+use Rattle.reg_model.specs.SpanData.{is_same_span}
+use Rattle.reg_model.specs.History.{without, with_payload}
 
 le_decides : (a b : ℕ) → Decides (nat_le a b) (a ≤ b)
 le_decides a b = (leb-true a b, le-leb a b)
@@ -288,6 +291,23 @@ become_decides (Some (Deregister base)) before after = Decides-like (entries_bec
     ))
     (Decides-and (list_any (λ m. m.span.first == base) before) (same_members after (without base before))
     (any_decides (λ m. m.span.first == base) (λ m. m.span.first ≡ base) (λ m. Decides-eqb m.span.first base) before) (same_decides after (without base before)))
+become_decides (Some (Replace m)) before after = Decides-like (entries_become (Some (Replace m)) before after)
+    (λ (h : ((x : Member) × (In x before × (x.span ≡ m.span))) × ((x : Member) → In x after ↔ In x (with_payload m before))). (
+      h.0,
+      λ x. (
+        λ there. (listed_payload m before h.0 x).0 ((h.1 x).0 there),
+        λ k. (h.1 x).1 ((listed_payload m before h.0 x).1 k),
+      ),
+    ))
+    (λ h. (
+      h.0,
+      λ x. (
+        λ there. (listed_payload m before h.0 x).1 ((h.1 x).0 there),
+        λ k. (h.1 x).1 ((listed_payload m before h.0 x).0 k),
+      ),
+    ))
+    (Decides-and (list_any (λ x. is_same_span x.span m.span) before) (same_members after (with_payload m before))
+    (any_decides (λ x. is_same_span x.span m.span) (λ x. x.span ≡ m.span) (λ x. same_span_decides x.span m.span) before) (same_decides after (with_payload m before)))
 become_decides (Some (Load m)) before after = (λ e. absurd (cc (e)), λ h. absurd h)
 become_decides (Some (Unload base)) before after = (λ e. absurd (cc (e)), λ h. absurd h)
 

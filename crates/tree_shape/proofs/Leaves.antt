@@ -1,4 +1,4 @@
--- The laws of putting an entry into a leaf and of taking one.
+-- The laws of putting an entry into a leaf, of taking one and of replacing one.
 use Rattle.std.proofs.Common.{◌≡◌, ◌↔◌, ◌≢◌, ℕ, suc, ◌+◌, ◌-◌, ◌<◌, ◌≤◌, List, [], ◌∷◌, length}
 use Rattle.std.proofs.Common.{refl, ap, sym, ◌∙◌, subst, arith, Bool, true, false, cond, not}
 use Rattle.std.proofs.Common.{IsTrue, eqb, ltb, inl, inr, ◌⊎◌, Some}
@@ -9,10 +9,10 @@ use Rattle.std.proofs.lemmas.Bool.{eqb-false, ne_eqb, ltb-true, ltb-false, or_ca
 use Rattle.std.proofs.lemmas.List.Elements.{recursion_from_All}
 use Rattle.reg_model.specs.declared.span.Member.{Member}
 use Rattle.reg_model.specs.declared.answer.Update.{Update}
-use Rattle.reg_model.specs.declared.answer.Update.TheVariants.{Register, Deregister}
+use Rattle.reg_model.specs.declared.answer.Update.TheVariants.{Register, Deregister, Replace}
 use Rattle.reg_model.specs.SpanData.{Overlaps}
 use Rattle.reg_model.specs.State.{at_base}
-use Rattle.reg_model.specs.History.{without}
+use Rattle.reg_model.specs.History.{without, with_payload}
 use Rattle.reg_model.proofs.Spans.{contains_from}
 use Rattle.tree_shape.specs.Numbers.{times, is_among}
 use Rattle.tree_shape.specs.NodeData.{NodeData, Entries, entries_of, EntriesWithin, IsLeaf}
@@ -23,7 +23,7 @@ use Rattle.tree_shape.specs.Lawful.{IsFilledAs}
 use Rattle.tree_shape.specs.Lawful.{FitsParent, fewest_entries}
 use Rattle.tree_shape.specs.LocalChange.{IsLocalChange, IsChangeOf, EntriesBecome, either}
 use Rattle.tree_shape.specs.LocalChange.{live_after, reached_nodes}
-use Rattle.tree_shape.specs.Steps.{IsPut, Adds, IsTake, Takes}
+use Rattle.tree_shape.specs.Steps.{IsPut, Adds, IsTake, Takes, IsReplace}
 use Rattle.tree_shape.proofs.Times.{In, some_same, all_at, listed_one, times_head, once_most}
 use Rattle.tree_shape.proofs.Leads.{contains_in, in_contains}
 use Rattle.tree_shape.proofs.Local.{tree_after}
@@ -33,6 +33,8 @@ use Rattle.tree_shape.proofs.Becomes.{tree_becomes}
 use Rattle.tree_shape.proofs.Listed.{tree_same, entry_same, named, live_now, lawful_now}
 use Rattle.tree_shape.proofs.Runs.{entries_lower}
 use Rattle.tree_shape.proofs.Slots.{none_at}
+use Rattle.tree_shape.proofs.Payloads.{listed_payload, payload_length, payload_within}
+use Rattle.tree_shape.proofs.Payloads.{span_listed}
 use Rattle.tree_shape.proofs.Halves.{among, only}
 
 -- one node as a test
@@ -220,7 +222,7 @@ put_new (e ∷ entries) m =
       | false ↦ inr (put_new entries m)
     ]
 
-put_length : (entries : List Member) (m : Member) → length (with_entry m entries) ≡ suc (length entries)
+pub put_length : (entries : List Member) (m : Member) → length (with_entry m entries) ≡ suc (length entries)
 put_length [] m = refl
 put_length (e ∷ entries) m =
     elim (ltb m.span.first e.span.first) as (λ v. length (cond v (m ∷ e ∷ entries) (e ∷ with_entry m entries)) ≡ suc (suc (length entries))) [
@@ -420,3 +422,23 @@ take_takes f live lawful n base member g take' =
             (h.0, λ first. h.1 (one_at f live lawful.tree m member h.0 held (first ∙ sym taken.1))),
       );
     }
+
+pub replace_changes : (f : Contents) (live : ℕ → Bool) → IsLawfulTree f live →
+    (n : ℕ) (member : Member) (g : Contents) →
+    IsReplace f live n member g → IsChangeOf f live n (n ∷ []) [] g (Some (Replace member)) (n ∷ [])
+replace_changes f live lawful n member g replace' =
+    let es = entries_of (f n) in
+    let before = leaf_ordered (f n) replace'.is_leaf (lawful.tree.ordered n replace'.live_leaf) in
+    let filled = leaf_filled n (f n) replace'.is_leaf (lawful.filled n replace'.live_leaf) in
+    let len = payload_length member es in
+    let held = span_listed member.span es replace'.held in
+    rewritten_changes f live lawful.tree n (with_payload member es) g
+    (record {
+      alive = replace'.live_leaf;
+      leaf = replace'.is_leaf;
+      above = replace'.above;
+      others = replace'.others;
+      within = payload_within member (f n).low (f n).high es before.1;
+    })
+    (Some (Replace member)) (held, listed_payload member es held)
+    (subst (IsFilled n) (sym replace'.above) (omega (arith, len), omega (arith, len)))

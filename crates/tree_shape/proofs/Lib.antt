@@ -13,6 +13,7 @@ pub mod Slotted
 pub mod Halves
 pub mod Splits
 pub mod Joins
+pub mod Payloads
 pub mod Leaves
 pub mod Roots
 pub mod Wholes

@@ -8,7 +8,8 @@ use Rattle.std.proofs.lemmas.Bool.{lt-ltb, both_ways}
 use Rattle.std.specs.Prelude.{Option, Some, None}
 use Rattle.reg_model.specs.declared.span.Member.{Member}
 use Rattle.reg_model.specs.declared.answer.Update.{Update}
-use Rattle.reg_model.specs.declared.answer.Update.TheVariants.{Register, Deregister, Load, Unload}
+use Rattle.reg_model.specs.declared.answer.Update.TheVariants.{Register, Deregister, Replace}
+use Rattle.reg_model.specs.declared.answer.Update.TheVariants.{Load, Unload}
 use Rattle.tree_shape.specs.Numbers.{times, is_among}
 use Rattle.tree_shape.specs.NodeData.{entries_of}
 use Rattle.tree_shape.specs.Trees.{Contents, Branch, branches, within, leaving, HasEntry}
@@ -48,6 +49,19 @@ become_same (Some (Deregister base)) before after before' after' b a becomes = (
   λ m. (
     λ h. (let old = (becomes.1 m).0 ((a m).0 h) in ((b m).1 old.0, old.1)),
     λ h. (a m).1 ((becomes.1 m).1 ((b m).0 h.0, h.1)),
+  ),
+)
+become_same (Some (Replace m)) before after before' after' b a becomes = (
+  (becomes.0.0, ((b becomes.0.0).1 becomes.0.1.0, becomes.0.1.1)),
+  λ x. (
+    λ h. elim ((becomes.1 x).0 ((a x).0 h)) [
+      | inl old ↦ inl ((b x).1 old.0, old.1)
+      | inr e ↦ inr e
+    ],
+    λ h. (a x).1 ((becomes.1 x).1 (elim h [
+      | inl old ↦ inl ((b x).0 old.0, old.1)
+      | inr e ↦ inr e
+    ])),
   ),
 )
 become_same (Some (Load m)) before after before' after' b a becomes = absurd becomes

@@ -5,9 +5,11 @@ use Rattle.std.specs.Prelude.{Option, None, Some, ◌==◌, nat_le, nat_lt, if�
 use Rattle.std.specs.List.{list_all, list_any, flat_map}
 use lib.Pointwise.{pointwise}
 use Rattle.reg_model.specs.declared.span.Member.{Member}
-use Rattle.reg_model.specs.History.{without}
+use Rattle.reg_model.specs.SpanData.{is_same_span}
+use Rattle.reg_model.specs.History.{without, with_payload}
 use Rattle.reg_model.specs.declared.answer.Update.{Update}
-use Rattle.reg_model.specs.declared.answer.Update.TheVariants.{Register, Deregister, Load, Unload}
+use Rattle.reg_model.specs.declared.answer.Update.TheVariants.{Register, Deregister, Replace}
+use Rattle.reg_model.specs.declared.answer.Update.TheVariants.{Load, Unload}
 use Rattle.tree_shape.specs.declared.pair.Pair.{Pair}
 use Rattle.tree_shape.specs.declared.limits.TheConstants.{PAIRS, ENTRIES, HIGHEST_LEVEL}
 use Rattle.tree_shape.specs.NodeData.{NodeData, Body, Pairs, Entries, Link, entries_of}
@@ -127,6 +129,9 @@ entries_become (Some (Register m)) before after =
 entries_become (Some (Deregister base)) before after =
     list_any (λ m. m.span.first == base) before
     && same_members after (without base before)
+entries_become (Some (Replace m)) before after =
+    list_any (λ x. is_same_span x.span m.span) before
+    && same_members after (with_payload m before)
 entries_become (Some (Load m)) before after = false
 entries_become (Some (Unload base)) before after = false
 

@@ -4,7 +4,8 @@ use Rattle.std.specs.Prelude.{Option, Some, None, if◌then◌else◌}
 use Rattle.std.specs.List.{AllByRecursion}
 use Rattle.reg_model.specs.declared.span.Member.{Member}
 use Rattle.reg_model.specs.declared.answer.Update.{Update}
-use Rattle.reg_model.specs.declared.answer.Update.TheVariants.{Register, Deregister, Load, Unload}
+use Rattle.reg_model.specs.declared.answer.Update.TheVariants.{Register, Deregister, Replace}
+use Rattle.reg_model.specs.declared.answer.Update.TheVariants.{Load, Unload}
 use Rattle.tree_shape.specs.declared.limits.TheConstants.{HIGHEST_LEVEL}
 use Rattle.tree_shape.specs.Numbers.{times, is_among}
 use Rattle.tree_shape.specs.Trees.{Contents, branches, within, leaving, HasEntry}
@@ -59,7 +60,8 @@ ChangesEntries f live top group fresh g =
     ⊎ HasEntry g (is_among (reached_nodes top group fresh g)) m)
 
 -- What a change makes of entries: it keeps them, or changes them by an update. A member is added
--- that was not there, and one is taken away that was. The loader's members are no entries.
+-- that was not there, one is taken away that was, or one gives way to another with the same span.
+-- The loader's members are no entries.
 abbrev pub EntriesBecome : Option Update → (Member → Type 0) → (Member → Type 0) → Type 0
 EntriesBecome None before after = (m : Member) → after m ↔ before m
 EntriesBecome (Some (Register added)) before after =
@@ -67,6 +69,9 @@ EntriesBecome (Some (Register added)) before after =
 EntriesBecome (Some (Deregister base)) before after =
     ((m : Member) × (before m × (m.span.first ≡ base)))
     × ((m : Member) → after m ↔ (before m × (m.span.first ≢ base)))
+EntriesBecome (Some (Replace m)) before after =
+    ((x : Member) × (before x × (x.span ≡ m.span)))
+    × ((x : Member) → after x ↔ ((before x × (x.span ≢ m.span)) ⊎ (x ≡ m)))
 EntriesBecome (Some (Load m)) before after = ⊥
 EntriesBecome (Some (Unload base)) before after = ⊥
 

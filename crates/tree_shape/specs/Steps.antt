@@ -1,11 +1,12 @@
 -- The changes of nodes put into a tree: which contents g come of contents f.
 use Rattle.std.specs.Prelude.{◌≡◌, ◌≢◌, ℕ, zero, suc, ◌+◌, ◌<◌, ◌≤◌, ◌↔◌, ◌⊎◌, Bool, true}
-use Rattle.std.specs.Prelude.{false, List, [], ◌∷◌, ◌++◌, length, Some, IsTrue, ◌==◌, if◌then◌else◌}
+use Rattle.std.specs.Prelude.{false, List, [], ◌∷◌, ◌++◌, length, Some, IsSome, IsTrue, ◌==◌}
+use Rattle.std.specs.Prelude.{if◌then◌else◌}
 use Rattle.std.specs.List.{AllByRecursion, slice_get}
 use Rattle.reg_model.specs.declared.span.Member.{Member}
 use Rattle.reg_model.specs.SpanData.{IsSpan}
-use Rattle.reg_model.specs.State.{IsFree, at_base}
-use Rattle.reg_model.specs.History.{without}
+use Rattle.reg_model.specs.State.{IsFree, at_base, at_span}
+use Rattle.reg_model.specs.History.{without, with_payload}
 use Rattle.tree_shape.specs.declared.pair.Pair.{Pair}
 use Rattle.tree_shape.specs.NodeData.{NodeData, Body, Pairs, Entries, Link, pairs_of, entries_of}
 use Rattle.tree_shape.specs.NodeData.{IsLeaf}
@@ -129,6 +130,16 @@ pub record Takes (f : Contents) (live : ℕ → Bool) (leaf : ℕ) (member : Mem
   pub tree : IsTree g live
   pub lawful : fewest_entries leaf < length (entries_of (f leaf)) → IsLawfulTree g live
   pub entries : (m : Member) → HasEntry g live m ↔ (HasEntry f live m × (m ≢ member))
+
+-- The entry of a leaf that has a member's whole span gives way to that member.
+pub record IsReplace (f : Contents) (live : ℕ → Bool) (leaf : ℕ) (member : Member) (g : Contents)
+    : Type 0 where
+  pub live_leaf : IsTrue (live leaf)
+  pub is_leaf : IsLeaf (f leaf)
+  pub held : IsSome (at_span member.span (entries_of (f leaf)))
+  pub above : let s = f leaf in
+      g leaf ≡ record s { body = Entries (with_payload member (entries_of s)) }
+  pub others : (n : ℕ) → n ≢ leaf → g n ≡ f n
 
 -- The root is lifted: what it had moves to the node `fresh`, its one child.
 pub record IsLift (f : Contents) (live : ℕ → Bool) (fresh : ℕ) (g : Contents) : Type 0 where

@@ -2,8 +2,8 @@
 
 ghost use Rattle.std.specs.Prelude.{◌≡◌, ◌+◌, ◌-◌, ◌<◌, ◌≤◌, ◌++◌, length, take, drop};
 ghost use Rattle.std.specs.Prelude.{Some, IsSome};
-ghost use Rattle.reg_model.specs.State.{at_base};
-ghost use Rattle.reg_model.specs.History.{without};
+ghost use Rattle.reg_model.specs.State.{at_base, at_span};
+ghost use Rattle.reg_model.specs.History.{with_payload, without};
 ghost use Rattle.tree_shape.specs.NodeData.{Pairs, Entries, IsLeaf, IsInner, InOrder};
 ghost use Rattle.tree_shape.specs.NodeData.{entries_of, pairs_of, place_for};
 ghost use Rattle.tree_shape.specs.Nodes.{body_of, IsCounted};
@@ -117,4 +117,18 @@ pub fn take_entry(node: &Node, base: u64) -> (Node, Member)
         node.holding(leaf_of(&entries[..place], &[], &entries[place + 1..])),
         entries[place],
     )
+}
+
+/// A leaf in which the entry with a member's whole span gives way to that member.
+pub fn replace_entry(node: &Node, member: &Member) -> Node
+    requires leaf { IsLeaf node.now }
+    requires ordered { InOrder node.now }
+    requires held { IsSome (at_span member.now.span (entries_of node.now)) }
+    ensures { let s = node.now in
+        result ≡ record s { body = Entries (with_payload member.now (entries_of s)) } }
+{
+    // A leaf has no more than fit, so one has room again.
+    let _few = node.entries();
+    let (others, _) = take_entry(node, member.span.first());
+    put_entry(&others, member)
 }

@@ -8,6 +8,7 @@ ghost use Rattle.std.specs.List.{AllByRecursion};
 ghost use Rattle.reg_model.specs.declared.span.Member.{Member};
 ghost use Rattle.reg_model.specs.declared.answer.Update.{Update};
 ghost use Rattle.reg_model.specs.declared.answer.Update.TheVariants.{Register, Deregister};
+ghost use Rattle.reg_model.specs.declared.answer.Update.TheVariants.{Replace};
 ghost use Rattle.tree_shape.specs.declared.pair.Pair.{Pair};
 ghost use Rattle.tree_shape.specs.declared.limits.TheConstants.{PAIRS, ENTRIES, HIGHEST_LEVEL};
 ghost use Rattle.reg_model.specs.SpanData.{contains};
@@ -24,7 +25,7 @@ ghost use Rattle.tree_shape.specs.Decisions.{is_lawful_change};
 ghost use Rattle.tree_shape.specs.Numbers.{is_among};
 ghost use Rattle.tree_shape.specs.Steps.{Keeps, IsSplit, IsJoin, IsShare, with_node, without_node};
 ghost use Rattle.tree_shape.specs.Steps.{IsFenceMove, fence_nodes, IsLift, Lifts, IsRootSplit};
-ghost use Rattle.tree_shape.specs.Steps.{IsSink, IsPut, Adds, IsTake, Takes};
+ghost use Rattle.tree_shape.specs.Steps.{IsSink, IsPut, Adds, IsTake, Takes, IsReplace};
 
 /// A lookup down the separators comes to a leaf, and finds there exactly what the tree holds.
 pub fn lookup()
@@ -261,4 +262,12 @@ pub fn take()
         → IsLawfulTree f live → IsTake f live leaf base member g
         → fewest_entries leaf < length (entries_of (f leaf))
         → IsChangeOf f live leaf (leaf ∷ []) [] g (Some (Deregister base)) (leaf ∷ []) }
+{}
+
+/// A leaf whose entry gives way to a member with the same whole span exchanges exactly these two. No
+/// count and no fence changes, so the tree stays lawful in any leaf.
+pub fn replace()
+    ensures { (f : Contents) (live : ℕ → Bool) (leaf : ℕ) (member : Member) (g : Contents)
+        → IsLawfulTree f live → IsReplace f live leaf member g
+        → IsChangeOf f live leaf (leaf ∷ []) [] g (Some (Replace member)) (leaf ∷ []) }
 {}

@@ -19,7 +19,7 @@ mod pair;
 mod row;
 mod split;
 
-pub use edits::{drop_pair, put_entry, put_pair, set_separator, take_entry};
+pub use edits::{drop_pair, put_entry, put_pair, replace_entry, set_separator, take_entry};
 pub use find::{first_overlap, inner_slot, leaf_slot};
 pub use join::{even_pair, join_pair, move_fence, sink_root};
 pub use limits::{ENTRIES, PAIRS};
