@@ -4,7 +4,7 @@ use Rattle.std.specs.List.{AllByRecursion}
 use mathlib.Core.Option.{some}
 use mathlib.Core.List.{IsPrefix}
 use lib.ListN.{get_elem?}
-use Rattle.reg_model.specs.State.{State, at_base}
+use Rattle.reg_model.specs.State.{State, at_base, at_span}
 use Rattle.reg_model.specs.History.{Fits, after, state_after}
 use Rattle.reg_model.specs.PlainRegistryData.{Step}
 use Rattle.reg_model.specs.Receipt.{moment, accepted, made, Holds, HadTenMembers}
@@ -13,6 +13,7 @@ use Rattle.reg_model.specs.declared.answer.Update.TheVariants as update
 use Rattle.reg_model.specs.declared.answer.Inserted.TheVariants as inserted
 use Rattle.reg_model.specs.declared.answer.Loading.TheVariants as loading
 use Rattle.reg_model.specs.declared.answer.Removed.TheVariants as removed
+use Rattle.reg_model.specs.declared.answer.Replaced.TheVariants as replaced
 use Rattle.reg_model.specs.declared.answer.Receipt.TheVariants as receipt
 use Rattle.std.proofs.lemmas.Option.{none-some, same_Some}
 use Rattle.reg_model.specs.declared.answer.Receipt.{Receipt}
@@ -68,6 +69,18 @@ answered s (update.Deregister base) n fit =
         number = refl;
         makes = refl;
         one_step = record { right = m.1; changes = (fit, refl, refl) };
+        no_full = λ st history since. tt;
+      },
+    )
+answered s (update.Replace m) n fit =
+    let old = some_of (at_span m.span s.registered) fit in (
+      receipt.Replace m (replaced.Done (n + 1) old.0.payload),
+      record {
+        is_done = some_and (λ x. receipt.Replace m (replaced.Done (n + 1) old.0.payload) ≡ receipt.Replace m (replaced.Done (n + 1) x.payload)) (at_span m.span s.registered) old.0 old.1 refl;
+        accepts = refl;
+        number = refl;
+        makes = refl;
+        one_step = record { right = some_and (λ x. x.payload ≡ old.0.payload) (at_span m.span s.registered) old.0 old.1 refl; changes = (fit, refl, refl) };
         no_full = λ st history since. tt;
       },
     )

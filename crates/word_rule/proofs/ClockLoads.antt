@@ -39,7 +39,7 @@ use Rattle.reg_model.specs.Receipt.{HadTenMembers, IsRight}
 use Rattle.word_rule.specs.Steps.{IsRefusalOf, MayRefuse, Refuses}
 use Rattle.word_rule.specs.declared.log.LoaderHolding.{LoaderHolding}
 use Rattle.word_rule.proofs.CopyStores.{loader_held}
-use Rattle.word_rule.proofs.TreeRefusals.{ShownLeaves, found_there, held_inside, registered_ordered, register_refused, deregister_refused}
+use Rattle.word_rule.proofs.TreeRefusals.{ShownLeaves, found_there, held_inside, registered_ordered, register_refused, deregister_refused, replace_refused}
 use Rattle.word_rule.proofs.Answering.{Told, told_record, told_numbers, all_ended}
 use Rattle.word_rule.proofs.Refusals.{HoldsNow, query_at, query_answers, refusal}
 use Rattle.word_rule.specs.Plays.{Seated, loads_clock}
@@ -170,6 +170,8 @@ module _ (law : LeafLaw) (t : Terms) (slots id : ℕ) (me : Seated) (live : is_g
         )
     asked (ask.Refused (update.Deregister base)) q =
         let x = deregister_refused t r.memory.history me.0 (lower (get_or s.words 0 0)) low terms leaves base q in (_, ((_, (refl, x.0)), (inr (_, (refl, x.1)), λ h. record { own = refl; right = x.0.3; filled = tt })))
+    asked (ask.Refused (update.Replace n)) q =
+        let x = replace_refused t r.memory.history me.0 (lower (get_or s.words 0 0)) low terms leaves n q in (_, ((_, (refl, x.0)), (inr (_, (refl, x.1)), λ h. record { own = refl; right = x.0.3; filled = tt })))
 
     abbrev receipts : List Receipt
     receipts = (asked a may).0

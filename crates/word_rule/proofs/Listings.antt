@@ -1,10 +1,10 @@
 -- Listings of copies, and what a history makes of the loaded members.
-use Rattle.std.proofs.Common.{◌≡◌, ◌≢◌, ℕ, zero, suc, ◌+◌, ◌<◌, ◌≤◌, List, [], ◌∷◌, ◌++◌, length, get_or, Contains, sym, refl, ap, ◌∙◌, subst, ⊎_elim, arith, append-nil, ◌==◌, not, Bool, true, false, true≢false, IsSome, Some, if◌then◌else◌, eq-eqb, ne_eqb}
+use Rattle.std.proofs.Common.{◌≡◌, ◌≢◌, ℕ, zero, suc, ◌+◌, ◌<◌, ◌≤◌, List, [], ◌∷◌, ◌++◌, length, get_or, Contains, sym, refl, ap, ◌∙◌, subst, ⊎_elim, arith, append-nil, ◌==◌, not, map, Bool, true, false, true≢false, IsSome, Some, if◌then◌else◌, eq-eqb, ne_eqb}
 use Rattle.std.specs.List.{AllByRecursion, All, filter, find}
 use Rattle.std.proofs.lemmas.List.Elements.{All-contains, Contains-get_or, Contains-push_cases}
 use Rattle.std.proofs.lemmas.Option.{none-some, same_Some}
 use native.Mathlib.Decide.{ℕ_discrete}
-use Rattle.reg_model.specs.SpanData.{IsSpan, Overlaps}
+use Rattle.reg_model.specs.SpanData.{IsSpan, Overlaps, is_same_span}
 use Rattle.reg_model.specs.State.{State, AreDisjoint, IsFree, IsLawful, at_base}
 use Rattle.reg_model.specs.History.{after, state_after, IsHistory}
 use Rattle.reg_model.specs.declared.span.Member.{Member}
@@ -79,6 +79,7 @@ pub state_fixed : (s : State) (history : List Update) → ((state_after s histor
 state_fixed s [] = (refl, refl)
 state_fixed s (update.Register m ∷ history) = state_fixed (after (update.Register m) s) history
 state_fixed s (update.Deregister base ∷ history) = state_fixed (after (update.Deregister base) s) history
+state_fixed s (update.Replace m ∷ history) = state_fixed (after (update.Replace m) s) history
 state_fixed s (update.Load m ∷ history) = state_fixed (after (update.Load m) s) history
 state_fixed s (update.Unload base ∷ history) = state_fixed (after (update.Unload base) s) history
 
@@ -87,6 +88,7 @@ pub loaded_spans : (t : Terms) (s : State) (history : List Update) → AllByRecu
 loaded_spans t s [] h all x c = all x c
 loaded_spans t s (update.Register m ∷ history) h all x c = loaded_spans t (after (update.Register m) s) history h.1 all x c
 loaded_spans t s (update.Deregister base ∷ history) h all x c = loaded_spans t (after (update.Deregister base) s) history h.1 all x c
+loaded_spans t s (update.Replace m ∷ history) h all x c = loaded_spans t (after (update.Replace m) s) history h.1 all x c
 loaded_spans t s (update.Load m ∷ history) h all x c = loaded_spans t (after (update.Load m) s) history h.1 (λ z d. ⊎_elim (λ (e : Contains s.loaded z). all z e) (λ (e : m ≡ z). subst (λ y. IsSpan y.span) e h.0.0) (Contains-push_cases s.loaded m z d)) x c
 loaded_spans t s (update.Unload base ∷ history) h all x c = loaded_spans t (after (update.Unload base) s) history h.1 (λ z d. all z (contains_filter (λ m. not (m.span.first == base)) s.loaded z d).0) x c
 
@@ -99,11 +101,21 @@ all_filtered P p (y ∷ xs) every = go (p y) (all_filtered P p xs every.1)
     go true rest = (every.0, rest)
     go false rest = rest
 
+-- what holds of all and of one more holds of all where that one takes some places
+all_placed : (P : Member → Type 0) (p : Member → Bool) (m : Member) (xs : List Member) → P m → AllByRecursion P xs → AllByRecursion P (map (λ x. if p x then m else x) xs)
+all_placed P p m [] new every = tt
+all_placed P p m (y ∷ xs) new every = (go (p y), all_placed P p m xs new every.1)
+  where
+    go : (b : Bool) → P (if b then m else y)
+    go true = new
+    go false = every.0
+
 -- loaded members may be made known
 pub loaded_members : (t : Terms) (s : State) (history : List Update) → AllByRecursion (IsOfTerms t) history → AllByRecursion (IsMemberOf t) s.loaded → AllByRecursion (IsMemberOf t) (state_after s history).loaded
 loaded_members t s [] h all = all
 loaded_members t s (update.Register m ∷ history) h all = loaded_members t (after (update.Register m) s) history h.1 all
 loaded_members t s (update.Deregister base ∷ history) h all = loaded_members t (after (update.Deregister base) s) history h.1 all
+loaded_members t s (update.Replace m ∷ history) h all = loaded_members t (after (update.Replace m) s) history h.1 all
 loaded_members t s (update.Load m ∷ history) h all = loaded_members t (after (update.Load m) s) history h.1 (all_append (IsMemberOf t) s.loaded (m ∷ []) all (h.0, tt))
 loaded_members t s (update.Unload base ∷ history) h all = loaded_members t (after (update.Unload base) s) history h.1 (all_filtered (IsMemberOf t) (λ m. not (m.span.first == base)) s.loaded all)
 
@@ -112,6 +124,7 @@ pub registered_members : (t : Terms) (s : State) (history : List Update) → All
 registered_members t s [] h all = all
 registered_members t s (update.Register m ∷ history) h all = registered_members t (after (update.Register m) s) history h.1 (all_append (IsMemberOf t) s.registered (m ∷ []) all (h.0, tt))
 registered_members t s (update.Deregister base ∷ history) h all = registered_members t (after (update.Deregister base) s) history h.1 (all_filtered (IsMemberOf t) (λ m. not (m.span.first == base)) s.registered all)
+registered_members t s (update.Replace m ∷ history) h all = registered_members t (after (update.Replace m) s) history h.1 (all_placed (IsMemberOf t) (λ x. is_same_span x.span m.span) m s.registered h.0 all)
 registered_members t s (update.Load m ∷ history) h all = registered_members t (after (update.Load m) s) history h.1 all
 registered_members t s (update.Unload base ∷ history) h all = registered_members t (after (update.Unload base) s) history h.1 all
 
@@ -120,6 +133,7 @@ pub none_registered : (s : State) (history : List Update) → publications histo
 none_registered s [] all none = none
 none_registered s (update.Register m ∷ history) all none = let most = count_by-le-length is_of_loader history in let step = sum_by-cons (λ u. once (is_of_loader u)) (update.Register m) history in absurd (omega (arith, all, most, step))
 none_registered s (update.Deregister base ∷ history) all none = let most = count_by-le-length is_of_loader history in let step = sum_by-cons (λ u. once (is_of_loader u)) (update.Deregister base) history in absurd (omega (arith, all, most, step))
+none_registered s (update.Replace m ∷ history) all none = let most = count_by-le-length is_of_loader history in let step = sum_by-cons (λ u. once (is_of_loader u)) (update.Replace m) history in absurd (omega (arith, all, most, step))
 none_registered s (update.Load m ∷ history) all none = let step = sum_by-cons (λ u. once (is_of_loader u)) (update.Load m) history in none_registered (after (update.Load m) s) history (omega (arith, all, step)) none
 none_registered s (update.Unload base ∷ history) all none = let step = sum_by-cons (λ u. once (is_of_loader u)) (update.Unload base) history in none_registered (after (update.Unload base) s) history (omega (arith, all, step)) none
 

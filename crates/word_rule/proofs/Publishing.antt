@@ -68,6 +68,7 @@ fits t s (update.Unload base) before new fixed loads same few p =
     )
 fits t s (update.Register m) before new fixed loads same few p = absurd p
 fits t s (update.Deregister base) before new fixed loads same few p = absurd p
+fits t s (update.Replace m) before new fixed loads same few p = absurd p
 
 module _ (t : Terms) (slots id : ℕ) (me : Seated) (caller : me.0.role ≡ role.Caller) where
   abbrev Rule : Sit → Type 0

@@ -117,3 +117,4 @@ refusal t history since terms lawful updates members ascending same = go
         (receipt.Unload base (removed.NotFound (length history)), ((refl, refl, refl, none), record { accepts = refl; now = refl; holds = λ callers. record { within = omega arith; numbered = tt; right = right_now t history (receipt.Unload base (removed.NotFound (length history))) none; filled = tt } }))
     go (update.Register m) h = absurd h
     go (update.Deregister base) h = absurd h
+    go (update.Replace m) h = absurd h

@@ -1,24 +1,26 @@
 -- What held live leaves show of the registered members, and the refusals that follow from it.
 use Rattle.std.proofs.Common.{◌≡◌, ℕ, zero, suc, ◌+◌, ◌≤◌, ◌==◌, ◌⊎◌, ⊎_elim, List, [], ◌∷◌, ◌++◌, length, get_or, max, Contains, sym, refl, ap, ◌∙◌, subst, arith, Bool, true, false, true≢false, IsTrue, Option, Some, None, IsNone, IfSome, is_some}
-use Rattle.std.specs.List.{AllByRecursion}
+use Rattle.std.specs.List.{AllByRecursion, find}
 use Rattle.std.proofs.lemmas.List.Elements.{All-contains, Contains-get_or, Contains-append_left, Contains-append_right, Contains-append_cases}
 use Rattle.std.proofs.lemmas.Option.{none-some, same_Some}
 use native.Mathlib.Decide.{dec_le}
 use mathlib.Core.Option.{some}
 use lib.ListN.{get_elem?}
-use Rattle.reg_model.specs.SpanData.{SpanData, Overlaps, contains}
-use Rattle.reg_model.specs.State.{AreDisjoint, IsFree, IsLowestOverlap, at_base}
+use Rattle.reg_model.specs.SpanData.{SpanData, Overlaps, contains, is_same_span}
+use Rattle.reg_model.specs.State.{AreDisjoint, IsFree, IsLowestOverlap, at_base, at_span}
 use Rattle.reg_model.specs.History.{state_after}
 use Rattle.reg_model.specs.Query.{member_at}
 use Rattle.reg_model.specs.declared.span.Member.{Member}
 use Rattle.reg_model.specs.declared.answer.Inserted.TheVariants as inserted
 use Rattle.reg_model.specs.declared.answer.Removed.TheVariants as removed
+use Rattle.reg_model.specs.declared.answer.Replaced.TheVariants as replaced
 use Rattle.reg_model.specs.declared.answer.Update.{Update}
 use Rattle.reg_model.specs.declared.answer.Update.TheVariants as update
 use Rattle.reg_model.specs.declared.answer.Receipt.{Receipt}
 use Rattle.reg_model.specs.declared.answer.Receipt.TheVariants as receipt
 use Rattle.reg_model.proofs.Histories.{member_at-contains}
 use Rattle.reg_model.proofs.Spans.{contains_from, contains_bounds}
+use Rattle.reg_model.proofs.Replacing.{same_span}
 use Rattle.segment_array.specs.Ascending.{AscendFrom}
 use Rattle.tree_shape.specs.NodeData.{NodeData, Body, Pairs, Entries, Link, IsInFences, entries_in, entries_of}
 use Rattle.tree_shape.specs.Trees.{Contents}
@@ -36,7 +38,7 @@ use Rattle.word_rule.specs.Callers.{start}
 use Rattle.word_rule.specs.Nodes.{Shadow, IsPlaced, HoldsNode, NodesHold}
 use Rattle.word_rule.specs.Observations.{AreInside, HadMembers, IsFullCount, WasFull, last_moment}
 use Rattle.word_rule.specs.Steps.{IsRefusalOf}
-use Rattle.word_rule.specs.TreeRefusals.{IsInOne, HoldsLeaves, ShowsOverlap, ShowsNone, ShowsFull, HadNoRoom, entries_in_leaves}
+use Rattle.word_rule.specs.TreeRefusals.{IsInOne, HoldsLeaves, ShowsOverlap, ShowsNone, ShowsNoSpan, ShowsFull, HadNoRoom, entries_in_leaves}
 use Rattle.word_rule.proofs.Each.{all_map, all_with, held_is}
 use Rattle.word_rule.proofs.Listings.{contains_find, find_contains}
 use Rattle.word_rule.proofs.Refusals.{HoldsNow, right_now}
@@ -98,18 +100,20 @@ module _ (f : Contents) (members : List Member) (leaves : List ℕ) (all : AllBy
       let entry = listed_entry f members leaves all disjoint x (max x.span.first span.first) (Contains-get_or members k d l) meets.0 (contain (max x.span.first span.first) (omega arith) meets.1) in
       All-contains (λ z. ¬ Overlaps z.span span) (entries_in_leaves f leaves) x free entry over
 
-  -- none begins at an address inside the fences, where no entry does
-  none_listed : (base : ℕ) → ((x : Member) → Contains members x → x.span.first ≤ x.span.last) → IsInOne f leaves base → IsNone (at_base base (entries_in_leaves f leaves)) → IsNone (at_base base members)
-  none_listed base ordered inside none = found (is_some (at_base base members)) refl
+  -- none passes a test that only members with an address inside the fences pass, where no entry does
+  none_listed : (p : Member → Bool) (pc : ℕ) → ((x : Member) → Contains members x → p x ≡ true → IsTrue (contains x.span pc)) → IsInOne f leaves pc → IsNone (find p (entries_in_leaves f leaves)) → IsNone (find p members)
+  none_listed p pc has inside none = found (is_some (find p members)) refl
     where
-      found : (b : Bool) → is_some (at_base base members) ≡ b → IsNone (at_base base members)
+      found : (b : Bool) → is_some (find p members) ≡ b → IsNone (find p members)
       found false e = e
       found true e =
-          let d = find_contains (λ (m : Member). m.span.first == base) members e in
-          let is : d.0.span.first ≡ base = eqb_true d.0.span.first base d.1.1 in
-          let wide = ordered d.0 d.1.0 in
-          let entry = listed_entry f members leaves all disjoint d.0 base d.1.0 (contains_from d.0.span base (omega (arith, is)) (omega (arith, is, wide))) inside in
-          absurd (true≢false (sym (contains_find (λ (m : Member). m.span.first == base) (entries_in_leaves f leaves) d.0 entry d.1.1) ∙ none))
+          let d = find_contains p members e in
+          let entry = listed_entry f members leaves all disjoint d.0 pc d.1.0 (has d.0 d.1.0 d.1.1) inside in
+          absurd (true≢false (sym (contains_find p (entries_in_leaves f leaves) d.0 entry d.1.1) ∙ none))
+
+-- a member contains the address at which it begins
+begins_there : (x : Member) (base : ℕ) → x.span.first ≡ base → x.span.first ≤ x.span.last → IsTrue (contains x.span base)
+begins_there x base is wide = contains_from x.span base (omega (arith, is)) (omega (arith, is, wide))
 
 -- there is one least
 pub one_lowest : (span : SpanData) (members : List Member) (a b : Member) → AreDisjoint members → IsLowestOverlap span members a → IsLowestOverlap span members b → a ≡ b
@@ -199,7 +203,12 @@ module _ (t : Terms) (history : List Update) (v : Log) (stamp : ℕ) (now : stam
   free_so m h = free_listed (settled_in v.holdings.held) (state_after (start t) history).registered h.leaves (all_inside h.leaves _ _ h.held) shown.disjoint m.span h.held.contain h.free
 
   none_so : (base : ℕ) → ShowsNone base v → IsNone (at_base base (state_after (start t) history).registered)
-  none_so base h = none_listed (settled_in v.holdings.held) (state_after (start t) history).registered h.leaves (all_inside h.leaves _ _ h.held) shown.disjoint base shown.ordered (h.held.contain base (omega arith) (omega arith)) h.none
+  none_so base h = none_listed (settled_in v.holdings.held) (state_after (start t) history).registered h.leaves (all_inside h.leaves _ _ h.held) shown.disjoint (λ x. x.span.first == base) base
+      (λ x c is. begins_there x base (eqb_true x.span.first base is) (shown.ordered x c)) (h.held.contain base (omega arith) (omega arith)) h.none
+
+  no_span_so : (m : Member) → ShowsNoSpan m v → IsNone (at_span m.span (state_after (start t) history).registered)
+  no_span_so m h = none_listed (settled_in v.holdings.held) (state_after (start t) history).registered h.leaves (all_inside h.leaves _ _ h.held) shown.disjoint (λ x. is_same_span x.span m.span) m.span.first
+      (λ x c is. begins_there x m.span.first (ap (λ (s : SpanData). s.first) (same_span x.span m.span is)) (shown.ordered x c)) (h.held.contain m.span.first (omega arith) (omega arith)) h.none
 
   pub register_refused : (m : Member) → ((other : Member) × ShowsOverlap m other v) ⊎ ShowsFull m v → (r : Receipt) × IsRegisterRefused t history v stamp m r
   register_refused m may = ⊎_elim
@@ -242,4 +251,12 @@ module _ (t : Terms) (history : List Update) (v : Log) (stamp : ℕ) (now : stam
         (refl, refl, refl, subst (λ (k : Terms). IsNone (at_base base (state_after (start k) history).registered)) (sym terms) none),
         subst (λ k. HoldsNow t history (last_moment v.receipts.since v.receipts.own) (receipt.Deregister base (removed.NotFound k))) (sym now)
             (record { accepts = refl; now = refl; holds = λ callers. record { within = omega arith; numbered = tt; right = right_now t history (receipt.Deregister base (removed.NotFound (length history))) none; filled = tt } }),
+      )
+
+  pub replace_refused : (m : Member) → ShowsNoSpan m v → IsRefusalOf (update.Replace m) (state_after (start v.terms) history) stamp (receipt.Replace m (replaced.NotFound stamp)) × HoldsNow t history (last_moment v.receipts.since v.receipts.own) (receipt.Replace m (replaced.NotFound stamp))
+  replace_refused m h =
+      let none = no_span_so m h in (
+        (refl, refl, refl, subst (λ (k : Terms). IsNone (at_span m.span (state_after (start k) history).registered)) (sym terms) none),
+        subst (λ k. HoldsNow t history (last_moment v.receipts.since v.receipts.own) (receipt.Replace m (replaced.NotFound k))) (sym now)
+            (record { accepts = refl; now = refl; holds = λ callers. record { within = omega arith; numbered = tt; right = right_now t history (receipt.Replace m (replaced.NotFound (length history))) none; filled = tt } }),
       )

@@ -2,13 +2,14 @@
 use Rattle.std.proofs.Common.{◌≡◌, ◌≢◌, ℕ, suc, zero, ◌+◌, ◌≤◌, ◌↔◌, List, [], ◌∷◌, ◌++◌, get_or, sym, ap, ◌∙◌, subst, refl, inl, inr, ⊎_elim, arith, ◌==◌, not, true≢false, false, Some, Contains, eq-eqb, ne_eqb, Bool, true, if◌then◌else◌}
 use Rattle.std.specs.List.{find}
 use Rattle.std.proofs.lemmas.List.Elements.{Contains-append_left, Contains-get_or, Contains-push, Contains-push_cases}
-use Rattle.reg_model.specs.SpanData.{Overlaps}
+use Rattle.reg_model.specs.SpanData.{Overlaps, is_same_span}
 use Rattle.reg_model.specs.State.{State}
 use Rattle.reg_model.specs.History.{Fits, after}
 use Rattle.reg_model.specs.declared.span.Member.{Member}
 use Rattle.reg_model.specs.declared.answer.Update.{Update}
 use Rattle.reg_model.specs.declared.answer.Update.TheVariants as update
 use Rattle.reg_model.proofs.Spans.{overlap_bounds}
+use Rattle.reg_model.proofs.Replacing.{from_with_payload, new_with_payload, others_with_payload, span_same}
 use Rattle.segment_array.specs.Ascending.{AscendFrom}
 use Rattle.tree_shape.specs.LocalChange.{EntriesBecome}
 use Rattle.word_rule.specs.Callers.{is_of_loader}
@@ -48,6 +49,17 @@ tree_fits s (update.Deregister base) before now same become apart =
       λ x. (
         (λ a. let d = (become.1 x).0 a in filter_contains (λ (y : Member). not (y.span.first == base)) s.registered x ((same x).0 d.0) (ap not (ne_eqb x.span.first base d.1))),
         (λ c. let d = contains_filter (λ (y : Member). not (y.span.first == base)) s.registered x c in (become.1 x).1 ((same x).1 d.0, (λ e. true≢false (sym d.1 ∙ ap not (eq-eqb x.span.first base e))))),
+      ),
+      refl,
+      refl,
+    )
+tree_fits s (update.Replace m) before now same become apart =
+    let old = become.0 in let there = (same old.0).0 old.1.0 in (
+      contains_find (λ (x : Member). is_same_span x.span m.span) s.registered old.0 there (span_same old.0.span m.span old.1.1),
+      λ x. (
+        (λ a. ⊎_elim (λ (b : before x × (x.span ≢ m.span)). others_with_payload m x s.registered ((same x).0 b.0) b.1)
+            (λ (e : x ≡ m). subst (Contains (after (update.Replace m) s).registered) (sym e) (new_with_payload m old.0 s.registered there old.1.1)) ((become.1 x).0 a)),
+        (λ c. (become.1 x).1 (⊎_elim (λ (d : Contains s.registered x × (x.span ≢ m.span)). inl ((same x).1 d.0, d.1)) (λ (e : x ≡ m). inr e) (from_with_payload m x s.registered c))),
       ),
       refl,
       refl,

@@ -13,7 +13,8 @@ use Rattle.reg_model.specs.History.{IsHistory}
 use Rattle.reg_model.specs.Receipt.{AllHold, AreInOrder}
 use Rattle.reg_model.specs.Numbers.{has_number}
 use Rattle.reg_model.specs.declared.answer.Update.{Update}
-use Rattle.reg_model.specs.declared.answer.Update.TheVariants.{Register, Deregister, Load, Unload}
+use Rattle.reg_model.specs.declared.answer.Update.TheVariants.{Register, Deregister, Replace}
+use Rattle.reg_model.specs.declared.answer.Update.TheVariants.{Load, Unload}
 use Rattle.segment_array.specs.Ascending.{AscendFrom}
 use Rattle.tree_shape.specs.Numbers.{once}
 use Rattle.word_rule.specs.declared.log.Terms.{Terms}
@@ -41,6 +42,7 @@ start t = opening t.fixed t.loads
 abbrev pub is_of_loader : Update → Bool
 is_of_loader (Register m) = false
 is_of_loader (Deregister base) = false
+is_of_loader (Replace m) = false
 is_of_loader (Load m) = true
 is_of_loader (Unload base) = true
 
@@ -56,6 +58,7 @@ IsMemberOf t m = IsSpan m.span × (m.payload < t.payloads)
 abbrev pub IsOfTerms : Terms → Update → Type 0
 IsOfTerms t (Register m) = IsMemberOf t m
 IsOfTerms t (Deregister base) = Unit {0}
+IsOfTerms t (Replace m) = IsMemberOf t m
 IsOfTerms t (Load m) = IsMemberOf t m
 IsOfTerms t (Unload base) = Unit {0}
 

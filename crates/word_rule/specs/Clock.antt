@@ -19,7 +19,7 @@ use Rattle.word_rule.specs.Callers.{AreTerms, IsAlone, IsMemberOf, publications,
 use Rattle.word_rule.specs.Copies.{AreOfCopy, IsBehind, ListsAll}
 use Rattle.word_rule.specs.Sights.{after_clock, walk_receipts}
 use Rattle.word_rule.specs.Steps.{IsRefusalOf, MayRefuse}
-use Rattle.word_rule.specs.TreeRefusals.{ShowsFull, ShowsNone, ShowsOverlap}
+use Rattle.word_rule.specs.TreeRefusals.{ShowsFull, ShowsNone, ShowsNoSpan, ShowsOverlap}
 
 -- The words of a copy that lists these members, no more than may be loaded, and has all words of
 -- the sight as they were loaded.
@@ -61,6 +61,7 @@ abbrev pub MayAsk : Terms → Ask → Log → Type 0
 MayAsk t (ask.Refused (update.Register m)) v =
     ((other : Member) × ShowsOverlap m other v) ⊎ ShowsFull m v
 MayAsk t (ask.Refused (update.Deregister base)) v = ShowsNone base v
+MayAsk t (ask.Refused (update.Replace m)) v = ShowsNoSpan m v
 MayAsk t (ask.Refused u) v = IsSomeAnd v.loader (MayRefuse t u)
 MayAsk t _ v = Unit {0}
 

@@ -63,6 +63,7 @@ Publishes t (update.Unload base) before after =
     × ((x : Member) → Contains after x ↔ (Contains before x × (x.span.first ≢ base)))
 Publishes t (update.Register m) before after = ⊥
 Publishes t (update.Deregister base) before after = ⊥
+Publishes t (update.Replace m) before after = ⊥
 
 -- The other copy is one publication behind the active one: it lists the members of before the last
 -- one. Before the first both list none.

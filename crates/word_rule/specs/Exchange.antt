@@ -5,7 +5,8 @@ use Rattle.std.specs.Prelude.{is_some, List, ◌++◌, length, Option, Some, Non
 use Rattle.std.specs.Prelude.{[], ◌∷◌, if◌then◌else◌}
 use Rattle.std.specs.List.{AllByRecursion, filter, list_all}
 use Rattle.reg_model.specs.declared.answer.Update.{Update}
-use Rattle.reg_model.specs.declared.answer.Update.TheVariants.{Register, Deregister, Load, Unload}
+use Rattle.reg_model.specs.declared.answer.Update.TheVariants.{Register, Deregister, Replace}
+use Rattle.reg_model.specs.declared.answer.Update.TheVariants.{Load, Unload}
 use Rattle.tree_shape.specs.Decisions.{same_shape, is_entries, is_lawful_change}
 use Rattle.tree_shape.specs.NodeData.{NodeData, frame_of}
 use Rattle.tree_shape.specs.Trees.{Contents}
@@ -120,6 +121,7 @@ are_spelled (Some t) s = same_shape t s
 abbrev pub address_of : Update → ℕ
 address_of (Register m) = m.span.first
 address_of (Deregister base) = base
+address_of (Replace m) = m.span.first
 address_of (Load m) = m.span.first
 address_of (Unload base) = base
 

@@ -7,7 +7,7 @@ use Rattle.std.specs.Prelude.{Option, Some, None, IsSome, IsSomeAnd, slice_set, 
 use Rattle.std.specs.List.{find}
 use Rattle.reg_model.specs.History.{state_after}
 use mathlib.Core.List.{IsPrefix}
-use Rattle.reg_model.specs.State.{State, IsFree, IsLowestOverlap, at_base}
+use Rattle.reg_model.specs.State.{State, IsFree, IsLowestOverlap, at_base, at_span}
 use Rattle.reg_model.specs.declared.span.Member.{Member}
 use Rattle.reg_model.specs.Receipt.{moment, accepted, IsRight}
 use Rattle.reg_model.specs.declared.answer.Update.{Update}
@@ -15,6 +15,7 @@ use Rattle.reg_model.specs.declared.answer.Update.TheVariants as update
 use Rattle.reg_model.specs.declared.answer.Inserted.TheVariants as inserted
 use Rattle.reg_model.specs.declared.answer.Loading.TheVariants as loading
 use Rattle.reg_model.specs.declared.answer.Removed.TheVariants as removed
+use Rattle.reg_model.specs.declared.answer.Replaced.TheVariants as replaced
 use Rattle.reg_model.specs.declared.answer.Receipt.{Receipt}
 use Rattle.reg_model.specs.declared.answer.Receipt.TheVariants as receipt
 use Rattle.tree_shape.specs.NodeData.{NodeData, Link}
@@ -140,6 +141,8 @@ IsDone (update.Register m) n s r = r ≡ receipt.Register m (inserted.Done n)
 IsDone (update.Load m) n s r = r ≡ receipt.Load m (loading.Done n)
 IsDone (update.Deregister base) n s r =
     IsSomeAnd (at_base base s.registered) (λ m. r ≡ receipt.Deregister base (removed.Done n m))
+IsDone (update.Replace m) n s r = IsSomeAnd (at_span m.span s.registered)
+    (λ old. r ≡ receipt.Replace m (replaced.Done n old.payload))
 IsDone (update.Unload base) n s r =
     IsSomeAnd (at_base base s.loaded) (λ m. r ≡ receipt.Unload base (removed.Done n m))
 
@@ -222,6 +225,7 @@ Refuses t (update.Load m) members =
 Refuses t (update.Unload base) members = IsNone (at_base base members)
 Refuses t (update.Register m) members = ⊥
 Refuses t (update.Deregister base) members = ⊥
+Refuses t (update.Replace m) members = ⊥
 
 -- a refusal asks that what the active copy lists refuses the update
 abbrev pub MayRefuse : Terms → Update → LoaderHolding → Type 0
@@ -231,6 +235,7 @@ MayRefuse t u h = (members : List Member) × (ListsMembers h.active members × R
 abbrev pub Answers : Update → Receipt → Type 0
 Answers u (receipt.Register m answer) = u ≡ update.Register m
 Answers u (receipt.Deregister base answer) = u ≡ update.Deregister base
+Answers u (receipt.Replace m answer) = u ≡ update.Replace m
 Answers u (receipt.Load m answer) = u ≡ update.Load m
 Answers u (receipt.Unload base answer) = u ≡ update.Unload base
 Answers u (receipt.Query which pc found) = ⊥

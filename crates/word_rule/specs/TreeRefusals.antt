@@ -5,10 +5,11 @@ use Rattle.std.specs.Prelude.{◌++◌, length, flat_map, max, Contains}
 use Rattle.std.specs.List.{AllByRecursion}
 use Rattle.reg_model.specs.History.{state_after}
 use Rattle.reg_model.specs.Receipt.{HadTenMembers, IsRight}
-use Rattle.reg_model.specs.State.{IsFree, IsLowestOverlap, at_base}
+use Rattle.reg_model.specs.State.{IsFree, IsLowestOverlap, at_base, at_span}
 use Rattle.reg_model.specs.declared.span.Member.{Member}
 use Rattle.reg_model.specs.declared.answer.Inserted.TheVariants as inserted
 use Rattle.reg_model.specs.declared.answer.Removed.TheVariants as removed
+use Rattle.reg_model.specs.declared.answer.Replaced.TheVariants as replaced
 use Rattle.reg_model.specs.declared.answer.Receipt.{Receipt}
 use Rattle.reg_model.specs.declared.answer.Receipt.TheVariants as receipt
 use Rattle.reg_model.specs.declared.answer.Update.TheVariants as update
@@ -54,6 +55,12 @@ pub record ShowsNone (base : ℕ) (v : Log) : Type 0 where
   pub leaves : List ℕ
   pub held : HoldsLeaves v.holdings.held leaves base base
   pub none : IsNone (at_base base (entries_in_leaves (settled_in v.holdings.held) leaves))
+
+-- No member has the whole span of this one, as a held leaf shows whose fences contain its base.
+pub record ShowsNoSpan (m : Member) (v : Log) : Type 0 where
+  pub leaves : List ℕ
+  pub held : HoldsLeaves v.holdings.held leaves m.span.first m.span.first
+  pub none : IsNone (at_span m.span (entries_in_leaves (settled_in v.holdings.held) leaves))
 
 -- a load of the count of a node that was held live, and whose fences contain the address
 abbrev pub IsCountAt : ℕ → LoadEvent → Type 0
@@ -118,4 +125,6 @@ AppendsRefusal (ask.Refused (update.Register m)) found v w =
     × (ShowsFull m v → Appends (receipt.Register m (inserted.Full (lower found))) v w)
 AppendsRefusal (ask.Refused (update.Deregister base)) found v w =
     ShowsNone base v → Appends (receipt.Deregister base (removed.NotFound (lower found))) v w
+AppendsRefusal (ask.Refused (update.Replace m)) found v w =
+    ShowsNoSpan m v → Appends (receipt.Replace m (replaced.NotFound (lower found))) v w
 AppendsRefusal _ found v w = Unit {0}
