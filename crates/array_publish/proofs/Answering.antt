@@ -49,12 +49,14 @@ abbrev is_load : Update → Bool
 is_load (update.Load m) = true
 is_load (update.Register m) = false
 is_load (update.Deregister base) = false
+is_load (update.Replace m) = false
 is_load (update.Unload base) = false
 
 abbrev loaded_by : Member → Update → Member
 loaded_by d (update.Load m) = m
 loaded_by d (update.Register m) = d
 loaded_by d (update.Deregister base) = d
+loaded_by d (update.Replace m) = d
 loaded_by d (update.Unload base) = d
 
 -- disjoint members that overlap are one
@@ -71,6 +73,7 @@ ordered_of a b over = let c = contains_bounds a over.0 over.1.0 in let x = c.0 i
 overlap_told : (m other : Member) (s : State) (stamp : ℕ) (r : Receipt) → AreDisjoint (objects s) → IsLowestOverlap m.span (objects s) other → IsRefusalOf (update.Load m) s stamp r → r ≡ receipt.Load m (loading.Overlap other stamp)
 overlap_told m other s stamp (receipt.Register n a) h low r = absurd (true≢false (ap is_load r.0))
 overlap_told m other s stamp (receipt.Deregister b a) h low r = absurd (true≢false (ap is_load r.0))
+overlap_told m other s stamp (receipt.Replace n a) h low r = absurd (true≢false (ap is_load r.0))
 overlap_told m other s stamp (receipt.Unload b a) h low r = absurd (true≢false (ap is_load r.0))
 overlap_told m other s stamp (receipt.Query w pc f) h low r = absurd r.0
 overlap_told m other s stamp (receipt.Load n (loading.Done k)) h low r = absurd (none-some _ (sym r.1))
@@ -85,6 +88,7 @@ overlap_told m other s stamp (receipt.Load n (loading.Overlap o k)) h low r =
 full_told : (m : Member) (s : State) (stamp : ℕ) (r : Receipt) → IsFree m.span (objects s) → IsRefusalOf (update.Load m) s stamp r → r ≡ receipt.Load m (loading.LoadFull stamp)
 full_told m s stamp (receipt.Register n a) free r = absurd (true≢false (ap is_load r.0))
 full_told m s stamp (receipt.Deregister b a) free r = absurd (true≢false (ap is_load r.0))
+full_told m s stamp (receipt.Replace n a) free r = absurd (true≢false (ap is_load r.0))
 full_told m s stamp (receipt.Unload b a) free r = absurd (true≢false (ap is_load r.0))
 full_told m s stamp (receipt.Query w pc f) free r = absurd r.0
 full_told m s stamp (receipt.Load n (loading.Done k)) free r = absurd (none-some _ (sym r.1))
@@ -158,16 +162,19 @@ is_unload (update.Unload base) = true
 is_unload (update.Load m) = false
 is_unload (update.Register m) = false
 is_unload (update.Deregister base) = false
+is_unload (update.Replace m) = false
 
 abbrev base_of : Update → ℕ
 base_of (update.Unload base) = base
 base_of (update.Load m) = 0
 base_of (update.Register m) = 0
 base_of (update.Deregister base) = 0
+base_of (update.Replace m) = 0
 
 not_found_told : (base : ℕ) (s : State) (stamp : ℕ) (r : Receipt) → IsRefusalOf (update.Unload base) s stamp r → r ≡ receipt.Unload base (removed.NotFound stamp)
 not_found_told base s stamp (receipt.Register n a) r = absurd (true≢false (ap is_unload r.0))
 not_found_told base s stamp (receipt.Deregister b a) r = absurd (true≢false (ap is_unload r.0))
+not_found_told base s stamp (receipt.Replace n a) r = absurd (true≢false (ap is_unload r.0))
 not_found_told base s stamp (receipt.Load n a) r = absurd (true≢false (ap is_unload r.0))
 not_found_told base s stamp (receipt.Query w pc f) r = absurd r.0
 not_found_told base s stamp (receipt.Unload b (removed.Done k m)) r = absurd (none-some _ (sym r.1))

@@ -176,6 +176,7 @@ module _ (t : Terms) (active other : List ℕ) (before after : List Member) (lis
       go z m c there (no ne) = inl ((p.1 z).1 (c, ne))
   published_apart (update.Register m) count others a b p = absurd p
   published_apart (update.Deregister base) count others a b p = absurd p
+  published_apart (update.Replace m) count others a b p = absurd p
 
 -- what the invariant says of two copies
 pub apart : (t : Terms) (active other : List ℕ) (count others : ℕ) → (b : IsBehind t active other) → count ≡ length b.after → others ≡ length b.before → Apart active other count others
