@@ -7,7 +7,8 @@ use Rattle.frame_parse.specs.Entries.{FdeRecord}
 use Rattle.frame_parse.specs.Sections.{SectionData, covers}
 use Rattle.reg_model.specs.declared.span.Member.{Member}
 use Rattle.reg_model.specs.declared.answer.Update.{Update}
-use Rattle.reg_model.specs.declared.answer.Update.TheVariants.{Register, Load, Deregister, Unload}
+use Rattle.reg_model.specs.declared.answer.Update.TheVariants.{Register, Deregister, Replace}
+use Rattle.reg_model.specs.declared.answer.Update.TheVariants.{Load, Unload}
 use Rattle.fde_members.specs.declared.members.MembersFault.{MembersFault}
 use Rattle.fde_members.specs.declared.members.MembersFault.TheVariants.{Far, NoMemory}
 
@@ -90,6 +91,7 @@ ShareNone fdes = (pc : ℕ) (f g : FdeRecord) → Contains fdes f → Contains f
 -- the update adds no member but one of these sections'
 abbrev pub AddsOnly : ℕ → List SectionData → Update → Type 0
 AddsOnly low sections (Register m) = IsFdeMember low sections m
+AddsOnly low sections (Replace m) = IsFdeMember low sections m
 AddsOnly low sections (Load m) = IsFdeMember low sections m
 AddsOnly low sections (Deregister base) = Unit {0}
 AddsOnly low sections (Unload base) = Unit {0}
