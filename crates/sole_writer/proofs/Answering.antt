@@ -22,7 +22,7 @@ use Rattle.reg_model.specs.declared.answer.Receipt.TheVariants as receipt
 use Rattle.reg_model.specs.declared.answer.Removed.{Removed}
 use Rattle.reg_model.specs.declared.answer.Removed.TheVariants as removed
 use Rattle.reg_model.specs.declared.answer.Update.{Update}
-use Rattle.reg_model.specs.declared.answer.Update.TheVariants.{Register, Deregister, Load, Unload}
+use Rattle.reg_model.specs.declared.answer.Update.TheVariants.{Register, Deregister, Replace, Load, Unload}
 use Rattle.reg_model.specs.declared.span.Member.{Member}
 use Rattle.word_rule.specs.CallerData.{CallerData, WordsData, due, surplus}
 use Rattle.word_rule.specs.Callers.{IsAlone, IsIdle, IsWhole, start}
@@ -42,6 +42,7 @@ loads_stay : (s : State) (us : List Update) → (state_after s us).loads ≡ s.l
 loads_stay s [] = refl
 loads_stay s (Register m ∷ us) = loads_stay (after (Register m) s) us
 loads_stay s (Deregister base ∷ us) = loads_stay (after (Deregister base) s) us
+loads_stay s (Replace m ∷ us) = loads_stay (after (Replace m) s) us
 loads_stay s (Load m ∷ us) = loads_stay (after (Load m) s) us
 loads_stay s (Unload base ∷ us) = loads_stay (after (Unload base) s) us
 

@@ -11,9 +11,10 @@ use Rattle.reg_model.specs.SpanData.{IsSpan}
 use Rattle.reg_model.specs.State.{AreDisjoint, IsLawful, State}
 use Rattle.reg_model.specs.declared.answer.Receipt.{Receipt}
 use Rattle.reg_model.specs.declared.answer.Update.{Update}
-use Rattle.reg_model.specs.declared.answer.Update.TheVariants.{Register, Deregister, Load, Unload}
+use Rattle.reg_model.specs.declared.answer.Update.TheVariants.{Register, Deregister, Replace, Load, Unload}
 use Rattle.reg_model.specs.declared.span.Member.{Member}
 use Rattle.reg_model.proofs.Histories.{lawful_history, state_after-append}
+use Rattle.reg_model.proofs.Replacing.{All-with_payload}
 use Rattle.word_rule.specs.CallerData.{CallerData}
 use Rattle.word_rule.specs.Callers.{IsAlone, IsIdle, IsWhole, start}
 use Rattle.word_rule.specs.Places.{ALLOWANCE}
@@ -110,6 +111,7 @@ spans_of : (s : State) (us : List Update) → All HasSpan s.registered → All H
 spans_of s [] reg load adds = (reg, load)
 spans_of s (Register m ∷ us) reg load adds = spans_of (after (Register m) s) us (All-push HasSpan s.registered m reg (All-head AddsSpan (Register m) us adds)) load (All-tail AddsSpan (Register m) us adds)
 spans_of s (Deregister base ∷ us) reg load adds = spans_of (after (Deregister base) s) us (All-filter (λ m. not (eqb m.span.first base)) HasSpan s.registered reg) load (All-tail AddsSpan (Deregister base) us adds)
+spans_of s (Replace m ∷ us) reg load adds = spans_of (after (Replace m) s) us (All-with_payload HasSpan m s.registered (All-head AddsSpan (Replace m) us adds) reg) load (All-tail AddsSpan (Replace m) us adds)
 spans_of s (Load m ∷ us) reg load adds = spans_of (after (Load m) s) us reg (All-push HasSpan s.loaded m load (All-head AddsSpan (Load m) us adds)) (All-tail AddsSpan (Load m) us adds)
 spans_of s (Unload base ∷ us) reg load adds = spans_of (after (Unload base) s) us reg (All-filter (λ m. not (eqb m.span.first base)) HasSpan s.loaded load) (All-tail AddsSpan (Unload base) us adds)
 

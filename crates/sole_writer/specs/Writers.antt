@@ -6,7 +6,8 @@ use Rattle.reg_model.specs.Receipt.{made}
 use Rattle.reg_model.specs.SpanData.{IsSpan}
 use Rattle.reg_model.specs.declared.answer.Receipt.{Receipt}
 use Rattle.reg_model.specs.declared.answer.Update.{Update}
-use Rattle.reg_model.specs.declared.answer.Update.TheVariants.{Register, Deregister, Load, Unload}
+use Rattle.reg_model.specs.declared.answer.Update.TheVariants.{Register, Deregister, Replace}
+use Rattle.reg_model.specs.declared.answer.Update.TheVariants.{Load, Unload}
 use Rattle.word_rule.specs.CallerData.{CallerData, WordsData}
 use Rattle.word_rule.specs.Callers.{IsAlone, IsIdle, start}
 use Rattle.word_rule.specs.Places.{ALLOWANCE}
@@ -31,6 +32,7 @@ plain_registry w = plain_registry_after w.words.terms w.me.log.past
 -- what the update adds has a span
 abbrev pub AddsSpan : Update → Type 0
 AddsSpan (Register m) = IsSpan m.span
+AddsSpan (Replace m) = IsSpan m.span
 AddsSpan (Load m) = IsSpan m.span
 AddsSpan (Deregister base) = Unit {0}
 AddsSpan (Unload base) = Unit {0}
