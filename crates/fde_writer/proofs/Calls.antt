@@ -5,7 +5,7 @@ use Rattle.std.proofs.lemmas.List.Elements.{All-append, All-nil, All-weaker, Con
 use Rattle.reg_model.specs.Receipt.{made}
 use Rattle.reg_model.specs.declared.answer.Receipt.{Receipt}
 use Rattle.reg_model.specs.declared.answer.Update.{Update}
-use Rattle.reg_model.specs.declared.answer.Update.TheVariants.{Register, Deregister, Load, Unload}
+use Rattle.reg_model.specs.declared.answer.Update.TheVariants.{Register, Deregister, Replace, Load, Unload}
 use Rattle.reg_model.specs.declared.span.Member.{Member}
 use Rattle.sole_writer.specs.Writers.{WriterAnswers, WriterData}
 use Rattle.fde_writer.specs.Runs.{AddsAmong, FoundFull, FoundOverlap, FoundTaken, Received, Runs}
@@ -13,6 +13,7 @@ use Rattle.fde_writer.specs.Runs.{AddsAmong, FoundFull, FoundOverlap, FoundTaken
 -- more members may be added
 among_more : (ms ns : List Member) → ((m : Member) → Contains ms m → Contains ns m) → (u : Update) → AddsAmong ms u → AddsAmong ns u
 among_more ms ns more (Register m) adds = more m adds
+among_more ms ns more (Replace m) adds = more m adds
 among_more ms ns more (Load m) adds = more m adds
 among_more ms ns more (Deregister base) adds = tt
 among_more ms ns more (Unload base) adds = tt

@@ -7,7 +7,7 @@ use Rattle.std.proofs.lemmas.List.Sums.{sum_by-append, sum_by-cons, sum_by_push}
 use Rattle.frame_parse.specs.Sections.{SectionData}
 use Rattle.fde_members.specs.Members.{AddsOnly, IsFdeMember, fde_member, is_kept, section_members}
 use Rattle.reg_model.specs.declared.answer.Update.{Update}
-use Rattle.reg_model.specs.declared.answer.Update.TheVariants.{Register, Deregister, Load, Unload}
+use Rattle.reg_model.specs.declared.answer.Update.TheVariants.{Register, Deregister, Replace, Load, Unload}
 use Rattle.reg_model.specs.declared.span.Member.{Member}
 use Rattle.word_rule.specs.CallerData.{WordsData}
 use Rattle.sole_writer.specs.Writers.{WriterData}
@@ -85,18 +85,21 @@ of_more low ever more m is = record { section = is.section; fde = is.fde; listed
 
 adds_more : (low : ℕ) (ever more : List SectionData) (u : Update) → AddsOnly low ever u → AddsOnly low (ever ++ more) u
 adds_more low ever more (Register m) is = of_more low ever more m is
+adds_more low ever more (Replace m) is = of_more low ever more m is
 adds_more low ever more (Load m) is = of_more low ever more m is
 adds_more low ever more (Deregister base) is = tt
 adds_more low ever more (Unload base) is = tt
 
 adds_these : (low : ℕ) (ever : List SectionData) (s : SectionData) (u : Update) → AddsAmong (section_members low s) u → AddsOnly low (ever ++ s ∷ []) u
 adds_these low ever s (Register m) among = All-contains (IsFdeMember low (ever ++ s ∷ [])) (section_members low s) m (section_has low ever s) among
+adds_these low ever s (Replace m) among = All-contains (IsFdeMember low (ever ++ s ∷ [])) (section_members low s) m (section_has low ever s) among
 adds_these low ever s (Load m) among = All-contains (IsFdeMember low (ever ++ s ∷ [])) (section_members low s) m (section_has low ever s) among
 adds_these low ever s (Deregister base) among = tt
 adds_these low ever s (Unload base) among = tt
 
 adds_none : (low : ℕ) (ever : List SectionData) (u : Update) → AddsAmong [] u → AddsOnly low ever u
 adds_none low ever (Register m) among = absurd (let within = among.1 in omega (arith, within))
+adds_none low ever (Replace m) among = absurd (let within = among.1 in omega (arith, within))
 adds_none low ever (Load m) among = absurd (let within = among.1 in omega (arith, within))
 adds_none low ever (Deregister base) among = tt
 adds_none low ever (Unload base) among = tt

@@ -8,7 +8,8 @@ use Rattle.reg_model.specs.declared.answer.Loading.TheVariants as loading
 use Rattle.reg_model.specs.declared.answer.Receipt.{Receipt}
 use Rattle.reg_model.specs.declared.answer.Receipt.TheVariants as receipt
 use Rattle.reg_model.specs.declared.answer.Update.{Update}
-use Rattle.reg_model.specs.declared.answer.Update.TheVariants.{Register, Deregister, Load, Unload}
+use Rattle.reg_model.specs.declared.answer.Update.TheVariants.{Register, Deregister, Replace}
+use Rattle.reg_model.specs.declared.answer.Update.TheVariants.{Load, Unload}
 use Rattle.reg_model.specs.declared.span.Member.{Member}
 use Rattle.sole_writer.specs.Writers.{WriterData, WriterStops}
 use Rattle.fde_writer.specs.declared.outcome.Numbers.{Numbers}
@@ -16,6 +17,7 @@ use Rattle.fde_writer.specs.declared.outcome.Numbers.{Numbers}
 -- the update adds no member but one of these
 abbrev pub AddsAmong : List Member → Update → Type 0
 AddsAmong members (Register m) = Contains members m
+AddsAmong members (Replace m) = Contains members m
 AddsAmong members (Load m) = Contains members m
 AddsAmong members (Deregister base) = Unit {0}
 AddsAmong members (Unload base) = Unit {0}
