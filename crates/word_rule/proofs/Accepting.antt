@@ -7,7 +7,7 @@ use lib.ListN.{get_elem?}
 use Rattle.reg_model.specs.State.{State, at_base, at_span}
 use Rattle.reg_model.specs.History.{Fits, after, state_after}
 use Rattle.reg_model.specs.PlainRegistryData.{Step}
-use Rattle.reg_model.specs.Receipt.{moment, accepted, made, Holds, HadTenMembers}
+use Rattle.reg_model.specs.Receipt.{moment, accepted, made, Holds, IsFilled}
 use Rattle.reg_model.specs.declared.answer.Update.{Update}
 use Rattle.reg_model.specs.declared.answer.Update.TheVariants as update
 use Rattle.reg_model.specs.declared.answer.Inserted.TheVariants as inserted
@@ -33,7 +33,7 @@ use Rattle.word_rule.specs.Nodes.{Shadow}
 use Rattle.word_rule.specs.Copies.{CopySightHolds, IsBehind}
 use Rattle.word_rule.specs.Observations.{SightHolds, WasFull, ObservationsHold, last_moment}
 use Rattle.word_rule.proofs.Facts.{total_set, total_same, part_of_total, after_step}
-use Rattle.word_rule.proofs.Each.{all_map, all_append, some_of}
+use Rattle.word_rule.proofs.Each.{all_both, all_map, all_append, some_of}
 use Rattle.word_rule.proofs.CallersFrame.{lineages_over, busy}
 use Rattle.word_rule.proofs.Receiving.{all_hold_snoc, in_order_next, done_snoc, number_snoc}
 use Rattle.word_rule.proofs.Joins.{prefix_both, record_later, records_later}
@@ -45,7 +45,7 @@ pub record Accepts (u : Update) (s : State) (n : ℕ) (r : Receipt) : Type 0 whe
   pub number : moment r ≡ n + 1
   pub makes : made r ≡ u ∷ []
   pub one_step : Step (record { state = s; updates = n }) r (record { state = after u s; updates = n + 1 })
-  pub no_full : (st : State) (history : List Update) (since : ℕ) → HadTenMembers st history since r
+  pub no_full : (st : State) (history : List Update) (nodes callers since : ℕ) → IsFilled st history nodes callers since r
 
 some_and : {A : Type 0} (P : A → Type 0) (o : Option A) (a : A) → o ≡ Some a → P a → IsSomeAnd o P
 some_and P None a e p = absurd (none-some a e)
@@ -54,11 +54,11 @@ some_and P (Some b) a e p = subst P (sym (same_Some _ _ e)) p
 pub answered : (s : State) (u : Update) (n : ℕ) → Fits u s → (r : Receipt) × Accepts u s n r
 answered s (update.Register m) n fit = (
   receipt.Register m (inserted.Done (n + 1)),
-  record { is_done = refl; accepts = refl; number = refl; makes = refl; one_step = record { right = tt; changes = (fit, refl, refl) }; no_full = λ st history since. tt },
+  record { is_done = refl; accepts = refl; number = refl; makes = refl; one_step = record { right = tt; changes = (fit, refl, refl) }; no_full = λ st history nodes callers since. record { ten = tt; most = λ _. tt } },
 )
 answered s (update.Load m) n fit = (
   receipt.Load m (loading.Done (n + 1)),
-  record { is_done = refl; accepts = refl; number = refl; makes = refl; one_step = record { right = tt; changes = (fit, refl, refl) }; no_full = λ st history since. tt },
+  record { is_done = refl; accepts = refl; number = refl; makes = refl; one_step = record { right = tt; changes = (fit, refl, refl) }; no_full = λ st history nodes callers since. record { ten = tt; most = λ _. tt } },
 )
 answered s (update.Deregister base) n fit =
     let m = some_of (at_base base s.registered) fit in (
@@ -69,7 +69,7 @@ answered s (update.Deregister base) n fit =
         number = refl;
         makes = refl;
         one_step = record { right = m.1; changes = (fit, refl, refl) };
-        no_full = λ st history since. tt;
+        no_full = λ st history nodes callers since. record { ten = tt; most = λ _. tt };
       },
     )
 answered s (update.Replace m) n fit =
@@ -81,7 +81,7 @@ answered s (update.Replace m) n fit =
         number = refl;
         makes = refl;
         one_step = record { right = some_and (λ x. x.payload ≡ old.0.payload) (at_span m.span s.registered) old.0 old.1 refl; changes = (fit, refl, refl) };
-        no_full = λ st history since. tt;
+        no_full = λ st history nodes callers since. record { ten = tt; most = λ _. tt };
       },
     )
 answered s (update.Unload base) n fit =
@@ -93,7 +93,7 @@ answered s (update.Unload base) n fit =
         number = refl;
         makes = refl;
         one_step = record { right = m.1; changes = (fit, refl, refl) };
-        no_full = λ st history since. tt;
+        no_full = λ st history nodes callers since. record { ten = tt; most = λ _. tt };
       },
     )
 
@@ -105,8 +105,8 @@ observations_received t m history callers shadow v w more some_more own sights l
       sights = subst (λ k. AllByRecursion (SightHolds t m.nodes history shadow) k.nodes) (sym sights) r.sights;
       copies = subst (λ k. IfSome k.copies (CopySightHolds t m.clock m.copies)) (sym sights) r.copies;
       full = subst (AllByRecursion (WasFull t history callers (own_list w.receipts))) (sym loads)
-          (all_map (λ l. (l.turns ≤ turns v.trace) × (l.receipts ≤ length v.receipts.own)) (WasFull t history callers (own_list w.receipts))
-          (λ l e. record { count = λ same. absurd (let a = e.1 in omega (arith, a, same, len, some_more)); head = λ same _ _ _. absurd (let a = e.1 in omega (arith, a, same, len, some_more)) }) v.trace.loads r.earlier);
+          (all_both (λ l. (l.turns ≤ turns v.trace) × (l.receipts ≤ length v.receipts.own)) (WasFull t history callers (own_list v.receipts)) (WasFull t history callers (own_list w.receipts))
+          (λ l e f. record { count = λ same. absurd (let a = e.1 in omega (arith, a, same, len, some_more)); head = λ same _ _ _. absurd (let a = e.1 in omega (arith, a, same, len, some_more)); highest = f.highest }) v.trace.loads r.earlier r.full);
       earlier = subst (AllByRecursion (λ l. (l.turns ≤ turns w.trace) × (l.receipts ≤ length w.receipts.own))) (sym loads)
           (all_map (λ l. (l.turns ≤ turns v.trace) × (l.receipts ≤ length v.receipts.own)) (λ l. (l.turns ≤ turns w.trace) × (l.receipts ≤ length w.receipts.own)) (λ l e. let a = e.0 in let b = e.1 in (omega (arith, a, turn), omega (arith, b, len))) v.trace.loads r.earlier);
     }
@@ -135,24 +135,24 @@ module _ (t : Terms) (m : Memory) (views : List Log) (history : List Update) (c 
   holds_answer : (callers since : ℕ) → Holds (start t) (history ++ u ∷ []) t.nodes callers since answer
   holds_answer callers since = subst (λ k. Holds (start t) (history ++ k) t.nodes callers since answer) told.makes
       (step_holds (start t) history (record { state = state_after (start t) history; updates = length history }) (record { state = after u (state_after (start t) history); updates = length history + 1 }) t.nodes callers since answer
-      (record { lawful = c.lawful; state = refl; updates = refl }) told.one_step (told.no_full (start t) (history ++ made answer) since)).1
+      (record { lawful = c.lawful; state = refl; updates = refl }) told.one_step (told.no_full (start t) (history ++ made answer) t.nodes callers since)).1
 
   -- its log afterwards, with these nodes and with this part in the loader's lock
   module _ (holdings : Holdings) (loader : Option LoaderHolding) where
     abbrev w : Log
     w = record (after_update u history answer v) { holdings = holdings; loader = loader }
 
-    receipts : (callers : ℕ) → ReceiptsHold t (history ++ u ∷ []) callers w.receipts
-    receipts callers =
+    receipts : (callers : ℕ) → total (λ z. z.made) views + 1 ≤ callers → ReceiptsHold t (history ++ u ∷ []) callers w.receipts
+    receipts callers grown =
         let log = c.each id v at in
-        let own = record_later t v.past (history ++ u ∷ []) _ callers prefix (own_list v.receipts) log.receipts.own in
+        let own = record_later t v.past (history ++ u ∷ []) _ callers prefix grown (own_list v.receipts) log.receipts.own in
         let number = told.number in let before = seen in let low = log.receipts.since in record {
           since = (let l = len in omega (arith, low, before, l));
           own = (
             all_hold_snoc t (history ++ u ∷ []) callers v.receipts.since v.receipts.own answer own.0 (holds_answer callers (last_moment v.receipts.since v.receipts.own)),
             in_order_next t v.past _ v.receipts.since v.receipts.own answer u low log.receipts.own.0 log.receipts.own.1 told.accepts (omega (arith, number, before)),
           );
-          joined = records_later t v.past (history ++ u ∷ []) _ callers prefix v.receipts.joined log.receipts.joined;
+          joined = records_later t v.past (history ++ u ∷ []) _ callers prefix grown v.receipts.joined log.receipts.joined;
           heard = prefix_both v.receipts.heard v.past (history ++ u ∷ []) log.receipts.heard prefix;
         }
 
@@ -164,7 +164,7 @@ module _ (t : Terms) (m : Memory) (views : List Log) (history : List Update) (c 
         (let log = c.each id v at in record {
           terms = λ _. log.terms (ap is_gone caller);
           begins = ([], append-nil (history ++ u ∷ []));
-          receipts = receipts callers;
+          receipts = receipts callers (omega (arith, is_c));
           lineage = log.lineage;
           idle = busy v w caller;
         })

@@ -58,7 +58,7 @@ module _ (t : Terms) (m : Memory) (views : List Log) (history : List Update) (r 
   dones_all : (n : ℕ) → total (dones_in n) views ≡ dones_in n v
   dones_all n = all_of_total (dones_in n) views id v at (λ j u far there. (r.lineages.nameless j u there (nameless_others j u far there)).0 n)
 
-  made_all : total (λ u. u.made) views ≡ v.made
+  pub made_all : total (λ u. u.made) views ≡ v.made
   made_all = all_of_total (λ u. u.made) views id v at (λ j u far there. (r.lineages.nameless j u there (nameless_others j u far there)).1)
 
   own_log : LogHolds t history (v.made + 1) v

@@ -29,21 +29,21 @@ use Rattle.word_rule.proofs.Frames.{no_word_step}
 use Rattle.word_rule.proofs.Joins.{record_later}
 
 -- what is asked is answered by one such receipt, which comes after a log's own, or by none
-abbrev pub Told : Terms → List Update → ReceiptList → List Receipt → Type 0
-Told t history own rs = (rs ≡ []) ⊎ ((r : Receipt) × ((rs ≡ r ∷ []) × HoldsNow t history (last_moment own.since own.list) r))
+abbrev pub Told : Terms → List Update → ℕ → ReceiptList → List Receipt → Type 0
+Told t history callers own rs = (rs ≡ []) ⊎ ((r : Receipt) × ((rs ≡ r ∷ []) × HoldsNow t history callers (last_moment own.since own.list) r))
 
 -- they go on a record
-pub told_record : (t : Terms) (past history : List Update) (callers : ℕ) (own : ReceiptList) (rs : List Receipt) → IsPrefix past history → own.since ≤ length history → Told t history own rs → IsRecord t past callers own → IsRecord t history callers (record own { list = own.list ++ rs })
+pub told_record : (t : Terms) (past history : List Update) (callers : ℕ) (own : ReceiptList) (rs : List Receipt) → IsPrefix past history → own.since ≤ length history → Told t history callers own rs → IsRecord t past callers own → IsRecord t history callers (record own { list = own.list ++ rs })
 told_record t past history callers own rs longer since told h = ⊎_elim
-    (λ (none_more : rs ≡ []). subst (λ xs. IsRecord t history callers (record own { list = xs })) (sym (ap (λ xs. own.list ++ xs) none_more ∙ append-nil own.list)) (record_later t past history callers callers longer own h))
-    (λ (one : (x : Receipt) × ((rs ≡ x ∷ []) × HoldsNow t history (last_moment own.since own.list) x)). subst (λ xs. IsRecord t history callers (record own { list = own.list ++ xs })) (sym one.1.0) (answer_record t past history callers own one.0 one.1.1 longer since h))
+    (λ (none_more : rs ≡ []). subst (λ xs. IsRecord t history callers (record own { list = xs })) (sym (ap (λ xs. own.list ++ xs) none_more ∙ append-nil own.list)) (record_later t past history callers callers longer (omega arith) own h))
+    (λ (one : (x : Receipt) × ((rs ≡ x ∷ []) × HoldsNow t history callers (last_moment own.since own.list) x)). subst (λ xs. IsRecord t history callers (record own { list = own.list ++ xs })) (sym one.1.0) (answer_record t past history callers own one.0 one.1.1 longer since h))
     told
 
 -- no number is among them
-pub told_numbers : (t : Terms) (history : List Update) (own : ReceiptList) (rs : List Receipt) (n : ℕ) → Told t history own rs → count_by (has_number n) (own.list ++ rs) ≡ count_by (has_number n) own.list
-told_numbers t history own rs n told = ⊎_elim
+pub told_numbers : (t : Terms) (history : List Update) (callers : ℕ) (own : ReceiptList) (rs : List Receipt) (n : ℕ) → Told t history callers own rs → count_by (has_number n) (own.list ++ rs) ≡ count_by (has_number n) own.list
+told_numbers t history callers own rs n told = ⊎_elim
     (λ (none_more : rs ≡ []). ap (count_by (has_number n)) (ap (λ xs. own.list ++ xs) none_more ∙ append-nil own.list))
-    (λ (one : (x : Receipt) × ((rs ≡ x ∷ []) × HoldsNow t history (last_moment own.since own.list) x)).
+    (λ (one : (x : Receipt) × ((rs ≡ x ∷ []) × HoldsNow t history callers (last_moment own.since own.list) x)).
     let none : has_number n one.0 ≡ false = ap (λ u. is_some u && (moment one.0 == n)) one.1.1.accepts in
     ap (λ xs. count_by (has_number n) (own.list ++ xs)) one.1.0 ∙ (sum_by_push (λ x. once (has_number n x)) own.list one.0 ∙ (let z : once (has_number n one.0) ≡ 0 = ap once none in omega (arith, z))))
     told
@@ -52,7 +52,7 @@ told_numbers t history own rs n told = ⊎_elim
 ended : (t : Terms) (history : List Update) (callers : ℕ) (own : ReceiptList) (rs : List Receipt) (l : LoadEvent) → l.receipts ≤ length own.list → WasFull t history callers own l → WasFull t history callers (record own { list = own.list ++ rs }) l
 ended t history callers own [] l few h = subst (λ k. WasFull t history callers (record own { list = k }) l) (sym (append-nil own.list)) h
 ended t history callers own (x ∷ rs) l few h = let len : length (own.list ++ x ∷ rs) ≡ length own.list + length (x ∷ rs) = length-append own.list (x ∷ rs) in
-    record { count = λ same. absurd (omega (arith, same, len, few)); head = λ same _ _ _. absurd (omega (arith, same, len, few)) }
+    record { count = λ same. absurd (omega (arith, same, len, few)); head = λ same _ _ _. absurd (omega (arith, same, len, few)); highest = h.highest }
 
 pub all_ended : (t : Terms) (history : List Update) (callers most : ℕ) (own : ReceiptList) (rs : List Receipt) (ls : List LoadEvent) → AllByRecursion (λ l. (l.turns ≤ most) × (l.receipts ≤ length own.list)) ls → AllByRecursion (WasFull t history callers own) ls
     → AllByRecursion (WasFull t history callers (record own { list = own.list ++ rs })) ls
@@ -60,7 +60,7 @@ all_ended t history callers most own rs [] e h = tt
 all_ended t history callers most own rs (l ∷ ls) e h = (ended t history callers own rs l e.0.1 h.0, all_ended t history callers most own rs ls e.1 h.1)
 
 -- A log that gets such receipts, and does nothing else.
-module _ (t : Terms) (words : List ℕ) (views : List Log) (r : TableInvariant t words views) (id : ℕ) (v : Log) (at : get_elem? views id ≡ some v) (rs : List Receipt) (told : Told t v.past (own_list v.receipts) rs) where
+module _ (t : Terms) (words : List ℕ) (views : List Log) (r : TableInvariant t words views) (id : ℕ) (v : Log) (at : get_elem? views id ≡ some v) (rs : List Receipt) (told : Told t v.past (total (λ u. u.made) views + 1) (own_list v.receipts) rs) where
   abbrev m : Memory
   m = memory_of t words
 
@@ -78,7 +78,7 @@ module _ (t : Terms) (words : List ℕ) (views : List Log) (r : TableInvariant t
       (let mine = subst (λ k. LogHolds t r.memory.history k v) (sym is_c) (r.memory.callers.each id v at) in record {
         terms = mine.terms;
         begins = mine.begins;
-        receipts = record { since = mine.receipts.since; own = told_record t v.past v.past c (own_list v.receipts) rs own_past mine.receipts.since told mine.receipts.own; joined = mine.receipts.joined; heard = mine.receipts.heard };
+        receipts = record { since = mine.receipts.since; own = told_record t v.past v.past c (own_list v.receipts) rs own_past mine.receipts.since (subst (λ k. Told t v.past k (own_list v.receipts) rs) (sym is_c) told) mine.receipts.own; joined = mine.receipts.joined; heard = mine.receipts.heard };
         lineage = mine.lineage;
         idle = idle_stays v w refl refl mine.idle;
       })
@@ -94,14 +94,14 @@ module _ (t : Terms) (words : List ℕ) (views : List Log) (r : TableInvariant t
         terms = c.terms;
         members = c.members;
         room = (let e = total_same (λ u. u.budget.allowance) views id v w at refl in let o = c.room in omega (arith, e, o));
-        numbers = λ n. total_same (dones_in n) views id v w at (let e = told_numbers t v.past (own_list v.receipts) rs n told in omega (arith, e)) ∙ c.numbers n;
+        numbers = λ n. total_same (dones_in n) views id v w at (let e = told_numbers t v.past (total (λ u. u.made) views + 1) (own_list v.receipts) rs n told in omega (arith, e)) ∙ c.numbers n;
         each = each (total (λ u. u.made) (set views id w) + 1) (ap (λ k. k + 1) made_same);
         weights = (let e = total_same (λ u. weight u.role) views id v w at refl in let b = made_same in let o = c.weights in omega (arith, e, b, o));
         loader = lock_stays views m.loader m.loader id v w c.holder at refl (λ e. subst (LoaderLock (memory_of t words).loader views) e c.loader) c.loader;
         at_loader = after_step (λ j u. AtLoader (memory_of t words) r.memory.callers.holder j u.loader) views id w (c.at_loader id v at) (λ j u _ there. c.at_loader j u there);
         spare_copy = λ clean. c.spare_copy (none_before views id v w at (λ h. h) clean);
         counted = (let e = total_same (λ u. u.budget.credit) views id v w at refl in let o = c.counted in omega (arith, e, o));
-        lineages = lineages_over views c.lineages id v w at refl refl (λ gone. let h = c.lineages.nameless id v at gone in ((λ n. (let e = told_numbers t v.past (own_list v.receipts) rs n told in let o = h.0 n in omega (arith, e, o))), h.1));
+        lineages = lineages_over views c.lineages id v w at refl refl (λ gone. let h = c.lineages.nameless id v at gone in ((λ n. (let e = told_numbers t v.past (total (λ u. u.made) views + 1) (own_list v.receipts) rs n told in let o = h.0 n in omega (arith, e, o))), h.1));
       }
 
   mine : ObservationsHold t m r.memory.history (total (λ u. u.made) views + 1) r.memory.shadow w

@@ -33,9 +33,9 @@ use Rattle.word_rule.specs.Copies.{ListsAll, ListsMembers, CopySightHolds, IsBeh
 use Rattle.word_rule.specs.Observations.{AreInside, SightHolds, WasFull, ObservationsHold, HadMembers, IsFullCount, last_moment}
 use Rattle.word_rule.specs.TableInvariant.{TableInvariant}
 use Rattle.word_rule.specs.Clock.{IsSeen, ClockTells, MayAsk, AreAsked}
-use Rattle.word_rule.specs.TreeRefusals.{Appends, AppendsRefusal}
+use Rattle.word_rule.specs.TreeRefusals.{Appends, AppendsRefusal, WereMade}
 use Rattle.reg_model.specs.declared.answer.Update.TheVariants as update
-use Rattle.reg_model.specs.Receipt.{HadTenMembers, IsRight}
+use Rattle.reg_model.specs.Receipt.{IsFilled, IsRight}
 use Rattle.word_rule.specs.Steps.{IsRefusalOf, MayRefuse, Refuses}
 use Rattle.word_rule.specs.declared.log.LoaderHolding.{LoaderHolding}
 use Rattle.word_rule.proofs.CopyStores.{loader_held}
@@ -43,7 +43,7 @@ use Rattle.word_rule.proofs.TreeRefusals.{ShownLeaves, found_there, held_inside,
 use Rattle.word_rule.proofs.Answering.{Told, told_record, told_numbers, all_ended}
 use Rattle.word_rule.proofs.Refusals.{HoldsNow, query_at, query_answers, refusal}
 use Rattle.word_rule.specs.Plays.{Seated, loads_clock}
-use Rattle.word_rule.proofs.Facts.{total_same, after_step, decided}
+use Rattle.word_rule.proofs.Facts.{total_same, part_of_total, after_step, decided}
 use Rattle.word_rule.proofs.Each.{all_map, all_append, all_of, some_with}
 use Rattle.word_rule.proofs.CallersFrame.{lineages_over, lock_stays, none_before, none_elsewhere, idle_stays}
 use Rattle.word_rule.proofs.NodesFrame.{nodes_same}
@@ -51,7 +51,7 @@ use Rattle.word_rule.proofs.Frames.{Sit, load_step, still_after_load}
 use Rattle.word_rule.proofs.Listings.{contains_find, lists_same, loaded_members, none_registered, registered_members, start_lawful, state_fixed, listed_few}
 use Rattle.word_rule.proofs.Joins.{prefix_both, records_later}
 use Rattle.word_rule.proofs.ObservationsFrame.{longer_length}
-use Rattle.word_rule.proofs.Alone.{seen_all}
+use Rattle.word_rule.proofs.Alone.{made_all, seen_all}
 use Rattle.std.proofs.lemmas.Option.{same_Some}
 
 -- a live leaf's entries are those of the tree inside its fences: a law of tree_shape
@@ -101,23 +101,23 @@ module _ (law : LeafLaw) (t : Terms) (slots id : ℕ) (me : Seated) (live : is_g
     low = r.memory.callers.updates
 
     -- the receipt of a walk
-    walked : (pc : ℕ) (o : Option CopySight) → Told t r.memory.history (own_list me.0.receipts) (walk_receipts (record me.0 { past = r.memory.history }) (get_or s.words 0 0) pc o)
+    walked : (pc : ℕ) (o : Option CopySight) → Told t r.memory.history (total (λ v. v.made) s.views + 1) (own_list me.0.receipts) (walk_receipts (record me.0 { past = r.memory.history }) (get_or s.words 0 0) pc o)
     walked pc None = inl refl
     walked pc (Some g) = go (g.guard == upper (get_or s.words 0 0))
       where
-        go : (b : Bool) → Told t r.memory.history (own_list me.0.receipts) (if b then (query_receipt half.Loaded (record me.0 { past = r.memory.history }) pc (lower (get_or s.words 0 0)) ∷ []) else [])
-        go true = inr (query_at t r.memory.history half.Loaded pc (length r.memory.history), ((λ i. query_at (terms i) r.memory.history half.Loaded pc (low i) ∷ []), query_answers t r.memory.history half.Loaded pc _))
+        go : (b : Bool) → Told t r.memory.history (total (λ v. v.made) s.views + 1) (own_list me.0.receipts) (if b then (query_receipt half.Loaded (record me.0 { past = r.memory.history }) pc (lower (get_or s.words 0 0)) ∷ []) else [])
+        go true = inr (query_at t r.memory.history half.Loaded pc (length r.memory.history), ((λ i. query_at (terms i) r.memory.history half.Loaded pc (low i) ∷ []), query_answers t r.memory.history half.Loaded pc _ _))
         go false = inl refl
 
     -- the receipt of a refusal by what the active copy lists
-    refused : (u : Update) → IsSomeAnd me.0.loader (MayRefuse t u) → (x : Receipt) × (IsRefusalOf u (state_after (start me.0.terms) r.memory.history) (lower (get_or s.words 0 0)) x × HoldsNow t r.memory.history (last_moment me.0.receipts.since me.0.receipts.own) x)
+    refused : (u : Update) → IsSomeAnd me.0.loader (MayRefuse t u) → (x : Receipt) × (IsRefusalOf u (state_after (start me.0.terms) r.memory.history) (lower (get_or s.words 0 0)) x × HoldsNow t r.memory.history (total (λ v. v.made) s.views + 1) (last_moment me.0.receipts.since me.0.receipts.own) x)
     refused u may =
         let h = some_with me.0.loader (MayRefuse t u) may in
         let mine = loader_held m r.memory.callers.holder id me.0.loader h.0 h.1.0 (r.memory.callers.at_loader id me.0 at) in
         let copy : h.0.active ≡ m.copies (upper (get_or s.words 0 0) % 2) = mine.1.active in
         let listed : ListsAll (m.copies (upper (get_or s.words 0 0) % 2)) (state_after (start t) r.memory.history).loaded = r.memory.active in
         let members_are : h.1.1.0 ≡ listed.members = lists_same (m.copies (upper (get_or s.words 0 0) % 2)) h.1.1.0 listed.members (subst (λ ws. ListsMembers ws h.1.1.0) copy h.1.1.1.0) listed.lists in
-        let told = refusal t r.memory.history (last_moment me.0.receipts.since me.0.receipts.own) r.memory.callers.terms r.memory.callers.lawful r.memory.callers.members listed.members listed.lists.ascending listed.same u (subst (Refuses t u) members_are h.1.1.1.1) in
+        let told = refusal t r.memory.history (total (λ v. v.made) s.views + 1) (last_moment me.0.receipts.since me.0.receipts.own) r.memory.callers.terms r.memory.callers.lawful r.memory.callers.members listed.members listed.lists.ascending listed.same u (subst (Refuses t u) members_are h.1.1.1.1) in
         (told.0, (subst (λ k. IsRefusalOf u (state_after (start k) r.memory.history) (lower (get_or s.words 0 0)) told.0) (sym terms) (subst (λ k. IsRefusalOf u (state_after (start t) r.memory.history) k told.0) (sym low) told.1.0), told.1.1))
 
     -- a live leaf's entries are the members of now inside its fences
@@ -138,30 +138,41 @@ module _ (law : LeafLaw) (t : Terms) (slots id : ℕ) (me : Seated) (live : is_g
         )
 
     -- what its held leaves show
-    leaves : ShownLeaves t r.memory.history me.0
+    leaves : ShownLeaves t r.memory.history (total (λ v. v.made) s.views + 1) me.0
     leaves = record {
       disjoint = (lawful_history (start t) r.memory.history (start_lawful t r.memory.callers.terms) r.memory.callers.lawful).registered;
       ordered = registered_ordered t m.nodes s.views r.memory.history r.memory.shadow r.memory.nodes;
       inside = held_inside t m.nodes s.views r.memory.history r.memory.shadow r.memory.nodes inside_now id me.0 at;
-      callers = total (λ v. v.made) s.views + 1;
       full = (r.memory.observations id me.0 at).full;
     }
 
-    appended : (x : Receipt) → IsRight (state_after (start me.0.terms) r.memory.history) x → HoldsNow t r.memory.history (last_moment me.0.receipts.since me.0.receipts.own) x → (y : Receipt) → x ≡ y → Appends y me.0 (after_clock (get_or s.words 0 0) r.memory.history (x ∷ []) me.0)
+    -- of the callers it knows itself and those that it made, and all where it is alone
+    were_made : WereMade me.0 (total (λ v. v.made) s.views + 1)
+    were_made = record {
+      least = (let mine = part_of_total (λ v. v.made) s.views id me.0 at in omega (arith, mine));
+      alone = λ alone. ap (λ k. k + 1) (made_all t m s.views r.memory.history r.memory.callers id me.0 at alone);
+    }
+
+    -- what a Full tells, of its own terms
+    filled_so : (x : Receipt) → IsFilled (start t) r.memory.history t.nodes (total (λ v. v.made) s.views + 1) (last_moment me.0.receipts.since me.0.receipts.own) x
+        → IsFilled (start me.0.terms) r.memory.history me.0.terms.nodes (total (λ v. v.made) s.views + 1) (last_moment me.0.receipts.since me.0.receipts.own) x
+    filled_so x h = subst (λ k. IsFilled (start k) r.memory.history k.nodes (total (λ v. v.made) s.views + 1) (last_moment me.0.receipts.since me.0.receipts.own) x) (sym terms) h
+
+    appended : (x : Receipt) → IsRight (state_after (start me.0.terms) r.memory.history) x → HoldsNow t r.memory.history (total (λ v. v.made) s.views + 1) (last_moment me.0.receipts.since me.0.receipts.own) x → (y : Receipt) → x ≡ y → Appends y me.0 (after_clock (get_or s.words 0 0) r.memory.history (x ∷ []) me.0)
     appended x right now y same = record {
       own = ap (λ z. me.0.receipts.own ++ z ∷ []) same;
       right = subst (IsRight (state_after (start me.0.terms) r.memory.history)) same right;
-      filled = subst (HadTenMembers (start me.0.terms) r.memory.history (last_moment me.0.receipts.since me.0.receipts.own)) same (subst (λ k. HadTenMembers (start k) r.memory.history (last_moment me.0.receipts.since me.0.receipts.own) x) (sym terms) (now.holds 0).filled);
+      filled = (total (λ v. v.made) s.views + 1, (were_made, subst (IsFilled (start me.0.terms) r.memory.history me.0.terms.nodes (total (λ v. v.made) s.views + 1) (last_moment me.0.receipts.since me.0.receipts.own)) same (filled_so x now.holds.filled)));
     }
 
-    pub asked : (b : Ask) → MayAsk t b me.0 → (rs : List Receipt) × (AreAsked b (get_or s.words 0 0) me.0.sights.copies (record me.0 { past = r.memory.history }) rs × (Told t r.memory.history (own_list me.0.receipts) rs × AppendsRefusal b (get_or s.words 0 0) me.0 (after_clock (get_or s.words 0 0) r.memory.history rs me.0)))
+    pub asked : (b : Ask) → MayAsk t b me.0 → (rs : List Receipt) × (AreAsked b (get_or s.words 0 0) me.0.sights.copies (record me.0 { past = r.memory.history }) rs × (Told t r.memory.history (total (λ v. v.made) s.views + 1) (own_list me.0.receipts) rs × AppendsRefusal b (get_or s.words 0 0) me.0 (after_clock (get_or s.words 0 0) r.memory.history rs me.0)))
     asked ask.Nothing q = ([], (refl, (inl refl, tt)))
     asked (ask.Registered pc) q = ([], (refl, (inl refl, tt)))
     asked (ask.Loaded pc) q = (_, (refl, (walked pc me.0.sights.copies, tt)))
     asked (ask.Refused (update.Load n)) q = let x = refused (update.Load n) q in (x.0 ∷ [], ((x.0, (refl, x.1.0)), (inr (x.0, (refl, x.1.1)), tt)))
     asked (ask.Refused (update.Unload base)) q = let x = refused (update.Unload base) q in (x.0 ∷ [], ((x.0, (refl, x.1.0)), (inr (x.0, (refl, x.1.1)), tt)))
     asked (ask.Refused (update.Register n)) q =
-        let x = register_refused t r.memory.history me.0 (lower (get_or s.words 0 0)) low terms leaves n q in (
+        let x = register_refused t r.memory.history (total (λ v. v.made) s.views + 1) me.0 (lower (get_or s.words 0 0)) low terms leaves n q in (
           x.0 ∷ [],
           (
             (x.0, (refl, x.1.right)),
@@ -169,9 +180,9 @@ module _ (law : LeafLaw) (t : Terms) (slots id : ℕ) (me : Seated) (live : is_g
           ),
         )
     asked (ask.Refused (update.Deregister base)) q =
-        let x = deregister_refused t r.memory.history me.0 (lower (get_or s.words 0 0)) low terms leaves base q in (_, ((_, (refl, x.0)), (inr (_, (refl, x.1)), λ h. record { own = refl; right = x.0.3; filled = tt })))
+        let x = deregister_refused t r.memory.history (total (λ v. v.made) s.views + 1) me.0 (lower (get_or s.words 0 0)) low terms leaves base q in (_, ((_, (refl, x.0)), (inr (_, (refl, x.1)), λ h. record { own = refl; right = x.0.3; filled = (total (λ v. v.made) s.views + 1, (were_made, record { ten = tt; most = λ _. tt })) })))
     asked (ask.Refused (update.Replace n)) q =
-        let x = replace_refused t r.memory.history me.0 (lower (get_or s.words 0 0)) low terms leaves n q in (_, ((_, (refl, x.0)), (inr (_, (refl, x.1)), λ h. record { own = refl; right = x.0.3; filled = tt })))
+        let x = replace_refused t r.memory.history (total (λ v. v.made) s.views + 1) me.0 (lower (get_or s.words 0 0)) low terms leaves n q in (_, ((_, (refl, x.0)), (inr (_, (refl, x.1)), λ h. record { own = refl; right = x.0.3; filled = (total (λ v. v.made) s.views + 1, (were_made, record { ten = tt; most = λ _. tt })) })))
 
     abbrev receipts : List Receipt
     receipts = (asked a may).0
@@ -179,7 +190,7 @@ module _ (law : LeafLaw) (t : Terms) (slots id : ℕ) (me : Seated) (live : is_g
     abbrev w : Log
     w = after_clock (get_or s.words 0 0) r.memory.history (asked a may).0 me.0
 
-    told : Told t r.memory.history (own_list me.0.receipts) (asked a may).0
+    told : Told t r.memory.history (total (λ v. v.made) s.views + 1) (own_list me.0.receipts) (asked a may).0
     told = (asked a may).1.1.0
 
     since : me.0.receipts.since ≤ length r.memory.history
@@ -193,7 +204,7 @@ module _ (law : LeafLaw) (t : Terms) (slots id : ℕ) (me : Seated) (live : is_g
         (let mine = subst (λ k. LogHolds t r.memory.history k me.0) (sym is_c) log in record {
           terms = λ _. terms;
           begins = ([], append-nil r.memory.history);
-          receipts = record { since = since; own = told_record t me.0.past r.memory.history c (own_list me.0.receipts) receipts log.begins since told mine.receipts.own; joined = records_later t me.0.past r.memory.history c c mine.begins me.0.receipts.joined mine.receipts.joined; heard = prefix_both me.0.receipts.heard me.0.past r.memory.history mine.receipts.heard mine.begins };
+          receipts = record { since = since; own = told_record t me.0.past r.memory.history c (own_list me.0.receipts) receipts log.begins since (subst (λ k. Told t r.memory.history k (own_list me.0.receipts) receipts) (sym is_c) told) mine.receipts.own; joined = records_later t me.0.past r.memory.history c c mine.begins (omega arith) me.0.receipts.joined mine.receipts.joined; heard = prefix_both me.0.receipts.heard me.0.past r.memory.history mine.receipts.heard mine.begins };
           lineage = mine.lineage;
           idle = idle_stays me.0 w refl refl mine.idle;
         })
@@ -209,14 +220,14 @@ module _ (law : LeafLaw) (t : Terms) (slots id : ℕ) (me : Seated) (live : is_g
           terms = c.terms;
           members = c.members;
           room = (let e = total_same (λ v. v.budget.allowance) s.views id me.0 w at refl in let o = c.room in omega (arith, e, o));
-          numbers = λ n. total_same (dones_in n) s.views id me.0 w at (let e = told_numbers t r.memory.history (own_list me.0.receipts) receipts n told in omega (arith, e)) ∙ c.numbers n;
+          numbers = λ n. total_same (dones_in n) s.views id me.0 w at (let e = told_numbers t r.memory.history (total (λ v. v.made) s.views + 1) (own_list me.0.receipts) receipts n told in omega (arith, e)) ∙ c.numbers n;
           each = each (total (λ v. v.made) (set s.views id w) + 1) (ap (λ k. k + 1) made_same);
           weights = (let e = total_same (λ v. weight v.role) s.views id me.0 w at refl in let b = made_same in let o = c.weights in omega (arith, e, b, o));
           loader = lock_stays s.views m.loader m.loader id me.0 w c.holder at refl (λ e. subst (LoaderLock (memory_of t s.words).loader s.views) e c.loader) c.loader;
           at_loader = after_step (λ j v. AtLoader (memory_of t s.words) r.memory.callers.holder j v.loader) s.views id w (c.at_loader id me.0 at) (λ j v _ there. c.at_loader j v there);
           spare_copy = λ clean. c.spare_copy (none_before s.views id me.0 w at (λ h. h) clean);
           counted = (let e = total_same (λ v. v.budget.credit) s.views id me.0 w at refl in let o = c.counted in omega (arith, e, o));
-          lineages = lineages_over s.views c.lineages id me.0 w at refl refl (λ gone. let h = c.lineages.nameless id me.0 at gone in ((λ n. (let e = told_numbers t r.memory.history (own_list me.0.receipts) receipts n told in let o = h.0 n in omega (arith, e, o))), h.1));
+          lineages = lineages_over s.views c.lineages id me.0 w at refl refl (λ gone. let h = c.lineages.nameless id me.0 at gone in ((λ n. (let e = told_numbers t r.memory.history (total (λ v. v.made) s.views + 1) (own_list me.0.receipts) receipts n told in let o = h.0 n in omega (arith, e, o))), h.1));
         }
 
     -- where the clock is loaded, a sight that stands knows the members of then
@@ -255,6 +266,7 @@ module _ (law : LeafLaw) (t : Terms) (slots id : ℕ) (me : Seated) (live : is_g
     not_full rs = record {
       count = λ _. all_of (λ h. IsFullCount event h → HadMembers t r.memory.history rs 10) (λ h is_full. absurd (let e = is_full.0 in omega (arith, e))) me.0.holdings.held;
       head = λ _ is _ _. absurd (omega (arith, is));
+      highest = λ top. absurd (let e = top.0 in omega (arith, e));
     }
 
     mine : ObservationsHold t m r.memory.history (total (λ v. v.made) s.views + 1) r.memory.shadow w

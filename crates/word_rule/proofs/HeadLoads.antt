@@ -1,5 +1,5 @@
 -- A load of the free head keeps the rule: where it is 0, all nodes are live but those that callers have out.
-use Rattle.std.proofs.Common.{◌≡◌, ℕ, zero, suc, ◌+◌, ◌-◌, ◌*◌, ◌<◌, ◌≤◌, List, [], ◌∷◌, length, get_or, set, sym, refl, ap, ◌∙◌, subst, arith, ◌==◌, nat_lt, Bool, true, false, eq-eqb, ne_eqb, lt-ltb}
+use Rattle.std.proofs.Common.{◌≡◌, ℕ, suc, ◌+◌, ◌-◌, ◌*◌, ◌<◌, ◌≤◌, List, [], ◌∷◌, length, get_or, set, sym, refl, ap, ◌∙◌, subst, arith, ◌==◌, nat_lt, Bool, true, false, eq-eqb, lt-ltb}
 use mathlib.Core.Option.{none, some}
 use native.Mathlib.Decide.{ℕ_discrete}
 use lib.ListN.{get_elem?}
@@ -24,46 +24,17 @@ use Rattle.word_rule.proofs.ObservationsFrame.{observations_same}
 use Rattle.word_rule.proofs.Frames.{Sit, still_after_load}
 use Rattle.word_rule.proofs.Quiet.{quiet}
 use Rattle.word_rule.proofs.NodeLoads.{OrderLaw, had_members, ltb_true}
+use Rattle.word_rule.proofs.Tallies.{tally, tally_plus, tally_zero, tally_times, tally_covers}
 
 -- a tree of two nodes or more has twice as many entries: a law of tree_shape
 abbrev pub EntriesLaw : Type 0
 EntriesLaw = (f : Contents) (live : ℕ → Bool) → IsLawfulTree f live → 2 ≤ length (nodes f) → 2 * length (nodes f) ≤ length (entries f)
 
--- what a function is at the numbers below n, added up
-abbrev tally : (ℕ → ℕ) → ℕ → ℕ
-tally f zero = 0
-tally f (suc n) = f n + tally f n
-
-tally_plus : (f g : ℕ → ℕ) (n : ℕ) → tally (λ k. f k + g k) n ≡ tally f n + tally g n
-tally_plus f g zero = refl
-tally_plus f g (suc n) = let rest = tally_plus f g n in omega (arith, rest)
-
-tally_zero : (n : ℕ) → tally (λ k. 0) n ≡ 0
-tally_zero zero = refl
-tally_zero (suc n) = let rest = tally_zero n in omega (arith, rest)
-
--- a number is at most once below n
-tally_once : (x n : ℕ) → (tally (λ k. once (k == x)) n ≤ 1) × (n ≤ x → tally (λ k. once (k == x)) n ≡ 0)
-tally_once x zero = (omega arith, λ _. refl)
-tally_once x (suc n) = go (ℕ_discrete n x) (tally_once x n)
-  where
-    go : Dec (n ≡ x) → (tally (λ k. once (k == x)) n ≤ 1) × (n ≤ x → tally (λ k. once (k == x)) n ≡ 0) → (tally (λ k. once (k == x)) (suc n) ≤ 1) × (suc n ≤ x → tally (λ k. once (k == x)) (suc n) ≡ 0)
-    go (yes e) rest = let one : once (n == x) ≡ 1 = rw (eq-eqb n x e) refl in let nothing = rest.1 (omega (arith, e)) in (omega (arith, one, nothing), λ less. absurd (omega (arith, less, e)))
-    go (no ne) rest = let no_one : once (n == x) ≡ 0 = rw (ne_eqb n x ne) refl in let a = rest.0 in (omega (arith, no_one, a), λ less. (let b = rest.1 (omega (arith, less)) in omega (arith, no_one, b)))
-
--- the items of a list below n are at most all
-tally_times : (xs : List ℕ) (n : ℕ) → tally (λ k. times k xs) n ≤ length xs
-tally_times [] n = let e = tally_zero n in omega (arith, e)
-tally_times (x ∷ xs) n = let sum = tally_plus (λ k. once (k == x)) (λ k. times k xs) n in let one = (tally_once x n).0 in let rest = tally_times xs n in omega (arith, sum, one, rest)
-
+-- the nodes below n that callers have out
 tally_total : (views : List Log) (n : ℕ) → tally (λ k. total (λ v. times k v.holdings.out) views) n ≤ total (λ v. length v.holdings.out) views
 tally_total [] n = let e = tally_zero n in omega (arith, e)
 tally_total (v ∷ views) n =
     let sum = tally_plus (λ k. times k v.holdings.out) (λ k. total (λ u. times k u.holdings.out) views) n in let mine = tally_times v.holdings.out n in let rest = tally_total views n in omega (arith, sum, mine, rest)
-
-tally_covers : (f g : ℕ → ℕ) (n : ℕ) → ((k : ℕ) → k < n → 1 ≤ f k + g k) → n ≤ tally f n + tally g n
-tally_covers f g zero each = omega arith
-tally_covers f g (suc n) each = let here = each n (omega arith) in let rest = tally_covers f g n (λ k less. each k (omega (arith, less))) in omega (arith, here, rest)
 
 -- each caller has four nodes out at most
 total_out : (views : List Log) → ((j : ℕ) (u : Log) → get_elem? views j ≡ some u → (length u.holdings.out ≤ 4) × (weight u.role ≡ 0 → IsIdle u)) → total (λ v. length v.holdings.out) views ≤ 4 * total (λ v. weight v.role) views
@@ -110,6 +81,7 @@ module _ (t : Terms) (slots id : ℕ) (me : Seated) (caller : me.0.role ≡ role
           let g = grown empty in
           let twice = entries_law r.memory.shadow.settled r.memory.shadow.live r.memory.nodes.lawful (omega (arith, g, two)) in
           had_members t slots id me (ap is_gone caller) order s r here (2 * (t.nodes - 4 * (total (λ u. u.made) s.views + 1))) (omega (arith, g, twice));
+      highest = λ top. absurd (let e = top.0 in omega (arith, e));
     }
 
     -- the head is a node

@@ -46,34 +46,34 @@ pub prefix_both : (xs ys zs : List Update) → IsPrefix xs ys → IsPrefix ys zs
 prefix_both xs ys zs p q = (p.0 ++ q.0, sym (append_assoc xs p.0 q.0) ∙ (ap (λ k. k ++ q.0) p.1 ∙ q.1))
 
 -- receipts that hold go on to hold while the history grows and callers come
-pub holds_later : (t : Terms) (past more : List Update) (callers later since : ℕ) (rs : List Receipt) → AllHold (start t) past t.nodes callers since rs → AllHold (start t) (past ++ more) t.nodes later since rs
-holds_later t past more callers later since [] h = tt
-holds_later t past more callers later since (r ∷ rs) h = (holds_on (start t) past more t.nodes callers later since r h.0, holds_later t past more callers later (max since (moment r)) rs h.1)
+pub holds_later : (t : Terms) (past more : List Update) (callers later since : ℕ) (rs : List Receipt) → callers ≤ later → AllHold (start t) past t.nodes callers since rs → AllHold (start t) (past ++ more) t.nodes later since rs
+holds_later t past more callers later since [] grown h = tt
+holds_later t past more callers later since (r ∷ rs) grown h = (holds_on (start t) past more t.nodes callers later since r grown h.0, holds_later t past more callers later (max since (moment r)) rs grown h.1)
 
-pub record_later : (t : Terms) (past past' : List Update) (callers later : ℕ) → IsPrefix past past' → (rs : ReceiptList) → IsRecord t past callers rs → IsRecord t past' later rs
-record_later t past past' callers later pre rs h = (subst (λ p. AllHold (start t) p t.nodes later rs.since rs.list) pre.1 (holds_later t past pre.0 callers later rs.since rs.list h.0), h.1)
+pub record_later : (t : Terms) (past past' : List Update) (callers later : ℕ) → IsPrefix past past' → callers ≤ later → (rs : ReceiptList) → IsRecord t past callers rs → IsRecord t past' later rs
+record_later t past past' callers later pre grown rs h = (subst (λ p. AllHold (start t) p t.nodes later rs.since rs.list) pre.1 (holds_later t past pre.0 callers later rs.since rs.list grown h.0), h.1)
 
-pub records_later : (t : Terms) (past past' : List Update) (callers later : ℕ) → IsPrefix past past' → (lists : List ReceiptList) → AllByRecursion (IsRecord t past callers) lists → AllByRecursion (IsRecord t past' later) lists
-records_later t past past' callers later pre [] h = tt
-records_later t past past' callers later pre (rs ∷ lists) h = (record_later t past past' callers later pre rs h.0, records_later t past past' callers later pre lists h.1)
+pub records_later : (t : Terms) (past past' : List Update) (callers later : ℕ) → IsPrefix past past' → callers ≤ later → (lists : List ReceiptList) → AllByRecursion (IsRecord t past callers) lists → AllByRecursion (IsRecord t past' later) lists
+records_later t past past' callers later pre grown [] h = tt
+records_later t past past' callers later pre grown (rs ∷ lists) h = (record_later t past past' callers later pre grown rs h.0, records_later t past past' callers later pre grown lists h.1)
 
 own_prefix : (past : List Update) → IsPrefix past past
 own_prefix past = ([], append-nil past)
 
-receipts_later : (t : Terms) (past past' : List Update) (callers later : ℕ) → IsPrefix past past' → (rs : Receipts) → ReceiptsHold t past callers rs → ReceiptsHold t past' later rs
-receipts_later t past past' callers later pre rs h = record {
+receipts_later : (t : Terms) (past past' : List Update) (callers later : ℕ) → IsPrefix past past' → callers ≤ later → (rs : Receipts) → ReceiptsHold t past callers rs → ReceiptsHold t past' later rs
+receipts_later t past past' callers later pre grown rs h = record {
   since = (let low = h.since in let len = longer_length past past' pre in omega (arith, low, len));
-  own = record_later t past past' callers later pre (own_list rs) h.own;
-  joined = records_later t past past' callers later pre rs.joined h.joined;
+  own = record_later t past past' callers later pre grown (own_list rs) h.own;
+  joined = records_later t past past' callers later pre grown rs.joined h.joined;
   heard = prefix_both rs.heard past past' h.heard pre;
 }
 
 -- more callers were made
-pub log_later : (t : Terms) (history : List Update) (callers later : ℕ) (v : Log) → LogHolds t history callers v → LogHolds t history later v
-log_later t history callers later v h = record {
+pub log_later : (t : Terms) (history : List Update) (callers later : ℕ) (v : Log) → callers ≤ later → LogHolds t history callers v → LogHolds t history later v
+log_later t history callers later v grown h = record {
   terms = h.terms;
   begins = h.begins;
-  receipts = receipts_later t v.past v.past callers later (own_prefix v.past) v.receipts h.receipts;
+  receipts = receipts_later t v.past v.past callers later (own_prefix v.past) grown v.receipts h.receipts;
   lineage = h.lineage;
   idle = h.idle;
 }
@@ -145,6 +145,10 @@ module _ (t : Terms) (m : Memory) (views : List Log) (history : List Update) (r 
       (λ (is : j ≡ id). (w, h.1, (at_longer (set views id w) (child ∷ []) j w (subst (λ k. get_elem? (set views id w) k ≡ some w) (sym is) (set_here views id w (within views id v at))), forks.loader ∙ (ap (λ u. u.loader) (some-injective v h.0 (sym at ∙ (ap (get_elem? views) (sym is) ∙ h.2.0))) ∙ h.2.1))))
       (λ (is : j ≢ id). (h.0, h.1, (at_longer (set views id w) (child ∷ []) j h.0 (set_else views id j w is ∙ h.2.0), h.2.1))) (decided j id)
 
+  -- no fewer callers were made than before
+  more_made : w.made ≡ weight role + v.made → total (λ u. u.made) views + 1 ≤ total (λ u. u.made) both + 1
+  more_made made = let c = total_set (λ u. u.made) views id v w at in let d = total_snoc (λ u. u.made) (set views id w) child in omega (arith, c, d, made)
+
   pub callers_fork : w.made ≡ weight role + v.made → w.budget.allowance + budget.allowance ≡ v.budget.allowance → w.budget.credit + budget.credit ≡ v.budget.credit → CallersHold t m both history
   callers_fork made allowed credited = record {
     holder = r.holder;
@@ -156,13 +160,13 @@ module _ (t : Terms) (m : Memory) (views : List Log) (history : List Update) (r 
     room = (let s = sums (λ u. u.budget.allowance) allowed in let o = r.room in omega (arith, s, o));
     numbers = λ n. sums (dones_in n) (let e : dones_in n w ≡ dones_in n v = ap (dones n) forks.receipts in omega (arith, e)) ∙ r.numbers n;
     each = behind (λ _ u. LogHolds t history (total (λ y. y.made) both + 1) u) (set views id w) child
-        (after_step (λ _ u. LogHolds t history (total (λ y. y.made) both + 1) u) views id w ((let h = log_later t history _ (total (λ y. y.made) both + 1) v (r.each id v at) in record {
+        (after_step (λ _ u. LogHolds t history (total (λ y. y.made) both + 1) u) views id w ((let h = log_later t history _ (total (λ y. y.made) both + 1) v (more_made made) (r.each id v at) in record {
           terms = λ s. forks.terms ∙ h.terms (not_gone v.role stands);
           begins = subst (λ p. IsPrefix p history) (sym forks.past) h.begins;
           receipts = subst (λ p. ReceiptsHold t p (total (λ y. y.made) both + 1) w.receipts) (sym forks.past) (subst (ReceiptsHold t v.past (total (λ y. y.made) both + 1)) (sym forks.receipts) h.receipts);
           lineage = subst LineageHolds (sym forks.lineage) (fork_holds v.lineage own_name h.lineage);
           idle = idle;
-        })) (λ j u _ e. log_later t history _ (total (λ y. y.made) both + 1) u (r.each j u e)))
+        })) (λ j u _ e. log_later t history _ (total (λ y. y.made) both + 1) u (more_made made) (r.each j u e)))
         (λ _. record { terms = λ _. (r.each id v at).terms (not_gone v.role stands); begins = (r.each id v at).begins; receipts = record { since = omega arith; own = (tt, tt); joined = tt; heard = (v.past, refl) }; lineage = new_lineage_holds (child_name v.lineage); idle = λ _. record { held = refl; out = refl; loader = refl } });
     loader = loader_fork r.holder r.loader;
     at_loader = behind (λ j u. AtLoader m r.holder j u.loader) (set views id w) child
@@ -285,6 +289,9 @@ module _ (t : Terms) (m : Memory) (views : List Log) (history : List Update) (r 
   abbrev count : ℕ
   count = total (λ x. x.made) after + 1
 
+  as_many : total (λ x. x.made) views + 1 ≤ count
+  as_many = let made = made_is in omega (arith, made)
+
   lengthened : IsPrefix v.past (longer v.past u.past) × IsPrefix u.past (longer v.past u.past) × IsPrefix (longer v.past u.past) history
   lengthened = in_longer v.past u.past history (r.each id v at).begins (r.each other u was_there).begins
 
@@ -305,16 +312,16 @@ module _ (t : Terms) (m : Memory) (views : List Log) (history : List Update) (r 
           begins = subst (λ p. IsPrefix p history) (sym gains.past) lengthened.2;
           receipts = subst (λ p. ReceiptsHold t p count b.receipts) (sym gains.past) record {
             since = (let same = ap (λ (c : ReceiptList). c.since) gains.own in let low = h.receipts.since in let len = longer_length v.past (longer v.past u.past) lengthened.0 in omega (arith, same, low, len));
-            own = subst (IsRecord t (longer v.past u.past) count) (sym gains.own) (record_later t v.past (longer v.past u.past) _ count lengthened.0 (own_list v.receipts) h.receipts.own);
+            own = subst (IsRecord t (longer v.past u.past) count) (sym gains.own) (record_later t v.past (longer v.past u.past) _ count lengthened.0 as_many (own_list v.receipts) h.receipts.own);
             joined = subst (AllByRecursion (IsRecord t (longer v.past u.past) count)) (sym gains.joined)
-                (records_append t (longer v.past u.past) count v.receipts.joined lists (records_later t v.past (longer v.past u.past) _ count lengthened.0 v.receipts.joined h.receipts.joined)
-                (gained (record_later t u.past (longer v.past u.past) _ count lengthened.1 (own_list u.receipts) i.receipts.own, records_later t u.past (longer v.past u.past) _ count lengthened.1 u.receipts.joined i.receipts.joined)));
+                (records_append t (longer v.past u.past) count v.receipts.joined lists (records_later t v.past (longer v.past u.past) _ count lengthened.0 as_many v.receipts.joined h.receipts.joined)
+                (gained (record_later t u.past (longer v.past u.past) _ count lengthened.1 as_many (own_list u.receipts) i.receipts.own, records_later t u.past (longer v.past u.past) _ count lengthened.1 as_many u.receipts.joined i.receipts.joined)));
             heard = subst (λ p. IsPrefix p (longer v.past u.past)) (sym gains.heard) (shorter_begins v.past u.past lengthened.0 lengthened.1);
           };
           lineage = subst LineageHolds (sym gains.lineage) (join_holds v.lineage u.lineage h.lineage i.lineage);
           idle = idle;
         })
-        (λ j x _ _ e. log_later t history _ count x (r.each j x e));
+        (λ j x _ _ e. log_later t history _ count x as_many (r.each j x e));
     loader = loader_join r.holder r.loader;
     at_loader = everywhere (λ j x. AtLoader m r.holder j x.loader) tt (subst (AtLoader m r.holder id) (sym gains.loader) (r.at_loader id v at)) (λ j x _ _ e. r.at_loader j x e);
     spare_copy = λ clean. r.spare_copy (none_before views id v b at (subst (λ o. IfSome o (λ h. h.stored ≡ false)) gains.loader) (none_before one other u spent_log there (λ _. subst (λ o. IfSome o (λ h. h.stored ≡ false)) (sym free) tt) clean));

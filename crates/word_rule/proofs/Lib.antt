@@ -14,6 +14,7 @@ pub mod Quiet
 pub mod Writes
 pub mod Listings
 pub mod Receiving
+pub mod Tallies
 pub mod Loader
 pub mod NodeLoads
 pub mod HeadPlays

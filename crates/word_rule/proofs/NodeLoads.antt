@@ -12,7 +12,8 @@ use Rattle.reg_model.specs.declared.answer.Update.{Update}
 use Rattle.reg_model.specs.declared.answer.Receipt.{Receipt}
 use Rattle.reg_model.specs.declared.span.Member.{Member}
 use Rattle.tree_shape.specs.NodeData.{EntriesWithin, pairs_of, entries_of}
-use Rattle.tree_shape.specs.Trees.{Contents, entries, HasEntry}
+use Rattle.tree_shape.specs.Trees.{Contents, nodes, entries, HasEntry}
+use Rattle.tree_shape.specs.Numbers.{times, once}
 use Rattle.tree_shape.specs.Lawful.{IsTree, IsLawfulTree}
 use Rattle.word_rule.specs.declared.log.Terms.{Terms}
 use Rattle.word_rule.specs.declared.log.Holding.{Holding}
@@ -28,11 +29,13 @@ use Rattle.word_rule.specs.Steps.{IsHeldWord}
 use Rattle.word_rule.specs.declared.log.LoaderHolding.{LoaderHolding}
 use Rattle.word_rule.specs.Nodes.{Shadow, HoldsNode, IsPlaced}
 use Rattle.word_rule.specs.Copies.{CopySightHolds}
-use Rattle.word_rule.specs.Observations.{last_moment, HadMembers, IsFullCount, WasFull}
+use Rattle.word_rule.specs.Observations.{last_moment, FoundHighest, HadMembers, IsFullCount, WasFull}
 use Rattle.word_rule.specs.TableInvariant.{TableInvariant}
 use Rattle.word_rule.specs.Plays.{Seated, loads_copy}
-use Rattle.word_rule.proofs.Each.{all_map}
+use Rattle.word_rule.proofs.Each.{all_map, all_with}
 use Rattle.word_rule.proofs.Members.{ascending_fit}
+use Rattle.word_rule.proofs.Names.{once_small}
+use Rattle.word_rule.proofs.Tallies.{tally_all, tally_ones}
 use Rattle.word_rule.proofs.Memories.{load_content_at, load_copy_at}
 use Rattle.word_rule.proofs.Spells.{reads_full}
 use Rattle.word_rule.proofs.CallersFrame.{idle_stays}
@@ -59,9 +62,10 @@ last_within : (t : Terms) (past : List Update) (callers since : ℕ) (rs : List 
 last_within t past callers since [] low h = low
 last_within t past callers since (r ∷ rs) low h = let w = h.0.within in last_within t past callers (max since (moment r)) rs (omega (arith, low, w)) h.1
 
--- a live node that is full has ten members in the tree: a law of tree_shape
-abbrev pub FullLaw : Type 0
-FullLaw = (f : Contents) (live : ℕ → Bool) (n : ℕ) → IsLawfulTree f live → IsTrue (live n) → (15 ≤ length (pairs_of (f n))) ⊎ (10 ≤ length (entries_of (f n))) → 10 ≤ length (entries f)
+-- a tree with a live node that is full has ten members, and one whose root has level 12 has more nodes than there may be: a law of tree_shape
+pub record FullLaw : Type 0 where
+  pub full : (f : Contents) (live : ℕ → Bool) (n : ℕ) → IsLawfulTree f live → IsTrue (live n) → (15 ≤ length (pairs_of (f n))) ⊎ (10 ≤ length (entries_of (f n))) → 10 ≤ length (entries f)
+  pub height : (f : Contents) (live : ℕ → Bool) → IsLawfulTree f live → (f 0).level ≡ 12 → 16384 < length (nodes f)
 
 -- the entries of a tree ascend, and are those of its live nodes: a law of tree_shape
 pub record OrderLaw : Type 0 where
@@ -92,6 +96,7 @@ module _ (t : Terms) (slots id : ℕ) (me : Seated) (live : is_gone me.0.role �
     count = λ _. all_map (HoldsNode t (memory_of t s.words).nodes r.memory.shadow id) (λ h. IsFullCount (load_of me.0 at (get_or s.words at 0)) h → HadMembers t r.memory.history (own_list me.0.receipts) 10)
         (λ h holds full. absurd (let e = full.0 in let w = holds.within in omega (arith, e, w, far))) me.0.holdings.held (r.memory.nodes.holdings id me.0 here).each;
     head = λ _ is _ _. absurd (omega (arith, is, far));
+    highest = λ top. absurd (let e = top.0 in let some_nodes = r.memory.callers.terms.nodes.0 in omega (arith, e, some_nodes, far));
   }
 
   -- the holder finds the word of the copy in which it stands
@@ -139,12 +144,22 @@ module _ (t : Terms) (slots id : ℕ) (me : Seated) (live : is_gone me.0.role �
       let all : state_at (start t) r.memory.history (length r.memory.history) ≡ state_after (start t) r.memory.history = ap (state_after (start t)) (take_all (length r.memory.history) r.memory.history (omega arith)) in
       (length r.memory.history, (omega (arith, last, seen), omega arith, subst (λ st. least ≤ length st.registered) (sym all) (omega (arith, many, fit))))
 
+  -- the tree has no more nodes than there are
+  few_nodes : (s : Sit) (r : Holds s) → length (nodes r.memory.shadow.settled) ≤ t.nodes
+  few_nodes s r =
+      let all = tally_all (nodes r.memory.shadow.settled) t.nodes (λ k far. let one = each_live k in let past : once (nat_lt k t.nodes) ≡ 0 = ap once (le-ltb k t.nodes far) in omega (arith, one, past)) in
+      let few = tally_ones (λ k. times k (nodes r.memory.shadow.settled)) t.nodes (λ k. let one = each_live k in let small = once_small (nat_lt k t.nodes) in omega (arith, one, small)) in omega (arith, all, few)
+    where
+      each_live : (k : ℕ) → times k (nodes r.memory.shadow.settled) ≤ once (nat_lt k t.nodes)
+      each_live k = let reached = r.memory.nodes.lawful.tree.reached k in let all = r.memory.nodes.each_once k in omega (arith, reached, all)
+
   -- a full node's count, loaded under its lock
   pub full_count : (law : FullLaw) (order : OrderLaw) (s : Sit) (r : Holds s) (n at : ℕ) → get_elem? s.views id ≡ some me.0 → 1 ≤ at → at ≤ 35
       → WasFull t r.memory.history (total (λ u. u.made) s.views + 1) (own_list me.0.receipts) (load_of me.0 (4 + 36 * n + at) (get_or s.words (4 + 36 * n + at) 0))
   full_count law order s r n at here low high = record {
     count = λ _. all_map (HoldsNode t (memory_of t s.words).nodes r.memory.shadow id) (λ h. IsFullCount (load_of me.0 (4 + 36 * n + at) (get_or s.words (4 + 36 * n + at) 0)) h → HadMembers t r.memory.history (own_list me.0.receipts) 10) told me.0.holdings.held (r.memory.nodes.holdings id me.0 here).each;
     head = λ _ is _ _. absurd (omega (arith, is));
+    highest = top;
   }
     where
       history : List Update
@@ -171,6 +186,14 @@ module _ (t : Terms) (slots id : ℕ) (me : Seated) (live : is_gone me.0.role �
           sym (load_content_at t s.words n at (omega (arith, w, node)) low high) ∙ (ap (λ k. get_or ((memory_of t s.words).nodes.contents n) (k - 1) 0) five ∙ ap (λ ws. node_word ws 5) (ap (memory_of t s.words).nodes.contents (sym node) ∙ sym holds.as_now)) in
           let size = reads_full h.words h.settled (get_or s.words (4 + 36 * n + at) 0) full.2 found full.3 in
           let live = live_of h full.1 holds.marked in
-          had_members order s r here 10 (law r.memory.shadow.settled r.memory.shadow.live h.node r.memory.nodes.lawful live
+          had_members order s r here 10 (law.full r.memory.shadow.settled r.memory.shadow.live h.node r.memory.nodes.lawful live
           (⊎_elim (λ (e : length (pairs_of h.settled) ≡ 15). inl (let z : length (pairs_of (r.memory.shadow.settled h.node)) ≡ 15 = ap (λ k. length (pairs_of k)) (sym holds.settled) ∙ e in omega (arith, z)))
           (λ (e : length (entries_of h.settled) ≡ 10). inr (let z : length (entries_of (r.memory.shadow.settled h.node)) ≡ 10 = ap (λ k. length (entries_of k)) (sym holds.settled) ∙ e in omega (arith, z))) size))
+
+      -- no root has the highest level: there are too few nodes
+      top : FoundHighest (load_of me.0 (4 + 36 * n + at) (get_or s.words (4 + 36 * n + at) 0)) → ⊥
+      top (word, found, root, held, zero, spells, level) =
+          let holds = all_with (HoldsNode t (memory_of t s.words).nodes r.memory.shadow id) me.0.holdings.held root (r.memory.nodes.holdings id me.0 here).each held in
+          let high : (r.memory.shadow.settled 0).level ≡ 12 = ap (λ k. (r.memory.shadow.settled k).level) (sym zero) ∙ (ap (λ z. z.level) (sym holds.settled) ∙ level) in
+          let many = law.height r.memory.shadow.settled r.memory.shadow.live r.memory.nodes.lawful high in
+          let few = few_nodes s r in let most = r.memory.callers.terms.nodes.1 in omega (arith, many, few, most)

@@ -60,6 +60,7 @@ pub of_version : (t : Terms) (id : ℕ) (me : Seated) (s : Sit) (r : TableInvari
 of_version t id me s r n = record {
   count = λ _. all_of (λ h. IsFullCount (load_of me.0 (4 + 36 * n) (get_or s.words (4 + 36 * n) 0)) h → HadMembers t r.memory.history (own_list me.0.receipts) 10) (λ h full. absurd (let e = full.0 in omega (arith, e))) me.0.holdings.held;
   head = λ _ is _ _. absurd (omega (arith, is));
+  highest = λ top. absurd (let e = top.0 in omega (arith, e));
 }
 
 module _ (t : Terms) (slots id : ℕ) (me : Seated) (caller : me.0.role ≡ role.Caller) where

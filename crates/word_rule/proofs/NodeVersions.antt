@@ -321,26 +321,26 @@ module _ (t : Terms) (words : NodeWords) (views : List Log) (history : List Upda
   found_again wide past seen u terms n found is (Some s) cs there all = λ same. let h = found_sight n cs s all there in subst (λ k. IsOfNode k past s) (sym terms) (is_of wide past seen s h.0 (inl (ap words.versions h.1 ∙ (is ∙ sym same))))
 
 -- the receipts of a version are those of a try, which holds now
-told_version : (t : Terms) (v : Log) (a : Ask) (found : ℕ) (o : Option NodeSight) → v.terms ≡ t → Told t v.past (own_list v.receipts) (receipts_after_version v a found o)
-told_version t v a found None terms = inl refl
-told_version t v a found (Some s) terms = go (s.version == found) (tried a s.clock)
+told_version : (t : Terms) (callers : ℕ) (v : Log) (a : Ask) (found : ℕ) (o : Option NodeSight) → v.terms ≡ t → Told t v.past callers (own_list v.receipts) (receipts_after_version v a found o)
+told_version t callers v a found None terms = inl refl
+told_version t callers v a found (Some s) terms = go (s.version == found) (tried a s.clock)
   where
-    go : (b : Bool) → Told t v.past (own_list v.receipts) (try_receipts v a s s.clock) → Told t v.past (own_list v.receipts) (if b then try_receipts v a s s.clock else [])
+    go : (b : Bool) → Told t v.past callers (own_list v.receipts) (try_receipts v a s s.clock) → Told t v.past callers (own_list v.receipts) (if b then try_receipts v a s s.clock else [])
     go true told = told
     go false told = inl refl
 
-    tried : (b : Ask) (clock : Option ℕ) → Told t v.past (own_list v.receipts) (try_receipts v b s clock)
+    tried : (b : Ask) (clock : Option ℕ) → Told t v.past callers (own_list v.receipts) (try_receipts v b s clock)
     tried ask.Nothing clock = inl refl
     tried (ask.Loaded pc) clock = inl refl
     tried (ask.Refused u) clock = inl refl
     tried (ask.Registered pc) None = inl refl
     tried (ask.Registered pc) (Some stamp) = by_test (is_leaf_for pc (place_of s) && (stamp == length v.past)) refl
       where
-        by_test : (b : Bool) → (is_leaf_for pc (place_of s) && (stamp == length v.past)) ≡ b → Told t v.past (own_list v.receipts) (if b then (query_receipt half.Registered v pc stamp ∷ []) else [])
+        by_test : (b : Bool) → (is_leaf_for pc (place_of s) && (stamp == length v.past)) ≡ b → Told t v.past callers (own_list v.receipts) (if b then (query_receipt half.Registered v pc stamp ∷ []) else [])
         by_test false is = inl refl
         by_test true is =
             let now : stamp ≡ length v.past = eqb_true stamp (length v.past) (and_parts (is_leaf_for pc (place_of s)) (stamp == length v.past) is).1 in
-            inr (query_at t v.past half.Registered pc (length v.past), ((λ i. query_at (terms i) v.past half.Registered pc (now i) ∷ []), query_answers t v.past half.Registered pc _))
+            inr (query_at t v.past half.Registered pc (length v.past), ((λ i. query_at (terms i) v.past half.Registered pc (now i) ∷ []), query_answers t v.past half.Registered pc _ _))
 
 -- what the version tells one that is alone
 module _ (t : Terms) (words : List ℕ) (views : List Log) (r : TableInvariant t words views) (id : ℕ) (v : Log) (here : get_elem? views id ≡ some v) (n : ℕ) (inside : n < t.nodes) where
@@ -407,7 +407,7 @@ module _ (t : Terms) (slots id : ℕ) (me : Seated) (live : is_gone me.0.role �
         keeps,
         tt,
         subst (λ vs. TableInvariant t (set s.words (4 + 36 * n) found) vs) both
-            (answered t (set s.words (4 + 36 * n) found) (set s.views id w) looked id w (set_here s.views id w (within s.views id me.0 here)) rs (told_version t me.0 a found (sight_of n me.0.sights.nodes) terms)),
+            (answered t (set s.words (4 + 36 * n) found) (set s.views id w) looked id w (set_here s.views id w (within s.views id me.0 here)) rs (told_version t _ me.0 a found (sight_of n me.0.sights.nodes) terms)),
         (
           refl,
           terms,

@@ -37,6 +37,7 @@ pub was_full_later : (t : Terms) (history history' : List Update) (callers calle
 was_full_later t history history' callers callers' receipts l longer more r = record {
   count = λ same. all_map (λ h. IsFullCount l h → HadMembers t history receipts 10) (λ h. IsFullCount l h → HadMembers t history' receipts 10) (λ h f full. had_members_later t history history' receipts 10 10 longer (omega arith) (f full)) l.held (r.count same);
   head = λ same is empty some. had_members_later t history history' receipts (2 * (t.nodes - 4 * callers)) (2 * (t.nodes - 4 * callers')) longer (omega (arith, more)) (r.head same is empty (omega (arith, more, some)));
+  highest = r.highest;
 }
 
 -- where a sight still stands, nothing of its node has changed
@@ -120,4 +121,5 @@ pub of_loader : (t : Terms) (history : List Update) (callers : ℕ) (receipts : 
 of_loader t history callers receipts l is = record {
   count = λ _. all_of (λ h. IsFullCount l h → HadMembers t history receipts 10) (λ h full. absurd (let e = full.0 in omega (arith, e, is))) l.held;
   head = λ _ head _ _. absurd (omega (arith, head, is));
+  highest = λ top. absurd (let e = top.0 in omega (arith, e, is));
 }

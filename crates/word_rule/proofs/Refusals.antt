@@ -36,31 +36,32 @@ query_holds : (t : Terms) (history : List Update) (which : Half) (pc k callers s
 query_holds t history which pc k callers since inside = go (query which pc (state_at (start t) history k)) refl
   where
     go : (o : Option Member) → query which pc (state_at (start t) history k) ≡ o → Holds (start t) history t.nodes callers since (Query which pc (found_at o k))
-    go None e = record { within = inside; numbered = tt; right = e; filled = tt }
-    go (Some m) e = record { within = inside; numbered = tt; right = e; filled = tt }
+    go None e = record { within = inside; numbered = tt; right = e; filled = record { ten = tt; most = λ _. tt } }
+    go (Some m) e = record { within = inside; numbered = tt; right = e; filled = record { ten = tt; most = λ _. tt } }
 
--- an answer that accepts nothing, and is right at the end of a history, after receipts up to `since`
-pub record HoldsNow (t : Terms) (history : List Update) (since : ℕ) (r : Receipt) : Type 0 where
+-- An answer that accepts nothing, and is right at the end of a history, after receipts up to
+-- `since`, where so many callers were made.
+pub record HoldsNow (t : Terms) (history : List Update) (callers since : ℕ) (r : Receipt) : Type 0 where
   pub accepts : accepted r ≡ None
   pub now : moment r ≡ length history
-  pub holds : (callers : ℕ) → Holds (start t) history t.nodes callers since r
+  pub holds : Holds (start t) history t.nodes callers since r
 
 query_moment : (o : Option Member) (which : Half) (pc k : ℕ) → moment (Query which pc (found_at o k)) ≡ k
 query_moment None which pc k = refl
 query_moment (Some m) which pc k = refl
 
-pub query_answers : (t : Terms) (history : List Update) (which : Half) (pc since : ℕ) → HoldsNow t history since (query_at t history which pc (length history))
-query_answers t history which pc since = record {
+pub query_answers : (t : Terms) (history : List Update) (which : Half) (pc callers since : ℕ) → HoldsNow t history callers since (query_at t history which pc (length history))
+query_answers t history which pc callers since = record {
   accepts = refl;
   now = query_moment (query which pc (state_at (start t) history (length history))) which pc (length history);
-  holds = λ callers. query_holds t history which pc (length history) callers since (omega arith);
+  holds = query_holds t history which pc (length history) callers since (omega arith);
 }
 
 -- a log's own receipts, with such a receipt more
-pub answer_record : (t : Terms) (past history : List Update) (callers : ℕ) (rs : ReceiptList) (r : Receipt) → HoldsNow t history (last_moment rs.since rs.list) r → IsPrefix past history → rs.since ≤ length history → IsRecord t past callers rs → IsRecord t history callers (record rs { list = rs.list ++ r ∷ [] })
+pub answer_record : (t : Terms) (past history : List Update) (callers : ℕ) (rs : ReceiptList) (r : Receipt) → HoldsNow t history callers (last_moment rs.since rs.list) r → IsPrefix past history → rs.since ≤ length history → IsRecord t past callers rs → IsRecord t history callers (record rs { list = rs.list ++ r ∷ [] })
 answer_record t past history callers rs r a longer since h =
-    let later = record_later t past history callers callers longer rs h in (
-      all_hold_snoc t history callers rs.since rs.list r later.0 (a.holds callers),
+    let later = record_later t past history callers callers longer (omega arith) rs h in (
+      all_hold_snoc t history callers rs.since rs.list r later.0 a.holds,
       in_order_later t history callers rs.since rs.list r since later.0 later.1 a.accepts a.now,
     )
 
@@ -69,9 +70,9 @@ pub right_now : (t : Terms) (history : List Update) (r : Receipt) → IsRight (s
 right_now t history r h = subst (λ s. IsRight s r) (sym (ap (state_after (start t)) (take_all (length history) history (omega arith)))) h
 
 -- a refusal by what is listed of the loaded members
-pub refusal : (t : Terms) (history : List Update) (since : ℕ) → AreTerms t → IsHistory (start t) history → AllByRecursion (IsOfTerms t) history → (members : List Member) → AscendFrom 0 members → ((x : Member) → Contains members x ↔ Contains (state_after (start t) history).loaded x)
-    → (u : Update) → Refuses t u members → (r : Receipt) × (IsRefusalOf u (state_after (start t) history) (length history) r × HoldsNow t history since r)
-refusal t history since terms lawful updates members ascending same = go
+pub refusal : (t : Terms) (history : List Update) (callers since : ℕ) → AreTerms t → IsHistory (start t) history → AllByRecursion (IsOfTerms t) history → (members : List Member) → AscendFrom 0 members → ((x : Member) → Contains members x ↔ Contains (state_after (start t) history).loaded x)
+    → (u : Update) → Refuses t u members → (r : Receipt) × (IsRefusalOf u (state_after (start t) history) (length history) r × HoldsNow t history callers since r)
+refusal t history callers since terms lawful updates members ascending same = go
   where
     now : State
     now = state_after (start t) history
@@ -99,7 +100,7 @@ refusal t history since terms lawful updates members ascending same = go
         found false e = e
         found true e = let d = find_contains (λ (m : Member). m.span.first == base) (state_after (start t) history).loaded e in absurd (true≢false (sym (contains_find (λ (m : Member). m.span.first == base) members d.0 ((same d.0).1 d.1.0) d.1.1) ∙ none))
 
-    go : (u : Update) → Refuses t u members → (r : Receipt) × (IsRefusalOf u (state_after (start t) history) (length history) r × HoldsNow t history since r)
+    go : (u : Update) → Refuses t u members → (r : Receipt) × (IsRefusalOf u (state_after (start t) history) (length history) r × HoldsNow t history callers since r)
     go (update.Load m) h = ⊎_elim
         (λ (o : (other : Member) × IsLowestOverlap m.span (t.fixed ++ members) other).
         let lowest : IsLowestOverlap m.span (objects (state_after (start t) history)) o.0 = record {
@@ -107,14 +108,14 @@ refusal t history since terms lawful updates members ascending same = go
           overlaps = o.1.overlaps;
           lowest = λ k d l. All-contains (λ z. Overlaps z.span m.span → o.0.span.first ≤ z.span.first) (t.fixed ++ members) (get_or (objects (state_after (start t) history)) k d) o.1.lowest (back (get_or (objects (state_after (start t) history)) k d) (Contains-get_or (objects (state_after (start t) history)) k d l));
         } in
-        (receipt.Load m (loading.Overlap o.0 (length history)), ((refl, refl, refl, lowest), record { accepts = refl; now = refl; holds = λ callers. record { within = omega arith; numbered = tt; right = right_now t history (receipt.Load m (loading.Overlap o.0 (length history))) lowest; filled = tt } })))
+        (receipt.Load m (loading.Overlap o.0 (length history)), ((refl, refl, refl, lowest), record { accepts = refl; now = refl; holds = record { within = omega arith; numbered = tt; right = right_now t history (receipt.Load m (loading.Overlap o.0 (length history))) lowest; filled = record { ten = tt; most = λ _. tt } } })))
         (λ (f : IsFree m.span (t.fixed ++ members) × (length members ≡ t.loads)).
         let full : IsFree m.span (objects (state_after (start t) history)) × (length (state_after (start t) history).loaded ≡ (state_after (start t) history).loads) = (free_of m (t.fixed ++ members) (objects (state_after (start t) history)) back f.0, as_many ∙ (f.1 ∙ sym (state_fixed (start t) history).1)) in
-        (receipt.Load m (loading.LoadFull (length history)), ((refl, refl, refl, full), record { accepts = refl; now = refl; holds = λ callers. record { within = omega arith; numbered = tt; right = right_now t history (receipt.Load m (loading.LoadFull (length history))) full; filled = tt } })))
+        (receipt.Load m (loading.LoadFull (length history)), ((refl, refl, refl, full), record { accepts = refl; now = refl; holds = record { within = omega arith; numbered = tt; right = right_now t history (receipt.Load m (loading.LoadFull (length history))) full; filled = record { ten = tt; most = λ _. tt } } })))
         h
     go (update.Unload base) h =
         let none = none_at base h in
-        (receipt.Unload base (removed.NotFound (length history)), ((refl, refl, refl, none), record { accepts = refl; now = refl; holds = λ callers. record { within = omega arith; numbered = tt; right = right_now t history (receipt.Unload base (removed.NotFound (length history))) none; filled = tt } }))
+        (receipt.Unload base (removed.NotFound (length history)), ((refl, refl, refl, none), record { accepts = refl; now = refl; holds = record { within = omega arith; numbered = tt; right = right_now t history (receipt.Unload base (removed.NotFound (length history))) none; filled = record { ten = tt; most = λ _. tt } } }))
     go (update.Register m) h = absurd h
     go (update.Deregister base) h = absurd h
     go (update.Replace m) h = absurd h

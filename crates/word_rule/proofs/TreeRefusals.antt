@@ -1,5 +1,5 @@
 -- What held live leaves show of the registered members, and the refusals that follow from it.
-use Rattle.std.proofs.Common.{◌≡◌, ℕ, zero, suc, ◌+◌, ◌≤◌, ◌==◌, ◌⊎◌, ⊎_elim, List, [], ◌∷◌, ◌++◌, length, get_or, max, Contains, sym, refl, ap, ◌∙◌, subst, arith, Bool, true, false, true≢false, IsTrue, Option, Some, None, IsNone, IfSome, is_some}
+use Rattle.std.proofs.Common.{◌≡◌, ℕ, zero, suc, ◌+◌, ◌-◌, ◌*◌, ◌≤◌, ◌==◌, ◌⊎◌, ⊎_elim, List, [], ◌∷◌, ◌++◌, length, get_or, max, Contains, sym, refl, ap, ◌∙◌, subst, arith, Bool, true, false, true≢false, IsTrue, Option, Some, None, IsNone, IfSome, is_some}
 use Rattle.std.specs.List.{AllByRecursion, find}
 use Rattle.std.proofs.lemmas.List.Elements.{All-contains, Contains-get_or, Contains-append_left, Contains-append_right, Contains-append_cases}
 use Rattle.std.proofs.lemmas.Option.{none-some, same_Some}
@@ -36,10 +36,10 @@ use Rattle.word_rule.specs.Memory.{NodeWords}
 use Rattle.word_rule.specs.Held.{held_of, is_marked, marked_in, settled_in, settled_shape}
 use Rattle.word_rule.specs.Callers.{start}
 use Rattle.word_rule.specs.Nodes.{Shadow, IsPlaced, HoldsNode, NodesHold}
-use Rattle.word_rule.specs.Observations.{AreInside, HadMembers, IsFullCount, WasFull, last_moment}
+use Rattle.word_rule.specs.Observations.{AreInside, FoundHighest, HadMembers, IsFullCount, WasFull, last_moment}
 use Rattle.word_rule.specs.Steps.{IsRefusalOf}
-use Rattle.word_rule.specs.TreeRefusals.{IsInOne, HoldsLeaves, ShowsOverlap, ShowsNone, ShowsNoSpan, ShowsFull, HadNoRoom, entries_in_leaves}
-use Rattle.word_rule.proofs.Each.{all_map, all_with, held_is}
+use Rattle.word_rule.specs.TreeRefusals.{IsInOne, HoldsLeaves, ShowsOverlap, ShowsNone, ShowsNoSpan, ShowsFull, FoundNoneFree, HadNoRoom, WereMade, entries_in_leaves}
+use Rattle.word_rule.proofs.Each.{all_behind, all_map, all_with, held_is}
 use Rattle.word_rule.proofs.Listings.{contains_find, find_contains}
 use Rattle.word_rule.proofs.Refusals.{HoldsNow, right_now}
 use Rattle.word_rule.proofs.Spells.{eqb_true}
@@ -162,36 +162,39 @@ module _ (t : Terms) (words : NodeWords) (views : List Log) (history : List Upda
           let is = (held_is (HoldsNode t words shadow id) n v.holdings.held h (nodes.holdings id v at).each e).0 in
           subst (AreInside (state_after (start t) history).registered) (sym is.settled) (inside h.node (live h.mark h is.marked marked) (sym (ap (λ (s : NodeData). s.level) is.settled) ∙ level))
 
--- ---- ten members
-
-all_at : {A : Type 0} (P : A → Type 0) (before : List A) (x : A) (behind : List A) → AllByRecursion P (before ++ x ∷ behind) → P x
-all_at P [] x behind h = h.0
-all_at P (y ∷ before) x behind h = all_at P before x behind h.1
+-- ---- how many members there were
 
 -- the count of a full node among the loads tells of ten members since the last receipt
 had_ten : (t : Terms) (history : List Update) (callers base : ℕ) (own : ReceiptList) (loads : List LoadEvent) → AllByRecursion (WasFull t history callers own) loads → HadNoRoom base (length own.list) loads → HadMembers t history own 10
 had_ten t history callers base own loads full q =
-    let counted = all_at (WasFull t history callers own) q.before q.count (q.between ++ q.cause ∷ q.behind) (subst (AllByRecursion (WasFull t history callers own)) q.in_order full) in
+    let counted = (all_behind (WasFull t history callers own) q.before (q.count ∷ (q.between ++ q.cause ∷ q.behind)) (subst (AllByRecursion (WasFull t history callers own)) q.in_order full)).0 in
     all_with (λ h. IsFullCount q.count h → HadMembers t history own 10) q.count.held q.node (counted.count q.since) q.held q.full
+
+-- the load of 0 from the head tells of as many as the nodes that no caller can have out, twice
+had_bound : (t : Terms) (history : List Update) (callers base : ℕ) (own : ReceiptList) (loads : List LoadEvent) → AllByRecursion (WasFull t history callers own) loads → HadNoRoom base (length own.list) loads
+    → 2 ≤ t.nodes - 4 * callers → HadMembers t history own (2 * (t.nodes - 4 * callers))
+had_bound t history callers base own loads full q two =
+    let at_count = all_behind (WasFull t history callers own) q.before (q.count ∷ (q.between ++ q.cause ∷ q.behind)) (subst (AllByRecursion (WasFull t history callers own)) q.in_order full) in
+    let told = (all_behind (WasFull t history callers own) q.between (q.cause ∷ q.behind) at_count.1).0 in
+    ⊎_elim (λ (none : FoundNoneFree q.node.node q.cause). told.head q.still none.0 none.1 two) (λ (high : FoundHighest q.cause). absurd (told.highest high)) q.shut
 
 -- ---- refusals
 
--- what is so of the members, of what a log holds and of its loads
-pub record ShownLeaves (t : Terms) (history : List Update) (v : Log) : Type 0 where
+-- what is so of the members, of what a log holds and of its loads, where so many callers were made
+pub record ShownLeaves (t : Terms) (history : List Update) (callers : ℕ) (v : Log) : Type 0 where
   pub disjoint : AreDisjoint (state_after (start t) history).registered
   pub ordered : (x : Member) → Contains (state_after (start t) history).registered x → x.span.first ≤ x.span.last
   pub inside : (n : ℕ) → IsTrue (marked_in v.holdings.held n) → (settled_in v.holdings.held n).level ≡ 0 → AreInside (state_after (start t) history).registered (settled_in v.holdings.held n)
-  pub callers : ℕ
   pub full : AllByRecursion (WasFull t history callers (own_list v.receipts)) v.trace.loads
 
 -- the receipt of a refusal of a registration, which is the one that the leaves show
-pub record IsRegisterRefused (t : Terms) (history : List Update) (v : Log) (stamp : ℕ) (m : Member) (r : Receipt) : Type 0 where
+pub record IsRegisterRefused (t : Terms) (history : List Update) (callers : ℕ) (v : Log) (stamp : ℕ) (m : Member) (r : Receipt) : Type 0 where
   pub right : IsRefusalOf (update.Register m) (state_after (start v.terms) history) stamp r
-  pub holds : HoldsNow t history (last_moment v.receipts.since v.receipts.own) r
+  pub holds : HoldsNow t history callers (last_moment v.receipts.since v.receipts.own) r
   pub overlap : (other : Member) → ShowsOverlap m other v → r ≡ receipt.Register m (inserted.Overlap other stamp)
   pub full : ShowsFull m v → r ≡ receipt.Register m (inserted.Full stamp)
 
-module _ (t : Terms) (history : List Update) (v : Log) (stamp : ℕ) (now : stamp ≡ length history) (terms : v.terms ≡ t) (shown : ShownLeaves t history v) where
+module _ (t : Terms) (history : List Update) (callers : ℕ) (v : Log) (stamp : ℕ) (now : stamp ≡ length history) (terms : v.terms ≡ t) (shown : ShownLeaves t history callers v) where
   all_inside : (leaves : List ℕ) (first last : ℕ) → HoldsLeaves v.holdings.held leaves first last → AllByRecursion (λ n. AreInside (state_after (start t) history).registered (settled_in v.holdings.held n)) leaves
   all_inside leaves first last h =
       all_map (λ n. IsTrue (marked_in v.holdings.held n) × ((settled_in v.holdings.held n).level ≡ 0)) (λ n. AreInside (state_after (start t) history).registered (settled_in v.holdings.held n)) (λ n k. shown.inside n k.0 k.1) leaves h.live
@@ -210,15 +213,15 @@ module _ (t : Terms) (history : List Update) (v : Log) (stamp : ℕ) (now : stam
   no_span_so m h = none_listed (settled_in v.holdings.held) (state_after (start t) history).registered h.leaves (all_inside h.leaves _ _ h.held) shown.disjoint (λ x. is_same_span x.span m.span) m.span.first
       (λ x c is. begins_there x m.span.first (ap (λ (s : SpanData). s.first) (same_span x.span m.span is)) (shown.ordered x c)) (h.held.contain m.span.first (omega arith) (omega arith)) h.none
 
-  pub register_refused : (m : Member) → ((other : Member) × ShowsOverlap m other v) ⊎ ShowsFull m v → (r : Receipt) × IsRegisterRefused t history v stamp m r
+  pub register_refused : (m : Member) → ((other : Member) × ShowsOverlap m other v) ⊎ ShowsFull m v → (r : Receipt) × IsRegisterRefused t history callers v stamp m r
   register_refused m may = ⊎_elim
       (λ (o : (other : Member) × ShowsOverlap m other v).
       let lowest = overlap_so m o.0 o.1 in (
         receipt.Register m (inserted.Overlap o.0 stamp),
         record {
           right = (refl, refl, refl, subst (λ (k : Terms). IsLowestOverlap m.span (state_after (start k) history).registered o.0) (sym terms) lowest);
-          holds = subst (λ k. HoldsNow t history (last_moment v.receipts.since v.receipts.own) (receipt.Register m (inserted.Overlap o.0 k))) (sym now)
-              (record { accepts = refl; now = refl; holds = λ callers. record { within = omega arith; numbered = tt; right = right_now t history (receipt.Register m (inserted.Overlap o.0 (length history))) lowest; filled = tt } });
+          holds = subst (λ k. HoldsNow t history callers (last_moment v.receipts.since v.receipts.own) (receipt.Register m (inserted.Overlap o.0 k))) (sym now)
+              (record { accepts = refl; now = refl; holds = record { within = omega arith; numbered = tt; right = right_now t history (receipt.Register m (inserted.Overlap o.0 (length history))) lowest; filled = record { ten = tt; most = λ _. tt } } });
           overlap = λ other h. ap (λ z. receipt.Register m (inserted.Overlap z stamp)) (one_lowest m.span (state_after (start t) history).registered o.0 other shown.disjoint lowest (overlap_so m other h));
           full = λ h. absurd (not_free m.span (state_after (start t) history).registered o.0 lowest (free_so m h));
         },
@@ -228,15 +231,18 @@ module _ (t : Terms) (history : List Update) (v : Log) (stamp : ℕ) (now : stam
         receipt.Register m (inserted.Full stamp),
         record {
           right = (refl, refl, refl, subst (λ (k : Terms). IsFree m.span (state_after (start k) history).registered) (sym terms) free);
-          holds = subst (λ k. HoldsNow t history (last_moment v.receipts.since v.receipts.own) (receipt.Register m (inserted.Full k))) (sym now)
+          holds = subst (λ k. HoldsNow t history callers (last_moment v.receipts.since v.receipts.own) (receipt.Register m (inserted.Full k))) (sym now)
               (record {
                 accepts = refl;
                 now = refl;
-                holds = λ callers. record {
+                holds = record {
                   within = omega arith;
                   numbered = tt;
                   right = right_now t history (receipt.Register m (inserted.Full (length history))) free;
-                  filled = (let ten = had_ten t history shown.callers m.span.first (own_list v.receipts) v.trace.loads shown.full f.no_room in (ten.0, ten.1.0, ten.1.1, ten.1.2));
+                  filled = record {
+                    ten = (let h = had_ten t history callers m.span.first (own_list v.receipts) v.trace.loads shown.full f.no_room in (h.0, h.1.0, h.1.1, h.1.2));
+                    most = λ two. (let h = had_bound t history callers m.span.first (own_list v.receipts) v.trace.loads shown.full f.no_room two in (h.0, h.1.0, h.1.1, h.1.2));
+                  };
                 };
               });
           overlap = λ other h. absurd (not_free m.span (state_after (start t) history).registered other (overlap_so m other h) free);
@@ -245,18 +251,18 @@ module _ (t : Terms) (history : List Update) (v : Log) (stamp : ℕ) (now : stam
       ))
       may
 
-  pub deregister_refused : (base : ℕ) → ShowsNone base v → IsRefusalOf (update.Deregister base) (state_after (start v.terms) history) stamp (receipt.Deregister base (removed.NotFound stamp)) × HoldsNow t history (last_moment v.receipts.since v.receipts.own) (receipt.Deregister base (removed.NotFound stamp))
+  pub deregister_refused : (base : ℕ) → ShowsNone base v → IsRefusalOf (update.Deregister base) (state_after (start v.terms) history) stamp (receipt.Deregister base (removed.NotFound stamp)) × HoldsNow t history callers (last_moment v.receipts.since v.receipts.own) (receipt.Deregister base (removed.NotFound stamp))
   deregister_refused base h =
       let none = none_so base h in (
         (refl, refl, refl, subst (λ (k : Terms). IsNone (at_base base (state_after (start k) history).registered)) (sym terms) none),
-        subst (λ k. HoldsNow t history (last_moment v.receipts.since v.receipts.own) (receipt.Deregister base (removed.NotFound k))) (sym now)
-            (record { accepts = refl; now = refl; holds = λ callers. record { within = omega arith; numbered = tt; right = right_now t history (receipt.Deregister base (removed.NotFound (length history))) none; filled = tt } }),
+        subst (λ k. HoldsNow t history callers (last_moment v.receipts.since v.receipts.own) (receipt.Deregister base (removed.NotFound k))) (sym now)
+            (record { accepts = refl; now = refl; holds = record { within = omega arith; numbered = tt; right = right_now t history (receipt.Deregister base (removed.NotFound (length history))) none; filled = record { ten = tt; most = λ _. tt } } }),
       )
 
-  pub replace_refused : (m : Member) → ShowsNoSpan m v → IsRefusalOf (update.Replace m) (state_after (start v.terms) history) stamp (receipt.Replace m (replaced.NotFound stamp)) × HoldsNow t history (last_moment v.receipts.since v.receipts.own) (receipt.Replace m (replaced.NotFound stamp))
+  pub replace_refused : (m : Member) → ShowsNoSpan m v → IsRefusalOf (update.Replace m) (state_after (start v.terms) history) stamp (receipt.Replace m (replaced.NotFound stamp)) × HoldsNow t history callers (last_moment v.receipts.since v.receipts.own) (receipt.Replace m (replaced.NotFound stamp))
   replace_refused m h =
       let none = no_span_so m h in (
         (refl, refl, refl, subst (λ (k : Terms). IsNone (at_span m.span (state_after (start k) history).registered)) (sym terms) none),
-        subst (λ k. HoldsNow t history (last_moment v.receipts.since v.receipts.own) (receipt.Replace m (replaced.NotFound k))) (sym now)
-            (record { accepts = refl; now = refl; holds = λ callers. record { within = omega arith; numbered = tt; right = right_now t history (receipt.Replace m (replaced.NotFound (length history))) none; filled = tt } }),
+        subst (λ k. HoldsNow t history callers (last_moment v.receipts.since v.receipts.own) (receipt.Replace m (replaced.NotFound k))) (sym now)
+            (record { accepts = refl; now = refl; holds = record { within = omega arith; numbered = tt; right = right_now t history (receipt.Replace m (replaced.NotFound (length history))) none; filled = record { ten = tt; most = λ _. tt } } }),
       )

@@ -10,7 +10,7 @@ use Rattle.reg_model.specs.declared.answer.Receipt.{Receipt}
 use Rattle.reg_model.specs.declared.span.Member.{Member}
 use Rattle.tree_shape.specs.NodeData.{NodeData, Body, Link, Pairs, Entries, entries_of}
 use Rattle.tree_shape.specs.NodeData.{IsInFences}
-use Rattle.tree_shape.specs.declared.limits.TheConstants.{PAIRS, ENTRIES}
+use Rattle.tree_shape.specs.declared.limits.TheConstants.{PAIRS, ENTRIES, HIGHEST_LEVEL}
 use Rattle.word_rule.specs.declared.log.Terms.{Terms}
 use Rattle.word_rule.specs.declared.log.Holding.{Holding}
 use Rattle.word_rule.specs.declared.log.LoadEvent.{LoadEvent}
@@ -85,15 +85,22 @@ abbrev pub IsFullCount : LoadEvent → Holding → Type 0
 IsFullCount l h = (l.word ≡ node_place h.node + 5) × IsSome h.mark × SpellsNode h.words h.settled
     × IsFullBody l.found h.settled.body
 
+-- a load of the root's level, settled and the greatest that it may have
+abbrev pub FoundHighest : LoadEvent → Type 0
+FoundHighest l = (l.word ≡ node_place 0 + 2) × (l.found ≡ HIGHEST_LEVEL)
+    × ((root : Holding) × (Contains l.held root × (root.node ≡ 0)
+    × SpellsNode root.words root.settled × (root.settled.level ≡ HIGHEST_LEVEL)))
+
 -- What a load tells of fullness while the receipts are those with which it was made. After a full
 -- node's count ten members were registered; after a free head of 0, twice as many as nodes that no
--- caller can have out.
+-- caller can have out. No root is that high: its tree would have more nodes than there may be.
 pub record WasFull (t : Terms) (history : List Update) (callers : ℕ) (receipts : ReceiptList)
     (l : LoadEvent) : Type 0 where
   pub count : l.receipts ≡ length receipts.list
       → AllByRecursion (λ h. IsFullCount l h → HadMembers t history receipts 10) l.held
   pub head : l.receipts ≡ length receipts.list → l.word ≡ HEAD → l.found ≡ 0
       → 2 ≤ t.nodes - 4 * callers → HadMembers t history receipts (2 * (t.nodes - 4 * callers))
+  pub highest : ¬ FoundHighest l
 
 -- What holds of one log's sights and loads, where so many callers were ever made.
 pub record ObservationsHold (t : Terms) (m : Memory) (history : List Update) (callers : ℕ)

@@ -4,7 +4,7 @@ use Rattle.std.specs.Prelude.{◌≡◌, ℕ, ◌+◌, ◌≤◌, ◌⊎◌, fal
 use Rattle.std.specs.Prelude.{◌++◌, length, flat_map, max, Contains}
 use Rattle.std.specs.List.{AllByRecursion}
 use Rattle.reg_model.specs.History.{state_after}
-use Rattle.reg_model.specs.Receipt.{HadTenMembers, IsRight}
+use Rattle.reg_model.specs.Receipt.{IsFilled, IsRight}
 use Rattle.reg_model.specs.State.{IsFree, IsLowestOverlap, at_base, at_span}
 use Rattle.reg_model.specs.declared.span.Member.{Member}
 use Rattle.reg_model.specs.declared.answer.Inserted.TheVariants as inserted
@@ -16,7 +16,6 @@ use Rattle.reg_model.specs.declared.answer.Update.TheVariants as update
 use Rattle.tree_shape.specs.NodeData.{IsInFences, entries_of}
 use Rattle.tree_shape.specs.Numbers.{is_among}
 use Rattle.tree_shape.specs.Trees.{Contents}
-use Rattle.tree_shape.specs.declared.limits.TheConstants.{HIGHEST_LEVEL}
 use Rattle.word_rule.specs.declared.log.Ask.{Ask}
 use Rattle.word_rule.specs.declared.log.Ask.TheVariants as ask
 use Rattle.word_rule.specs.declared.log.Holding.{Holding}
@@ -24,9 +23,8 @@ use Rattle.word_rule.specs.declared.log.LoadEvent.{LoadEvent}
 use Rattle.word_rule.specs.declared.log.Log.{Log}
 use Rattle.word_rule.specs.Places.{HEAD, lower, node_place}
 use Rattle.word_rule.specs.Held.{marked_in, settled_in}
-use Rattle.word_rule.specs.Spelling.{SpellsNode}
-use Rattle.word_rule.specs.Callers.{start}
-use Rattle.word_rule.specs.Observations.{IsFullCount, last_moment}
+use Rattle.word_rule.specs.Callers.{IsAlone, start}
+use Rattle.word_rule.specs.Observations.{FoundHighest, IsFullCount, last_moment}
 
 -- the address lies in the fences of one of the leaves
 abbrev pub IsInOne : Contents → List ℕ → ℕ → Type 0
@@ -73,12 +71,6 @@ abbrev pub FoundNoneFree : ℕ → LoadEvent → Type 0
 FoundNoneFree full l =
     (l.word ≡ HEAD) × (l.found ≡ 0) × ((l.out ≡ []) ⊎ ((length l.out ≡ 1) × (full ≡ 0)))
 
--- a load of the root's level, settled and the greatest that it may have
-abbrev pub FoundHighest : LoadEvent → Type 0
-FoundHighest l = (l.word ≡ node_place 0 + 2) × (l.found ≡ HIGHEST_LEVEL)
-    × ((root : Holding) × (Contains l.held root × (root.node ≡ 0)
-    × SpellsNode root.words root.settled × (root.settled.level ≡ HIGHEST_LEVEL)))
-
 -- The loads by which there is no room for a member that begins at the base, with no receipt since:
 -- a full count of a held live node on the way there, which is the last count of such a node and in
 -- which nothing was stored afterwards; and then that no node is free, or that the root can't rise.
@@ -98,6 +90,7 @@ pub record HadNoRoom (base receipts : ℕ) (loads : List LoadEvent) : Type 0 whe
   pub stores : List ℕ
   pub stored : cause.stores ≡ count.stores ++ stores
   pub unstored : is_among stores node.node ≡ false
+  pub still : cause.receipts ≡ receipts
   pub shut : FoundNoneFree node.node cause ⊎ FoundHighest cause
 
 -- No member overlaps, as held leaves show that contain the span, and there was no room.
@@ -107,14 +100,21 @@ pub record ShowsFull (m : Member) (v : Log) : Type 0 where
   pub free : IsFree m.span (entries_in_leaves (settled_in v.holdings.held) leaves)
   pub no_room : HadNoRoom m.span.first (length v.receipts.own) v.trace.loads
 
--- One receipt more, which is right in the state after all that is now seen. Where it is a Full, ten
--- members were registered at some moment since the receipt before it, and since its caller was
--- split off.
+-- So many callers were ever made, the first one included, as far as a log knows: no fewer than
+-- itself and those that it made, directly or through others; and where it is alone, no more.
+pub record WereMade (v : Log) (callers : ℕ) : Type 0 where
+  pub least : v.made + 1 ≤ callers
+  pub alone : IsAlone v.lineage → callers ≡ v.made + 1
+
+-- One receipt more, which is right in the state after all that is now seen. Where it is a Full, as
+-- many members were registered as nodes and callers tell, at some moment since the receipt before
+-- it, and since its caller was split off.
 pub record Appends (r : Receipt) (v w : Log) : Type 0 where
   pub own : w.receipts.own ≡ v.receipts.own ++ r ∷ []
   pub right : IsRight (state_after (start w.terms) w.past) r
-  pub filled : HadTenMembers (start w.terms) w.past (last_moment v.receipts.since v.receipts.own)
-      r
+  pub filled : (callers : ℕ) × (WereMade v callers
+      × IsFilled (start w.terms) w.past w.terms.nodes callers
+      (last_moment v.receipts.since v.receipts.own) r)
 
 -- Which receipt a load of the clock appends that is asked for the refusal of an update of the tree:
 -- the one that the held leaves show, with the clock's number of updates as its stamp.

@@ -13,7 +13,7 @@ load-requires g c =
     let nodes = ap (λ k. k.terms.nodes) c.self.view_is in (
       c.requires.table ∙ sym (ap (λ k. k.table) c.self.view_is),
       omega (arith, wide, place, inside, nodes, word),
-      loads_word_of _ _ _ _ c.requires.stands c.fillings.ensures.full
+      loads_word_of _ _ _ _ c.requires.stands (record { full = c.fillings.ensures.full; height = c.fillings.ensures.height })
           (record { members = c.order.ensures.entries; ascending = c.order.ensures.ascending }) c.children.ensures.root (record { live = c.children.ensures.live; never_root = c.children.ensures.never_root }) _ _ (subst (λ k. c.args.node < k.nodes) (sym terms) inside) word.0 word.1 _ _ _
           c.requires.about.0 c.requires.about.1 (omega (arith, place)),
     )
