@@ -33,7 +33,7 @@ use Rattle.word_rule.specs.Copies.{ListsAll, ListsMembers, CopySightHolds, IsBeh
 use Rattle.word_rule.specs.Observations.{AreInside, SightHolds, WasFull, ObservationsHold, HadMembers, IsFullCount, last_moment}
 use Rattle.word_rule.specs.TableInvariant.{TableInvariant}
 use Rattle.word_rule.specs.Clock.{IsSeen, ClockTells, MayAsk, AreAsked}
-use Rattle.word_rule.specs.TreeRefusals.{Appends, AppendsRefusal, WereMade}
+use Rattle.word_rule.specs.TreeRefusals.{Appends, AppendsRefusal, IsFilledSince, WereMade}
 use Rattle.reg_model.specs.declared.answer.Update.TheVariants as update
 use Rattle.reg_model.specs.Receipt.{IsFilled, IsRight}
 use Rattle.word_rule.specs.Steps.{IsRefusalOf, MayRefuse, Refuses}
@@ -153,16 +153,15 @@ module _ (law : LeafLaw) (t : Terms) (slots id : ℕ) (me : Seated) (live : is_g
       alone = λ alone. ap (λ k. k + 1) (made_all t m s.views r.memory.history r.memory.callers id me.0 at alone);
     }
 
-    -- what a Full tells, of its own terms
-    filled_so : (x : Receipt) → IsFilled (start t) r.memory.history t.nodes (total (λ v. v.made) s.views + 1) (last_moment me.0.receipts.since me.0.receipts.own) x
-        → IsFilled (start me.0.terms) r.memory.history me.0.terms.nodes (total (λ v. v.made) s.views + 1) (last_moment me.0.receipts.since me.0.receipts.own) x
-    filled_so x h = subst (λ k. IsFilled (start k) r.memory.history k.nodes (total (λ v. v.made) s.views + 1) (last_moment me.0.receipts.since me.0.receipts.own) x) (sym terms) h
+    -- what a receipt tells of fullness, in its own terms
+    filled_so : (x : Receipt) → IsFilled (start t) r.memory.history t.nodes (total (λ v. v.made) s.views + 1) (last_moment me.0.receipts.since me.0.receipts.own) x → IsFilledSince me.0 me.0.terms r.memory.history x
+    filled_so x h = subst (λ k. IsFilledSince me.0 k r.memory.history x) (sym terms) (total (λ v. v.made) s.views + 1, (were_made, h))
 
     appended : (x : Receipt) → IsRight (state_after (start me.0.terms) r.memory.history) x → HoldsNow t r.memory.history (total (λ v. v.made) s.views + 1) (last_moment me.0.receipts.since me.0.receipts.own) x → (y : Receipt) → x ≡ y → Appends y me.0 (after_clock (get_or s.words 0 0) r.memory.history (x ∷ []) me.0)
     appended x right now y same = record {
       own = ap (λ z. me.0.receipts.own ++ z ∷ []) same;
       right = subst (IsRight (state_after (start me.0.terms) r.memory.history)) same right;
-      filled = (total (λ v. v.made) s.views + 1, (were_made, subst (IsFilled (start me.0.terms) r.memory.history me.0.terms.nodes (total (λ v. v.made) s.views + 1) (last_moment me.0.receipts.since me.0.receipts.own)) same (filled_so x now.holds.filled)));
+      filled = subst (IsFilledSince me.0 me.0.terms r.memory.history) same (filled_so x now.holds.filled);
     }
 
     pub asked : (b : Ask) → MayAsk t b me.0 → (rs : List Receipt) × (AreAsked b (get_or s.words 0 0) me.0.sights.copies (record me.0 { past = r.memory.history }) rs × (Told t r.memory.history (total (λ v. v.made) s.views + 1) (own_list me.0.receipts) rs × AppendsRefusal b (get_or s.words 0 0) me.0 (after_clock (get_or s.words 0 0) r.memory.history rs me.0)))
@@ -180,9 +179,9 @@ module _ (law : LeafLaw) (t : Terms) (slots id : ℕ) (me : Seated) (live : is_g
           ),
         )
     asked (ask.Refused (update.Deregister base)) q =
-        let x = deregister_refused t r.memory.history (total (λ v. v.made) s.views + 1) me.0 (lower (get_or s.words 0 0)) low terms leaves base q in (_, ((_, (refl, x.0)), (inr (_, (refl, x.1)), λ h. record { own = refl; right = x.0.3; filled = (total (λ v. v.made) s.views + 1, (were_made, record { ten = tt; most = λ _. tt })) })))
+        let x = deregister_refused t r.memory.history (total (λ v. v.made) s.views + 1) me.0 (lower (get_or s.words 0 0)) low terms leaves base q in (_, ((_, (refl, x.0)), (inr (_, (refl, x.1)), λ h. record { own = refl; right = x.0.3; filled = filled_so _ x.1.holds.filled })))
     asked (ask.Refused (update.Replace n)) q =
-        let x = replace_refused t r.memory.history (total (λ v. v.made) s.views + 1) me.0 (lower (get_or s.words 0 0)) low terms leaves n q in (_, ((_, (refl, x.0)), (inr (_, (refl, x.1)), λ h. record { own = refl; right = x.0.3; filled = (total (λ v. v.made) s.views + 1, (were_made, record { ten = tt; most = λ _. tt })) })))
+        let x = replace_refused t r.memory.history (total (λ v. v.made) s.views + 1) me.0 (lower (get_or s.words 0 0)) low terms leaves n q in (_, ((_, (refl, x.0)), (inr (_, (refl, x.1)), λ h. record { own = refl; right = x.0.3; filled = filled_so _ x.1.holds.filled })))
 
     abbrev receipts : List Receipt
     receipts = (asked a may).0

@@ -106,15 +106,18 @@ pub record WereMade (v : Log) (callers : ℕ) : Type 0 where
   pub least : v.made + 1 ≤ callers
   pub alone : IsAlone v.lineage → callers ≡ v.made + 1
 
--- One receipt more, which is right in the state after all that is now seen. Where it is a Full, as
--- many members were registered as nodes and callers tell, at some moment since the receipt before
--- it, and since its caller was split off.
+-- Where the receipt is a Full, as many members were registered as the nodes and the callers that
+-- were ever made tell, in what is seen now: at some moment since the last receipt of its caller's
+-- log, and since that was split off.
+abbrev pub IsFilledSince : Log → Terms → List Update → Receipt → Type 0
+IsFilledSince v t past r = (callers : ℕ) × (WereMade v callers
+    × IsFilled (start t) past t.nodes callers (last_moment v.receipts.since v.receipts.own) r)
+
+-- One receipt more, which is right in the state after all that is now seen.
 pub record Appends (r : Receipt) (v w : Log) : Type 0 where
   pub own : w.receipts.own ≡ v.receipts.own ++ r ∷ []
   pub right : IsRight (state_after (start w.terms) w.past) r
-  pub filled : (callers : ℕ) × (WereMade v callers
-      × IsFilled (start w.terms) w.past w.terms.nodes callers
-      (last_moment v.receipts.since v.receipts.own) r)
+  pub filled : IsFilledSince v w.terms w.past r
 
 -- Which receipt a load of the clock appends that is asked for the refusal of an update of the tree:
 -- the one that the held leaves show, with the clock's number of updates as its stamp.
