@@ -192,7 +192,7 @@ module _ (t : Terms) (slots id : ℕ) (me : Seated) (live : is_gone me.0.role �
 
       -- no root has the highest level: there are too few nodes
       top : FoundHighest (load_of me.0 (4 + 36 * n + at) (get_or s.words (4 + 36 * n + at) 0)) → ⊥
-      top (word, found, root, held, zero, spells, level) =
+      top (word, found, (root, (held, zero, spells, level))) =
           let holds = all_with (HoldsNode t (memory_of t s.words).nodes r.memory.shadow id) me.0.holdings.held root (r.memory.nodes.holdings id me.0 here).each held in
           let high : (r.memory.shadow.settled 0).level ≡ 12 = ap (λ k. (r.memory.shadow.settled k).level) (sym zero) ∙ (ap (λ z. z.level) (sym holds.settled) ∙ level) in
           let many = law.height r.memory.shadow.settled r.memory.shadow.live r.memory.nodes.lawful high in

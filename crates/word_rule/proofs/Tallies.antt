@@ -38,14 +38,13 @@ tally_times (x ∷ xs) n = let sum = tally_plus (λ k. once (k == x)) (λ k. tim
 -- and are all of them where none is from n on
 pub tally_all : (xs : List ℕ) (n : ℕ) → ((k : ℕ) → n ≤ k → times k xs ≡ 0) → length xs ≤ tally (λ k. times k xs) n
 tally_all [] n none = omega arith
-tally_all (x ∷ xs) n none = below (dec_le n x)
+tally_all (x ∷ xs) n none = below (tally_all xs n (λ k far. let h = none k far in omega (arith, h))) (dec_le n x)
   where
-    below : Dec (n ≤ x) → suc (length xs) ≤ tally (λ k. once (k == x) + times k xs) n
-    below (yes far) = let here : once (x == x) ≡ 1 = rw (eq-eqb x x refl) refl in let not_there = none x far in absurd (omega (arith, here, not_there))
-    below (no near) =
+    below : length xs ≤ tally (λ k. times k xs) n → Dec (n ≤ x) → suc (length xs) ≤ tally (λ k. once (k == x) + times k xs) n
+    below rest (yes far) = let here : once (x == x) ≡ 1 = rw (eq-eqb x x refl) refl in let not_there = none x far in absurd (omega (arith, here, not_there))
+    below rest (no near) =
         let sum = tally_plus (λ k. once (k == x)) (λ k. times k xs) n in
-        let one = (tally_once x n).2 (lt_of_not-le near) in
-        let rest = tally_all xs n (λ k far. let h = none k far in omega (arith, h)) in omega (arith, sum, one, rest)
+        let one = (tally_once x n).2 (lt_of_not-le near) in omega (arith, sum, one, rest)
 
 -- what is nowhere more than 1 is n at most
 pub tally_ones : (f : ℕ → ℕ) (n : ℕ) → ((k : ℕ) → f k ≤ 1) → tally f n ≤ n
