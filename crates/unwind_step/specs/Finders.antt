@@ -3,8 +3,8 @@ use Rattle.std.specs.Prelude.{◌≡◌, ◌<◌, ℕ, List, [], ◌∷◌, All,
 use Rattle.reg_model.specs.declared.answer.Half.TheVariants.{Registered, Loaded}
 use Rattle.reg_model.specs.declared.answer.Place.{Place}
 use Rattle.reg_model.specs.declared.answer.Receipt.{Receipt}
-use Rattle.reg_model.specs.declared.answer.Receipt.TheVariants.{Register, Deregister, Load, Unload}
-use Rattle.reg_model.specs.declared.answer.Receipt.TheVariants.{Query}
+use Rattle.reg_model.specs.declared.answer.Receipt.TheVariants.{Register, Deregister, Replace}
+use Rattle.reg_model.specs.declared.answer.Receipt.TheVariants.{Load, Unload, Query}
 use Rattle.reg_model.specs.PlainRegistryData.{PlainRegistryData, Step}
 use Rattle.reg_model.specs.Receipt.{IsPlace}
 use Rattle.reg_model.specs.State.{State}
@@ -31,11 +31,12 @@ pub record HasPayloadsBelow (bound : ℕ) (s : State) : Type 0 where
   pub loaded : All (λ m. m.payload < bound) s.loaded
   pub fixed : All (λ m. m.payload < bound) s.fixed
 
--- a call that adds a member has one whose payload is below the bound
+-- a call that adds a member, or exchanges its payload, has one that is below the bound
 abbrev pub AddsBelow : ℕ → Receipt → Type 0
 AddsBelow bound (Register m answer) = m.payload < bound
-AddsBelow bound (Load m answer) = m.payload < bound
 AddsBelow bound (Deregister base answer) = Unit {0}
+AddsBelow bound (Replace m answer) = m.payload < bound
+AddsBelow bound (Load m answer) = m.payload < bound
 AddsBelow bound (Unload base answer) = Unit {0}
 AddsBelow bound (Query half pc found) = Unit {0}
 
