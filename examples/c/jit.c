@@ -1,8 +1,9 @@
 /* Both libraries together, for a program that makes code while it runs. Generated code is
  * registered with its section. While it runs, a signal handler walks through it up to main, and an
  * exception is thrown through it: each frame is looked up in the registry, whose payload tells the
- * section by which the frame is left. Status 0: each frame was the one that was called, and the
- * registers that the generated code had changed are back. */
+ * section by which the frame is left. Then it is generated anew at its place, and gets its new
+ * section by one update. Status 0: each frame was the one that was called, and the registers that
+ * the generated code had changed are back. */
 #define _GNU_SOURCE
 #include "loaded_objects.h"
 #include "registry_c.h"
@@ -32,7 +33,7 @@ static const uint8_t section_bytes[64] = {
  * has a walker of its own, since it may interrupt calls that have the program's. */
 struct walker {
   registry_client client;
-  frames_section sections[OBJECTS + 1];
+  frames_section sections[OBJECTS + 2];
 };
 static struct walker program, handler;
 enum { FRAMES = 64 };
@@ -121,6 +122,15 @@ static bool put_code(uint64_t first, uint32_t payload) {
   return answer.kind == REGISTRY_DONE;
 }
 
+/* Exchanges the payload of code that was generated anew at its place. */
+static bool exchange_code(uint64_t first, uint32_t payload) {
+  const registry_member member = {first, sizeof code_bytes, payload};
+  registry_answer answer;
+  do registry_c_replace(program.client, &member, &answer, &program.client);
+  while (answer.kind == REGISTRY_BUSY);
+  return answer.kind == REGISTRY_DONE && answer.member.payload + 1 == payload;
+}
+
 static bool take_code(uint64_t first) {
   registry_answer answer;
   do registry_c_deregister(program.client, first, &answer, &program.client);
@@ -130,7 +140,7 @@ static bool take_code(uint64_t first) {
 
 /* The objects are ranges that are there for good, each with its number as payload. */
 static bool start(void) {
-  const registry_limits limits = {.nodes = 16, .loads = 1, .payloads = OBJECTS + 1};
+  const registry_limits limits = {.nodes = 16, .loads = 1, .payloads = OBJECTS + 2};
   registry_member fixed[OBJECTS];
   read_objects();
   for (int i = 0; i < count_objects; i++) {
@@ -144,21 +154,26 @@ static bool start(void) {
   return registry_c_split(program.client, 0, &handler.client, &program.client) == REGISTRY_SPLIT;
 }
 
-/* Generates the code, and registers it with its section. */
-static generated_code *generate(void) {
-  uint8_t *code = mmap(NULL, 4096, PROT_READ | PROT_WRITE, MAP_PRIVATE | MAP_ANONYMOUS, -1, 0);
+/* Generates the code at its place, and reads its section for both walkers. */
+static bool generate_at(uint8_t *code, uint32_t payload) {
   uint8_t section[sizeof section_bytes];
-  const uint32_t own = (uint32_t)count_objects;
   frames_refusal refusal;
-  if (code == MAP_FAILED) return NULL;
+  if (mprotect(code, 4096, PROT_READ | PROT_WRITE)) return false;
   memcpy(code, code_bytes, sizeof code_bytes);
-  if (mprotect(code, 4096, PROT_READ | PROT_EXEC)) return NULL;
+  if (mprotect(code, 4096, PROT_READ | PROT_EXEC)) return false;
   memcpy(section, section_bytes, sizeof section);
   memcpy(section + FIRST, &code, 8);
-  if (!frames_c_read(0, section, sizeof section, &refusal, &program.sections[own])) return NULL;
-  if (!frames_c_share(program.sections[own], &handler.sections[own], &program.sections[own]))
-    return NULL;
-  return put_code((uintptr_t)code, own) ? (generated_code *)code : NULL;
+  return frames_c_read(0, section, sizeof section, &refusal, &program.sections[payload]) &&
+         frames_c_share(program.sections[payload], &handler.sections[payload],
+                        &program.sections[payload]);
+}
+
+/* Generates the code, and registers it with its section. */
+static uint8_t *generate(void) {
+  uint8_t *code = mmap(NULL, 4096, PROT_READ | PROT_WRITE, MAP_PRIVATE | MAP_ANONYMOUS, -1, 0);
+  const uint32_t own = (uint32_t)count_objects;
+  if (code == MAP_FAILED || !generate_at(code, own)) return NULL;
+  return put_code((uintptr_t)code, own) ? code : NULL;
 }
 
 /* Whether the handler saw these functions one after another, and main above them. */
@@ -170,8 +185,9 @@ static bool saw(const uint64_t expected[4]) {
 
 int main(void) {
   if (!start()) return 2;
-  generated_code *code = generate();
-  if (code == NULL) return 3;
+  uint8_t *place = generate();
+  if (place == NULL) return 3;
+  generated_code *code = (generated_code *)place;
   const uint64_t first = (uintptr_t)code;
   const struct sigaction action = {.sa_sigaction = on_signal, .sa_flags = SA_SIGINFO};
   const uint64_t expected[4] = {(uintptr_t)interrupted, first, (uintptr_t)call_generated,
@@ -181,14 +197,17 @@ int main(void) {
   if (call_generated(code, interrupted, 20) != 21 || !saw(expected)) return 5;
   if (call_generated(code, throw_value, 77) != 0 || thrown != 77) return 6;
   printf("%d frames from the handler on, and an exception caught\n", count_functions);
+  const uint32_t anew = (uint32_t)count_objects + 1;
+  if (!generate_at(place, anew) || !exchange_code(first, anew)) return 11;
+  if (call_generated(code, throw_value, 78) != 0 || thrown != 78) return 12;
   if (!take_code(first)) return 7;
   frames_frame gone = {.columns = {[16] = first}, .at_instruction = 1};
   if (section_of(&program, &gone) != NULL) return 8;
   uint32_t seen;
-  for (int i = 0; i <= count_objects; i++) {
+  for (int i = 0; i <= count_objects + 1; i++) {
     frames_c_free(program.sections[i]);
     frames_c_free(handler.sections[i]);
   }
   if (registry_c_join(program.client, handler.client, &program.client, &handler.client)) return 9;
-  return registry_c_close(program.client, &seen) && seen == 2 ? 0 : 10;
+  return registry_c_close(program.client, &seen) && seen == 3 ? 0 : 10;
 }

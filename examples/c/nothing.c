@@ -56,6 +56,7 @@ static int clients(void) {
   ENDS(registry_c_reader(client, &reader, &client));
   ENDS(registry_c_register(client, &member, &answer, &client));
   ENDS(registry_c_deregister(client, pc, &answer, &client));
+  ENDS(registry_c_replace(client, &member, &answer, &client));
   ENDS(registry_c_load(client, &member, &answer, &client));
   ENDS(registry_c_unload(client, pc, &answer, &client));
   return 0;

@@ -124,6 +124,25 @@ static int members(registry_client *client) {
   return 0;
 }
 
+/* A payload changes at its place, also for the same one; a part of a range isn't the range. */
+static int replacements(registry_client *client) {
+  const registry_member old = {0x2020, 0x10, 2}, new = {0x2020, 0x10, 1}, part = {0x2020, 8, 1},
+                        unpaid = {0x2020, 0x10, 3};
+  registry_answer answer;
+  registry_place place;
+  registry_c_replace(*client, &new, &answer, client);
+  CHECK(is_answer(answer, REGISTRY_DONE, 25, 0, old));
+  registry_c_find_cached(*client, 0x2028, &place, client);
+  CHECK(is_place(place, REGISTRY_REGISTERED, 25, 0, new));
+  registry_c_replace(*client, &part, &answer, client);
+  CHECK(is_answer(answer, REGISTRY_ABSENT, 0, 25, no_member));
+  registry_c_replace(*client, &unpaid, &answer, client);
+  CHECK(is_answer(answer, REGISTRY_NO_MEMBER, 0, 0, no_member));
+  registry_c_replace(*client, &new, &answer, client);
+  CHECK(is_answer(answer, REGISTRY_DONE, 26, 0, new));
+  return 0;
+}
+
 /* A client with one update call, which has seen what its maker had seen. */
 static int splits(registry_client *client) {
   registry_client other = {0};
@@ -132,18 +151,18 @@ static int splits(registry_client *client) {
   CHECK(registry_c_split(*client, left + 1, &other, client) == REGISTRY_SPLIT_FEW);
   CHECK(registry_c_split(*client, 1, &other, client) == REGISTRY_SPLIT);
   CHECK(registry_c_left(*client, client) == left - 1 && registry_c_left(other, &other) == 1);
-  CHECK(registry_c_seen(other, &other) == 24);
+  CHECK(registry_c_seen(other, &other) == 26);
   registry_c_deregister(other, 0x2010, &answer, &other);
-  CHECK(is_answer(answer, REGISTRY_DONE, 25, 0, (registry_member){0x2010, 0x10, 2}));
+  CHECK(is_answer(answer, REGISTRY_DONE, 27, 0, (registry_member){0x2010, 0x10, 2}));
   registry_c_deregister(other, 0x2010, &answer, &other);
   CHECK(is_answer(answer, REGISTRY_SPENT, 0, 0, no_member));
-  CHECK(registry_c_seen(*client, client) == 24);
+  CHECK(registry_c_seen(*client, client) == 26);
   /* its last hits have the range still, but not at this stamp */
   registry_place place;
   registry_c_find_cached(*client, 0x2010, &place, client);
-  CHECK(is_place(place, REGISTRY_NOWHERE, 25, 25, no_member));
+  CHECK(is_place(place, REGISTRY_NOWHERE, 27, 27, no_member));
   CHECK(registry_c_join(*client, other, client, &other) == REGISTRY_JOINED);
-  CHECK(registry_c_seen(*client, client) == 25 && registry_c_left(*client, client) == left - 1);
+  CHECK(registry_c_seen(*client, client) == 27 && registry_c_left(*client, client) == left - 1);
   return 0;
 }
 
@@ -151,14 +170,15 @@ static int splits(registry_client *client) {
 static int spent(registry_client *client) {
   const registry_member code = {0x3000, 1, 0};
   registry_client other = {0};
-  registry_answer answers[4];
+  registry_answer answers[5];
   uint32_t left = registry_c_left(*client, client), seen = registry_c_seen(*client, client);
   CHECK(registry_c_split(*client, 0, &other, client) == REGISTRY_SPLIT);
   registry_c_register(other, &code, &answers[0], &other);
   registry_c_deregister(other, 0x2020, &answers[1], &other);
   registry_c_load(other, &code, &answers[2], &other);
   registry_c_unload(other, 0x1000, &answers[3], &other);
-  for (int i = 0; i < 4; i++) CHECK(is_answer(answers[i], REGISTRY_SPENT, 0, 0, no_member));
+  registry_c_replace(other, &code, &answers[4], &other);
+  for (int i = 0; i < 5; i++) CHECK(is_answer(answers[i], REGISTRY_SPENT, 0, 0, no_member));
   CHECK(registry_c_join(*client, other, client, &other) == REGISTRY_JOINED);
   CHECK(registry_c_seen(*client, client) == seen && registry_c_left(*client, client) == left);
   return 0;
@@ -258,8 +278,8 @@ static int closes(registry_client client) {
   registry_client other = {0};
   uint32_t seen = 0;
   CHECK(registry_c_split(client, 0, &other, &client) == REGISTRY_SPLIT);
-  CHECK(!registry_c_close(other, &seen) && seen == 25);
-  CHECK(!registry_c_close(client, &seen) && seen == 25);
+  CHECK(!registry_c_close(other, &seen) && seen == 27);
+  CHECK(!registry_c_close(client, &seen) && seen == 27);
   registry_client first = {0};
   CHECK(registry_c_new(&limits, fixed, 0, &first) == REGISTRY_NEW);
   CHECK(registry_c_close(first, &seen) && seen == 0);
@@ -276,7 +296,7 @@ int main(void) {
   for (int time = 0; time < 2; time++) {
     if (places(&client, registry_c_find_cached)) return 1;
   }
-  if (members(&client)) return 1;
+  if (members(&client) || replacements(&client)) return 1;
   CHECK(heap_calls() == 0);
   if (readers(&client)) return 1;
   if (splits(&client) || spent(&client) || other_registries(&client)) return 1;

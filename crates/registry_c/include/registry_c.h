@@ -253,9 +253,11 @@ void registry_c_reader_find(registry_reader reader, uint64_t pc, registry_place 
 /* ---- updates --------------------------------------------------------------------------------- */
 
 enum registry_answer_kind {
-  REGISTRY_DONE = 0,      /* it is the update with this number; a removal has the `member`   */
+  REGISTRY_DONE = 0,      /* it is the update with this number; `member` is what a removal   */
+                          /* took away, or what a replacement found                          */
   REGISTRY_OVERLAP = 1,   /* at the stamp `member` is the lowest one that overlaps           */
-  REGISTRY_ABSENT = 2,    /* at the stamp no range of this half begins at the address        */
+  REGISTRY_ABSENT = 2,    /* at the stamp no range of this half begins at the address, or,   */
+                          /* for a replacement, none has all these addresses and no others   */
   REGISTRY_FULL = 3,      /* at the stamp nothing overlaps, and there is no room             */
   REGISTRY_SPENT = 4,     /* no update call is left, and none is begun, or one that was too  */
                           /* often BUSY                                                      */
@@ -278,6 +280,11 @@ void registry_c_register(registry_client client, const registry_member *member,
 /* Tries to remove the registered range that begins at an address. */
 void registry_c_deregister(registry_client client, uint64_t first, registry_answer *answer,
                            registry_client *back) REGISTRY_C_NONNULL;
+
+/* Tries to give the registered range with these addresses another payload, as where code is
+ * generated anew at its place: one update, and no lookup misses the range in between. */
+void registry_c_replace(registry_client client, const registry_member *member,
+                        registry_answer *answer, registry_client *back) REGISTRY_C_NONNULL;
 
 /* Tries to load a range, which must overlap no fixed or loaded one. */
 void registry_c_load(registry_client client, const registry_member *member,

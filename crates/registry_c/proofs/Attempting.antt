@@ -1,8 +1,11 @@
 -- Tries of a client that may add a member: the answers of four variants.
 use Rattle.std.proofs.Common.{◌≡◌, ◌∙◌, ◌<◌, ◌≤◌, ℕ, Bool, List, [], true, false, true≢false, refl, ap, subst, arith}
 use Rattle.btree_change.specs.Insertion.{TriesInsertion}
+use Rattle.btree_change.specs.Replacement.{TriesReplacement}
 use Rattle.reg_model.specs.declared.answer.Inserted.{Inserted}
 use Rattle.reg_model.specs.declared.answer.Inserted.TheVariants as inserted
+use Rattle.reg_model.specs.declared.answer.Replaced.{Replaced}
+use Rattle.reg_model.specs.declared.answer.Replaced.TheVariants as replaced
 use Rattle.reg_model.specs.declared.answer.Loading.{Loading}
 use Rattle.reg_model.specs.declared.answer.Loading.TheVariants as loading
 use Rattle.registry_core.specs.Begun.{TriesLoad}
@@ -16,7 +19,7 @@ use Rattle.registry_c.proofs.Caches.{GoOnToFit, adds_none, goes_on}
 use Rattle.registry_c.specs.Clients.{ClientData, IsClient, begun_count}
 use Rattle.registry_c.specs.Members.{given_member}
 use Rattle.registry_c.specs.Tries.{Begins, TriesCall, is_lost}
-use Rattle.registry_c.specs.Updates.{Loads, MayAdd, Registers}
+use Rattle.registry_c.specs.Updates.{Loads, MayAdd, Registers, Replaces}
 use Rattle.registry_c.specs.declared.attempt.Attempt.TheVariants as attempt
 use Rattle.registry_c.specs.declared.attempt.Attempt.TheVariants.{Answered}
 use Rattle.registry_c.specs.declared.member.RegistryMember.{RegistryMember}
@@ -65,6 +68,14 @@ module _ (r : RegistryMember) (c mid : ClientData) (k : CallerData) (may : MayAd
 
   pub registered_busy : (why : Busy) → GivesUp why mid.me k → Registers r c (record mid { me = k; lost = is_lost why }) (attempt.Busy why)
   registered_busy why g = (may, still_begun (is_lost why) (GivesUp why) g)
+
+  pub given : (answer : Replaced) → TriesReplacement mid.words.terms (given_member r) mid.me k answer → Replaces r c answered (Answered answer)
+  given answer t = go answer (subst (λ z. TriesReplacement z (given_member r) mid.me k answer) same_terms t)
+    where
+      go : (answer : Replaced) → TriesReplacement c.words.terms (given_member r) mid.me k answer → Replaces r c answered (Answered answer)
+      go replaced.Spent s = let can = b.spare in let cannot = s.0 in absurd (omega (arith, can, cannot))
+      go (replaced.Done number payload) s = (may, stepped _ s.1)
+      go (replaced.NotFound stamp) s = (may, stepped _ s.1)
 
   pub loaded : (answer : Loading) → TriesLoad mid.words.terms (given_member r) mid.me k answer → Loads r c answered (Answered answer)
   loaded answer t = go answer (subst (λ z. TriesLoad z (given_member r) mid.me k answer) same_terms t)

@@ -90,6 +90,11 @@ by_removal t base k k' removed.Spent tries = adds_none k k' (ap own_of tries.1)
 by_removal t base k k' (removed.Done number m) tries = (_, ap (λ r. r.own) tries.1.call.receipts)
 by_removal t base k k' (removed.NotFound stamp) tries = (_, ap (λ r. r.own) tries.1.call.receipts)
 
+pub by_replacement : (t : Terms) (m : Member) (k k' : CallerData) (answer : Replaced) → TriesReplacement t m k k' answer → AddsReceipts k k'
+by_replacement t m k k' replaced.Spent tries = adds_none k k' (ap own_of tries.1)
+by_replacement t m k k' (replaced.Done number payload) tries = (_, ap (λ r. r.own) tries.1.call.receipts)
+by_replacement t m k k' (replaced.NotFound stamp) tries = (_, ap (λ r. r.own) tries.1.call.receipts)
+
 by_loaded : (t : Terms) (m : Member) (k k' : CallerData) (answer : Loading) → TellsLoad t m k k' answer → AddsReceipts k k'
 by_loaded t m k k' answer tells = (_, ap own_of tells.4.1)
 

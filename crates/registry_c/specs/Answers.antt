@@ -6,9 +6,12 @@ use Rattle.reg_model.specs.declared.answer.Loading.{Loading}
 use Rattle.reg_model.specs.declared.answer.Loading.TheVariants as loading
 use Rattle.reg_model.specs.declared.answer.Removed.{Removed}
 use Rattle.reg_model.specs.declared.answer.Removed.TheVariants as removed
+use Rattle.reg_model.specs.declared.answer.Replaced.{Replaced}
+use Rattle.reg_model.specs.declared.answer.Replaced.TheVariants as replaced
 use Rattle.reg_model.specs.declared.span.Member.{Member}
 use Rattle.registry_c.specs.Clients.{ClientData}
 use Rattle.registry_c.specs.Members.{member_told, no_member}
+use Rattle.registry_c.specs.declared.member.RegistryMember.{RegistryMember}
 use Rattle.registry_c.specs.declared.attempt.RegistryAnswer.{RegistryAnswer}
 use Rattle.registry_c.specs.declared.attempt.Attempt.{Attempt}
 use Rattle.registry_c.specs.declared.attempt.Attempt.TheVariants.{Answered, Busy, NoMember}
@@ -73,6 +76,15 @@ removal_told (Answered (removed.NotFound stamp)) = stamp_told ABSENT stamp
 removal_told (Answered removed.Spent) = stamp_told SPENT 0
 removal_told (Busy why) = stamp_told BUSY 0
 removal_told NoMember = stamp_told NO_MEMBER 0
+
+-- of a replacement: the member that was there before, of the span that C told
+abbrev pub replacement_told : RegistryMember → Attempt Replaced → RegistryAnswer
+replacement_told r (Answered (replaced.Done number payload)) =
+    record { kind = DONE; number = number; stamp = 0; member = record r { payload = payload } }
+replacement_told r (Answered (replaced.NotFound stamp)) = stamp_told ABSENT stamp
+replacement_told r (Answered replaced.Spent) = stamp_told SPENT 0
+replacement_told r (Busy why) = stamp_told BUSY 0
+replacement_told r NoMember = stamp_told NO_MEMBER 0
 
 -- An update was tried, which is told in so many words.
 abbrev pub TellsAttempt : {A : Type 0} → (ClientData → ClientData → Attempt A → Type 0)

@@ -3,6 +3,7 @@ use Rattle.std.specs.Prelude.{◌≡◌, ℕ, true, false}
 use Rattle.array_publish.specs.Update.{TellsLoad, TellsUnload}
 use Rattle.btree_change.specs.Insertion.{AnswersInsertion}
 use Rattle.btree_change.specs.Removal.{AnswersRemoval}
+use Rattle.btree_change.specs.Replacement.{AnswersReplacement}
 use Rattle.btree_change.specs.Updates.{GivesUp}
 use Rattle.node_store.specs.Locking.{IsBusyAt}
 use Rattle.word_rule.specs.declared.log.LockId.TheVariants as lock
@@ -12,6 +13,8 @@ use Rattle.reg_model.specs.declared.answer.Loading.{Loading}
 use Rattle.reg_model.specs.declared.answer.Loading.TheVariants as loading
 use Rattle.reg_model.specs.declared.answer.Removed.{Removed}
 use Rattle.reg_model.specs.declared.answer.Removed.TheVariants as removed
+use Rattle.reg_model.specs.declared.answer.Replaced.{Replaced}
+use Rattle.reg_model.specs.declared.answer.Replaced.TheVariants as replaced
 use Rattle.registry_c.specs.Clients.{ClientData}
 use Rattle.registry_c.specs.Members.{IsGivenMember, given_member}
 use Rattle.registry_c.specs.Tries.{IsSpent, TriesCall, is_lost}
@@ -43,6 +46,15 @@ Deregisters base c c' (Busy why) = TriesCall (GivesUp why) true (is_lost why) c 
 Deregisters base c c' (Answered removed.Spent) = IsSpent c c'
 Deregisters base c c' (Answered answer) =
     TriesCall (λ k k'. AnswersRemoval c.words.terms base answer k k') false false c c'
+
+-- A replacement.
+abbrev pub Replaces : RegistryMember → ClientData → ClientData → Attempt Replaced → Type 0
+Replaces r c c' NoMember = IsNoMember r c c'
+Replaces r c c' (Busy why) = MayAdd c r × TriesCall (GivesUp why) true (is_lost why) c c'
+Replaces r c c' (Answered replaced.Spent) = MayAdd c r × IsSpent c c'
+Replaces r c c' (Answered answer) = MayAdd c r
+    × TriesCall (λ k k'. AnswersReplacement c.words.terms (given_member r) answer k k') false false
+    c c'
 
 -- A load.
 abbrev pub Loads : RegistryMember → ClientData → ClientData → Attempt Loading → Type 0

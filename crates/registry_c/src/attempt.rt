@@ -2,11 +2,11 @@
 
 ghost use Rattle.std.specs.Prelude.{◌≡◌};
 ghost use Rattle.registry_c.specs.Answers.{done_told, insertion_told, loading_told, overlap_told};
-ghost use Rattle.registry_c.specs.Answers.{removal_told, removed_told, stamp_told};
+ghost use Rattle.registry_c.specs.Answers.{removal_told, removed_told, replacement_told, stamp_told};
 
 use crate::member::RegistryMember;
 use node_store::Busy;
-use reg_model::{Inserted, Loading, Member, Removed};
+use reg_model::{Inserted, Loading, Member, Removed, Replaced};
 
 /// What came of a try of an update: an answer; why it was given up, and then the call is still
 /// begun; or that what C told is no member.
@@ -18,7 +18,7 @@ pub enum Attempt<A> {
 }
 
 /// What C is told: a kind, the number of an accepted update or the stamp of any other answer, and
-/// the member that overlaps or goes.
+/// the member that overlaps, goes, or was there before.
 #[repr(C)]
 #[derive(Clone, Copy, Debug, PartialEq, Eq)]
 pub struct RegistryAnswer {
@@ -112,6 +112,29 @@ impl RegistryAnswer {
                 Loading::Overlap { member, stamp } => RegistryAnswer::overlap(&member, stamp),
                 Loading::LoadFull { stamp } => RegistryAnswer::at(FULL, stamp),
                 Loading::Spent => RegistryAnswer::at(SPENT, 0),
+            },
+            Attempt::Busy { .. } => RegistryAnswer::at(BUSY, 0),
+            Attempt::NoMember => RegistryAnswer::at(NO_MEMBER, 0),
+        }
+    }
+
+    /// Of a replacement of this member, as C told it.
+    pub(crate) fn of_replacement(
+        told: &RegistryMember,
+        attempt: Attempt<Replaced>,
+    ) -> RegistryAnswer
+        ensures { result ≡ replacement_told told.now attempt }
+    {
+        match attempt {
+            Attempt::Answered { answer } => match answer {
+                Replaced::Done { number, payload } => RegistryAnswer {
+                    kind: DONE,
+                    number,
+                    stamp: 0,
+                    member: RegistryMember { payload, ..*told },
+                },
+                Replaced::NotFound { stamp } => RegistryAnswer::at(ABSENT, stamp),
+                Replaced::Spent => RegistryAnswer::at(SPENT, 0),
             },
             Attempt::Busy { .. } => RegistryAnswer::at(BUSY, 0),
             Attempt::NoMember => RegistryAnswer::at(NO_MEMBER, 0),

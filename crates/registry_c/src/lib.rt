@@ -37,4 +37,7 @@ pub use readers::{
     registry_c_reader, registry_c_reader_again, registry_c_reader_drop, registry_c_reader_find,
     registry_c_reader_try_loaded, registry_c_reader_try_registered,
 };
-pub use updates::{registry_c_deregister, registry_c_load, registry_c_register, registry_c_unload};
+pub use updates::{
+    registry_c_deregister, registry_c_load, registry_c_register, registry_c_replace,
+    registry_c_unload,
+};

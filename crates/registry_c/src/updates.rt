@@ -6,9 +6,9 @@
 ghost use Rattle.std.specs.Prelude.{◌≡◌, MatchBool};
 ghost use Rattle.registry_c.specs.Clients.{LeadsToClient, LeadsNowhere, Makes};
 ghost use Rattle.registry_c.specs.Answers.{TellsAttempt, insertion_told, loading_told};
-ghost use Rattle.registry_c.specs.Answers.{removal_told};
+ghost use Rattle.registry_c.specs.Answers.{removal_told, replacement_told};
 ghost use Rattle.registry_c.specs.Tries.{Begins, IsSpent, is_lost, is_provided};
-ghost use Rattle.registry_c.specs.Updates.{Deregisters, Loads, Registers, Unloads};
+ghost use Rattle.registry_c.specs.Updates.{Deregisters, Loads, Registers, Replaces, Unloads};
 
 use crate::attempt::{Attempt, RegistryAnswer};
 use crate::client::Client;
@@ -16,7 +16,7 @@ use crate::handle::ClientHandle;
 use crate::member::RegistryMember;
 use frame_cache::laws::caches_go_on_to_fit;
 use node_store::{Busy, Once};
-use reg_model::{Inserted, Loading, Removed};
+use reg_model::{Inserted, Loading, Removed, Replaced};
 use std::alloc::Global;
 
 /// Whether a try that gave up lost a node.
@@ -101,6 +101,30 @@ impl Client {
         }
     }
 
+    /// Tries to give the registered member of a span another payload.
+    fn replace(&mut self, told: &RegistryMember) -> Attempt<Replaced>
+        ensures { Replaces told.now self.old self.new result }
+    {
+        caches_go_on_to_fit();
+        let Some(member) = told.member(self.payloads) else {
+            return Attempt::NoMember;
+        };
+        if !self.begin() {
+            let answer = Replaced::Spent;
+            return Attempt::Answered { answer };
+        }
+        match self.registry.replace_by(&Once, &mut self.me, member) {
+            Ok(replaced) => {
+                self.begun = false;
+                Attempt::Answered { answer: replaced }
+            }
+            Err(why) => {
+                self.lost = is_lost(why);
+                Attempt::Busy { why }
+            }
+        }
+    }
+
     /// Tries to load a member.
     fn load(&mut self, told: &RegistryMember) -> Attempt<Loading>
         ensures { Loads told.now self.old self.new result }
@@ -153,6 +177,13 @@ fn tell_deregistration(client: &mut Client, base: u64, answer: &mut RegistryAnsw
     *answer = RegistryAnswer::of_removal(client.deregister(base));
 }
 
+fn tell_replacement(client: &mut Client, member: &RegistryMember, answer: &mut RegistryAnswer)
+    ensures { TellsAttempt (Replaces member.now) (replacement_told member.now) answer.new client.old
+        client.new }
+{
+    *answer = RegistryAnswer::of_replacement(member, client.replace(member));
+}
+
 fn tell_load(client: &mut Client, member: &RegistryMember, answer: &mut RegistryAnswer)
     ensures { TellsAttempt (Loads member.now) loading_told answer.new client.old client.new }
 {
@@ -200,6 +231,25 @@ pub extern "C" fn registry_c_deregister(
 {
     let mut open = client.open(alloc);
     tell_deregistration(&mut open, base, answer);
+    *back = ClientHandle::of(open);
+}
+
+/// Tries to give the registered member of a span another payload.
+#[unsafe(no_mangle)]
+pub extern "C" fn registry_c_replace(
+    alloc: Global,
+    client: ClientHandle,
+    member: &RegistryMember,
+    answer: &mut RegistryAnswer,
+    back: &mut ClientHandle,
+)
+    requires client { LeadsToClient client.held }
+    requires back { LeadsNowhere back.old.held }
+    ensures { Makes (TellsAttempt (Replaces member.now) (replacement_told member.now) answer.new)
+        client.held back.new.held }
+{
+    let mut open = client.open(alloc);
+    tell_replacement(&mut open, member, answer);
     *back = ClientHandle::of(open);
 }
 
