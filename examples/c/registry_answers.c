@@ -118,7 +118,7 @@ static int members(registry_client *client) {
   registry_c_register(*client, &empty, &answer, client);
   CHECK(is_answer(answer, REGISTRY_NO_MEMBER, 0, 0, no_member));
   registry_c_load(*client, &unpaid, &answer, client);
-  CHECK(is_answer(answer, REGISTRY_NO_MEMBER, 0, 0, no_member));
+  CHECK(is_answer(answer, REGISTRY_NO_PAYLOAD, 0, 0, no_member));
   registry_c_load(*client, &beyond, &answer, client);
   CHECK(is_answer(answer, REGISTRY_FULL, 0, 24, no_member));
   return 0;
@@ -137,7 +137,7 @@ static int replacements(registry_client *client) {
   registry_c_replace(*client, &part, &answer, client);
   CHECK(is_answer(answer, REGISTRY_ABSENT, 0, 25, no_member));
   registry_c_replace(*client, &unpaid, &answer, client);
-  CHECK(is_answer(answer, REGISTRY_NO_MEMBER, 0, 0, no_member));
+  CHECK(is_answer(answer, REGISTRY_NO_PAYLOAD, 0, 0, no_member));
   registry_c_replace(*client, &new, &answer, client);
   CHECK(is_answer(answer, REGISTRY_DONE, 26, 0, new));
   return 0;

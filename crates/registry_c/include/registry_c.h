@@ -262,7 +262,8 @@ enum registry_answer_kind {
   REGISTRY_SPENT = 4,     /* no update call is left, and none is begun, or one that was too  */
                           /* often BUSY                                                      */
   REGISTRY_BUSY = 5,      /* a lock was found taken, or the free list moved; nothing changed */
-  REGISTRY_NO_MEMBER = 6  /* no addresses, or not below 2^64 - 1, or no such payload         */
+  REGISTRY_NO_MEMBER = 6, /* no addresses, or not below 2^64 - 1                             */
+  REGISTRY_NO_PAYLOAD = 7 /* addresses, but no such payload                                  */
 };
 
 /* What isn't told is 0. */

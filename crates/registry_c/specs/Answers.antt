@@ -11,6 +11,8 @@ use Rattle.reg_model.specs.declared.answer.Replaced.TheVariants as replaced
 use Rattle.reg_model.specs.declared.span.Member.{Member}
 use Rattle.registry_c.specs.Clients.{ClientData}
 use Rattle.registry_c.specs.Members.{member_told, no_member}
+use Rattle.registry_c.specs.declared.member.MemberFault.{MemberFault}
+use Rattle.registry_c.specs.declared.member.MemberFault.TheVariants.{Addresses, Payload}
 use Rattle.registry_c.specs.declared.member.RegistryMember.{RegistryMember}
 use Rattle.registry_c.specs.declared.attempt.RegistryAnswer.{RegistryAnswer}
 use Rattle.registry_c.specs.declared.attempt.Attempt.{Attempt}
@@ -38,6 +40,14 @@ BUSY = 5
 abbrev pub NO_MEMBER : ℕ
 NO_MEMBER = 6
 
+abbrev pub NO_PAYLOAD : ℕ
+NO_PAYLOAD = 7
+
+-- what C tells has no addresses for a member, or no payload
+abbrev pub fault_kind : MemberFault → ℕ
+fault_kind Addresses = NO_MEMBER
+fault_kind Payload = NO_PAYLOAD
+
 -- A kind, with the number of an accepted update or the stamp of any other answer, and a member.
 abbrev pub done_told : ℕ → RegistryAnswer
 done_told number = record { kind = DONE; number = number; stamp = 0; member = no_member }
@@ -58,7 +68,7 @@ insertion_told (Answered (inserted.Overlap m stamp)) = overlap_told m stamp
 insertion_told (Answered (inserted.Full stamp)) = stamp_told FULL stamp
 insertion_told (Answered inserted.Spent) = stamp_told SPENT 0
 insertion_told (Busy why) = stamp_told BUSY 0
-insertion_told NoMember = stamp_told NO_MEMBER 0
+insertion_told (NoMember why) = stamp_told (fault_kind why) 0
 
 -- of a load
 abbrev pub loading_told : Attempt Loading → RegistryAnswer
@@ -67,7 +77,7 @@ loading_told (Answered (loading.Overlap m stamp)) = overlap_told m stamp
 loading_told (Answered (loading.LoadFull stamp)) = stamp_told FULL stamp
 loading_told (Answered loading.Spent) = stamp_told SPENT 0
 loading_told (Busy why) = stamp_told BUSY 0
-loading_told NoMember = stamp_told NO_MEMBER 0
+loading_told (NoMember why) = stamp_told (fault_kind why) 0
 
 -- of a removal, from either half
 abbrev pub removal_told : Attempt Removed → RegistryAnswer
@@ -75,7 +85,7 @@ removal_told (Answered (removed.Done number m)) = removed_told number m
 removal_told (Answered (removed.NotFound stamp)) = stamp_told ABSENT stamp
 removal_told (Answered removed.Spent) = stamp_told SPENT 0
 removal_told (Busy why) = stamp_told BUSY 0
-removal_told NoMember = stamp_told NO_MEMBER 0
+removal_told (NoMember why) = stamp_told (fault_kind why) 0
 
 -- of a replacement: the member that was there before, of the span that C told
 abbrev pub replacement_told : RegistryMember → Attempt Replaced → RegistryAnswer
@@ -84,7 +94,7 @@ replacement_told r (Answered (replaced.Done number payload)) =
 replacement_told r (Answered (replaced.NotFound stamp)) = stamp_told ABSENT stamp
 replacement_told r (Answered replaced.Spent) = stamp_told SPENT 0
 replacement_told r (Busy why) = stamp_told BUSY 0
-replacement_told r NoMember = stamp_told NO_MEMBER 0
+replacement_told r (NoMember why) = stamp_told (fault_kind why) 0
 
 -- An update was tried, which is told in so many words.
 abbrev pub TellsAttempt : {A : Type 0} → (ClientData → ClientData → Attempt A → Type 0)

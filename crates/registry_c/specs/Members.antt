@@ -1,6 +1,8 @@
 -- Members, as C tells them and is told them.
 use Rattle.std.specs.Prelude.{ℕ, ◌+◌, ◌-◌, ◌^◌, ◌<◌, ◌≤◌, List, [], ◌∷◌}
 use Rattle.reg_model.specs.declared.span.Member.{Member}
+use Rattle.registry_c.specs.declared.member.MemberFault.{MemberFault}
+use Rattle.registry_c.specs.declared.member.MemberFault.TheVariants.{Addresses, Payload}
 use Rattle.registry_c.specs.declared.member.RegistryMember.{RegistryMember}
 
 -- it has addresses, all below 2^64 - 1, and one of so many payloads
@@ -8,6 +10,15 @@ pub record IsGivenMember (payloads : ℕ) (r : RegistryMember) : Type 0 where
   pub some : 0 < r.size
   pub below : r.first + r.size ≤ 2 ^ 64 - 1
   pub payload : r.payload < payloads
+
+-- it has addresses, all below 2^64 - 1
+abbrev pub HasAddresses : RegistryMember → Type 0
+HasAddresses r = (0 < r.size) × (r.first + r.size ≤ 2 ^ 64 - 1)
+
+-- the first thing that stands against it
+abbrev pub IsMemberFault : ℕ → RegistryMember → MemberFault → Type 0
+IsMemberFault payloads r Addresses = ¬ HasAddresses r
+IsMemberFault payloads r Payload = HasAddresses r × (payloads ≤ r.payload)
 
 -- the member that C tells
 abbrev pub given_member : RegistryMember → Member

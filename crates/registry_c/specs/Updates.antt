@@ -16,23 +16,24 @@ use Rattle.reg_model.specs.declared.answer.Removed.TheVariants as removed
 use Rattle.reg_model.specs.declared.answer.Replaced.{Replaced}
 use Rattle.reg_model.specs.declared.answer.Replaced.TheVariants as replaced
 use Rattle.registry_c.specs.Clients.{ClientData}
-use Rattle.registry_c.specs.Members.{IsGivenMember, given_member}
+use Rattle.registry_c.specs.Members.{IsGivenMember, IsMemberFault, given_member}
 use Rattle.registry_c.specs.Tries.{IsSpent, TriesCall, is_lost}
 use Rattle.registry_c.specs.declared.attempt.Attempt.{Attempt}
 use Rattle.registry_c.specs.declared.attempt.Attempt.TheVariants.{Answered, Busy, NoMember}
+use Rattle.registry_c.specs.declared.member.MemberFault.{MemberFault}
 use Rattle.registry_c.specs.declared.member.RegistryMember.{RegistryMember}
 
 -- what C tells is a member that may be added
 abbrev pub MayAdd : ClientData → RegistryMember → Type 0
 MayAdd c r = IsGivenMember c.words.terms.payloads r
 
--- it isn't, and nothing was done
-abbrev pub IsNoMember : RegistryMember → ClientData → ClientData → Type 0
-IsNoMember r c c' = (¬ MayAdd c r) × (c' ≡ c)
+-- it isn't, for this reason, and nothing was done
+abbrev pub IsNoMember : RegistryMember → MemberFault → ClientData → ClientData → Type 0
+IsNoMember r why c c' = IsMemberFault c.words.terms.payloads r why × (c' ≡ c)
 
 -- A registration was tried.
 abbrev pub Registers : RegistryMember → ClientData → ClientData → Attempt Inserted → Type 0
-Registers r c c' NoMember = IsNoMember r c c'
+Registers r c c' (NoMember why) = IsNoMember r why c c'
 Registers r c c' (Busy why) = MayAdd c r × TriesCall (GivesUp why) true (is_lost why) c c'
 Registers r c c' (Answered inserted.Spent) = MayAdd c r × IsSpent c c'
 Registers r c c' (Answered answer) = MayAdd c r
@@ -41,7 +42,7 @@ Registers r c c' (Answered answer) = MayAdd c r
 
 -- A removal of what is registered.
 abbrev pub Deregisters : ℕ → ClientData → ClientData → Attempt Removed → Type 0
-Deregisters base c c' NoMember = ⊥
+Deregisters base c c' (NoMember why) = ⊥
 Deregisters base c c' (Busy why) = TriesCall (GivesUp why) true (is_lost why) c c'
 Deregisters base c c' (Answered removed.Spent) = IsSpent c c'
 Deregisters base c c' (Answered answer) =
@@ -49,7 +50,7 @@ Deregisters base c c' (Answered answer) =
 
 -- A replacement.
 abbrev pub Replaces : RegistryMember → ClientData → ClientData → Attempt Replaced → Type 0
-Replaces r c c' NoMember = IsNoMember r c c'
+Replaces r c c' (NoMember why) = IsNoMember r why c c'
 Replaces r c c' (Busy why) = MayAdd c r × TriesCall (GivesUp why) true (is_lost why) c c'
 Replaces r c c' (Answered replaced.Spent) = MayAdd c r × IsSpent c c'
 Replaces r c c' (Answered answer) = MayAdd c r
@@ -58,7 +59,7 @@ Replaces r c c' (Answered answer) = MayAdd c r
 
 -- A load.
 abbrev pub Loads : RegistryMember → ClientData → ClientData → Attempt Loading → Type 0
-Loads r c c' NoMember = IsNoMember r c c'
+Loads r c c' (NoMember why) = IsNoMember r why c c'
 Loads r c c' (Busy why) = MayAdd c r × TriesCall (IsBusyAt lock.Loader why) true false c c'
 Loads r c c' (Answered loading.Spent) = MayAdd c r × IsSpent c c'
 Loads r c c' (Answered answer) = MayAdd c r
@@ -66,7 +67,7 @@ Loads r c c' (Answered answer) = MayAdd c r
 
 -- An unload.
 abbrev pub Unloads : ℕ → ClientData → ClientData → Attempt Removed → Type 0
-Unloads base c c' NoMember = ⊥
+Unloads base c c' (NoMember why) = ⊥
 Unloads base c c' (Busy why) = TriesCall (IsBusyAt lock.Loader why) true false c c'
 Unloads base c c' (Answered removed.Spent) = IsSpent c c'
 Unloads base c c' (Answered answer) =

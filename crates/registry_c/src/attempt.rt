@@ -1,10 +1,11 @@
 //! What came of a try of an update, and what C is told of it.
 
 ghost use Rattle.std.specs.Prelude.{◌≡◌};
-ghost use Rattle.registry_c.specs.Answers.{done_told, insertion_told, loading_told, overlap_told};
-ghost use Rattle.registry_c.specs.Answers.{removal_told, removed_told, replacement_told, stamp_told};
+ghost use Rattle.registry_c.specs.Answers.{done_told, fault_kind, insertion_told, loading_told};
+ghost use Rattle.registry_c.specs.Answers.{overlap_told, removal_told, removed_told};
+ghost use Rattle.registry_c.specs.Answers.{replacement_told, stamp_told};
 
-use crate::member::RegistryMember;
+use crate::member::{MemberFault, RegistryMember};
 use node_store::Busy;
 use reg_model::{Inserted, Loading, Member, Removed, Replaced};
 
@@ -14,7 +15,7 @@ use reg_model::{Inserted, Loading, Member, Removed, Replaced};
 pub enum Attempt<A> {
     Answered { answer: A },
     Busy { why: Busy },
-    NoMember,
+    NoMember { why: MemberFault },
 }
 
 /// What C is told: a kind, the number of an accepted update or the stamp of any other answer, and
@@ -41,6 +42,17 @@ const SPENT: u32 = 4;
 const BUSY: u32 = 5;
 
 const NO_MEMBER: u32 = 6;
+
+const NO_PAYLOAD: u32 = 7;
+
+fn kind_of(why: MemberFault) -> u32
+    ensures { result ≡ fault_kind why }
+{
+    match why {
+        MemberFault::Addresses => NO_MEMBER,
+        MemberFault::Payload => NO_PAYLOAD,
+    }
+}
 
 impl RegistryAnswer {
     fn done(number: u32) -> RegistryAnswer
@@ -99,7 +111,7 @@ impl RegistryAnswer {
                 Inserted::Spent => RegistryAnswer::at(SPENT, 0),
             },
             Attempt::Busy { .. } => RegistryAnswer::at(BUSY, 0),
-            Attempt::NoMember => RegistryAnswer::at(NO_MEMBER, 0),
+            Attempt::NoMember { why } => RegistryAnswer::at(kind_of(why), 0),
         }
     }
 
@@ -114,7 +126,7 @@ impl RegistryAnswer {
                 Loading::Spent => RegistryAnswer::at(SPENT, 0),
             },
             Attempt::Busy { .. } => RegistryAnswer::at(BUSY, 0),
-            Attempt::NoMember => RegistryAnswer::at(NO_MEMBER, 0),
+            Attempt::NoMember { why } => RegistryAnswer::at(kind_of(why), 0),
         }
     }
 
@@ -137,7 +149,7 @@ impl RegistryAnswer {
                 Replaced::Spent => RegistryAnswer::at(SPENT, 0),
             },
             Attempt::Busy { .. } => RegistryAnswer::at(BUSY, 0),
-            Attempt::NoMember => RegistryAnswer::at(NO_MEMBER, 0),
+            Attempt::NoMember { why } => RegistryAnswer::at(kind_of(why), 0),
         }
     }
 
@@ -151,7 +163,7 @@ impl RegistryAnswer {
                 Removed::Spent => RegistryAnswer::at(SPENT, 0),
             },
             Attempt::Busy { .. } => RegistryAnswer::at(BUSY, 0),
-            Attempt::NoMember => RegistryAnswer::at(NO_MEMBER, 0),
+            Attempt::NoMember { why } => RegistryAnswer::at(kind_of(why), 0),
         }
     }
 }

@@ -64,7 +64,7 @@ pub(crate) fn fixed_members(
     let mut low = 0;
     let mut left = told;
     while let [member, rest @ ..] = left {
-        let Some(read) = member.member(payloads) else {
+        let Ok(read) = member.member(payloads) else {
             return Err(LimitFault::Fixed);
         };
         if member.first < low {

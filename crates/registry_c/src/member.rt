@@ -1,7 +1,8 @@
 //! Members, as C tells them and is told them.
 
-ghost use Rattle.std.specs.Prelude.{◌≡◌, ◌+◌, ◌-◌, ◌<◌, IfSome, IsNone};
-ghost use Rattle.registry_c.specs.Members.{IsGivenMember, given_member, member_told, no_member};
+ghost use Rattle.std.specs.Prelude.{◌≡◌, ◌+◌, ◌-◌, ◌<◌, IfErr, IfOk};
+ghost use Rattle.registry_c.specs.Members.{IsGivenMember, IsMemberFault, given_member};
+ghost use Rattle.registry_c.specs.Members.{member_told, no_member};
 
 use reg_model::{Member, Span};
 
@@ -12,6 +13,13 @@ pub struct RegistryMember {
     pub first: u64,
     pub size: u64,
     pub payload: u32,
+}
+
+/// Why what C tells is no member: it has no addresses, or not below 2^64 - 1; or no such payload.
+#[derive(Clone, Copy, Debug, PartialEq, Eq)]
+pub enum MemberFault {
+    Addresses,
+    Payload,
 }
 
 impl RegistryMember {
@@ -38,16 +46,18 @@ impl RegistryMember {
     }
 
     /// The member that C tells, where it has addresses below 2^64 - 1 and one of so many payloads.
-    pub(crate) fn member(&self, payloads: u32) -> Option<Member>
-        ensures member { IfSome result
+    pub(crate) fn member(&self, payloads: u32) -> Result<Member, MemberFault>
+        ensures member { IfOk result
             (λ m. (m ≡ given_member self.now) × IsGivenMember payloads self.now) }
-        ensures none { IsNone result → ¬ IsGivenMember payloads self.now }
+        ensures fault { IfErr result (IsMemberFault payloads self.now) }
     {
+        let Some(span) = Span::new(self.first, self.size) else {
+            return Err(MemberFault::Addresses);
+        };
         if self.payload >= payloads {
-            return None;
+            return Err(MemberFault::Payload);
         }
-        let span = Span::new(self.first, self.size)?;
-        Some(Member {
+        Ok(Member {
             span,
             payload: self.payload,
         })

@@ -61,8 +61,9 @@ impl Client {
         ensures { Registers told.now self.old self.new result }
     {
         caches_go_on_to_fit();
-        let Some(member) = told.member(self.payloads) else {
-            return Attempt::NoMember;
+        let member = match told.member(self.payloads) {
+            Ok(member) => member,
+            Err(why) => return Attempt::NoMember { why },
         };
         if !self.begin() {
             let answer = Inserted::Spent;
@@ -106,8 +107,9 @@ impl Client {
         ensures { Replaces told.now self.old self.new result }
     {
         caches_go_on_to_fit();
-        let Some(member) = told.member(self.payloads) else {
-            return Attempt::NoMember;
+        let member = match told.member(self.payloads) {
+            Ok(member) => member,
+            Err(why) => return Attempt::NoMember { why },
         };
         if !self.begin() {
             let answer = Replaced::Spent;
@@ -130,8 +132,9 @@ impl Client {
         ensures { Loads told.now self.old self.new result }
     {
         caches_go_on_to_fit();
-        let Some(member) = told.member(self.payloads) else {
-            return Attempt::NoMember;
+        let member = match told.member(self.payloads) {
+            Ok(member) => member,
+            Err(why) => return Attempt::NoMember { why },
         };
         if !self.begin() {
             let answer = Loading::Spent;
