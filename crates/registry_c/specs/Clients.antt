@@ -42,17 +42,9 @@ pub record IsClient (c : ClientData) : Type 0 where
   pub registered : IsCacheOf Registered c.registered c.me.log
   pub loaded : IsCacheOf Loaded c.loaded c.me.log
 
--- a handle leads to a client, or to nothing
+-- a handle leads to a client
 abbrev pub LeadsToClient : Option ClientData → Type 0
 LeadsToClient held = (c : ClientData) × (held ≡ Some c)
-
-abbrev pub LeadsNowhere : {D : Type 0} → Option D → Type 0
-LeadsNowhere held = held ≡ None
-
--- A handle that led to a client, or to a reader, leads to it again, and this was made of it.
-abbrev pub Makes : {D : Type 0} → (D → D → Type 0) → Option D → Option D → Type 0
-Makes step (Some c) (Some c') = step c c'
-Makes step _ _ = ⊥
 
 -- what a handle leads to after a call that made a client, or didn't
 abbrev pub opened : {F : Type 0} → Result ClientData F → Option ClientData

@@ -3,7 +3,8 @@
 ghost use Rattle.std.specs.Prelude.{◌≡◌, ◌↔◌, IfSome, IsSomeAnd, length, true};
 ghost use Rattle.word_rule.specs.Callers.{IsAlone};
 ghost use Rattle.registry_core.specs.Rounds.{IsWholeWhereAlone};
-ghost use Rattle.registry_c.specs.Clients.{LeadsToClient, LeadsNowhere, Makes};
+ghost use Rattle.c_handle.specs.Handles.{HandsBack, LeadsNowhere};
+ghost use Rattle.registry_c.specs.Clients.{LeadsToClient};
 ghost use Rattle.registry_c.specs.Limits.{TellsNew};
 ghost use Rattle.registry_c.specs.Splits.{Joins, ShareByName, TellsJoin, TellsSplit};
 
@@ -67,7 +68,7 @@ pub extern "C" fn registry_c_split(
     requires client { LeadsToClient client.held }
     requires out { LeadsNowhere out.old.held }
     requires back { LeadsNowhere back.old.held }
-    ensures { Makes (TellsSplit give result out.new.held) client.held back.new.held }
+    ensures { HandsBack (TellsSplit give result out.new.held) client.held back.new.held }
 {
     let mut open = client.open(alloc);
     let told = split(&mut open, alloc, give, out);
@@ -118,7 +119,7 @@ pub extern "C" fn registry_c_join(
     requires back { LeadsNowhere back.old.held }
     requires other_back { LeadsNowhere other_back.old.held }
     ensures { IsSomeAnd other.held
-        (λ o. Makes (TellsJoin o result other_back.new.held) client.held back.new.held) }
+        (λ o. HandsBack (TellsJoin o result other_back.new.held) client.held back.new.held) }
 {
     let mut open = client.open(alloc);
     let other = other.open(alloc);

@@ -1,7 +1,8 @@
 //! Lookups: each is one try, takes no lock, counts no share, and stores nothing that is shared.
 
 ghost use Rattle.std.specs.Prelude.{◌≡◌, Ok};
-ghost use Rattle.registry_c.specs.Clients.{LeadsToClient, LeadsNowhere, Makes};
+ghost use Rattle.c_handle.specs.Handles.{HandsBack, LeadsNowhere};
+ghost use Rattle.registry_c.specs.Clients.{LeadsToClient};
 ghost use Rattle.registry_c.specs.Finds.{AsksLoaded, AsksLoadedBy, AsksRegistered};
 ghost use Rattle.registry_c.specs.Finds.{AsksRegisteredBy, FindsOnce, TellsFind};
 ghost use Rattle.registry_c.specs.Finds.{found_told, loaded_told, place_told};
@@ -218,7 +219,8 @@ pub extern "C" fn registry_c_try_registered(
 )
     requires client { LeadsToClient client.held }
     requires back { LeadsNowhere back.old.held }
-    ensures { Makes (TellsFind AsksRegistered found_told pc found.new) client.held back.new.held }
+    ensures { HandsBack (TellsFind AsksRegistered found_told pc found.new) client.held
+        back.new.held }
 {
     let mut open = client.open(alloc);
     tell_registered(&mut open, pc, found);
@@ -237,7 +239,7 @@ pub extern "C" fn registry_c_try_loaded(
 )
     requires client { LeadsToClient client.held }
     requires back { LeadsNowhere back.old.held }
-    ensures { Makes (TellsFind AsksLoaded found_told pc found.new) client.held back.new.held }
+    ensures { HandsBack (TellsFind AsksLoaded found_told pc found.new) client.held back.new.held }
 {
     let mut open = client.open(alloc);
     tell_loaded(&mut open, pc, found);
@@ -256,7 +258,7 @@ pub extern "C" fn registry_c_find(
 )
     requires client { LeadsToClient client.held }
     requires back { LeadsNowhere back.old.held }
-    ensures { Makes (TellsFind (FindsOnce LookupBy.Tables) place_told pc place.new) client.held
+    ensures { HandsBack (TellsFind (FindsOnce LookupBy.Tables) place_told pc place.new) client.held
         back.new.held }
 {
     let mut open = client.open(alloc);
@@ -276,7 +278,7 @@ pub extern "C" fn registry_c_find_cached(
 )
     requires client { LeadsToClient client.held }
     requires back { LeadsNowhere back.old.held }
-    ensures { Makes (TellsFind (FindsOnce LookupBy.Caches) place_told pc place.new) client.held
+    ensures { HandsBack (TellsFind (FindsOnce LookupBy.Caches) place_told pc place.new) client.held
         back.new.held }
 {
     let mut open = client.open(alloc);

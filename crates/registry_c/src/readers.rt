@@ -1,7 +1,8 @@
 //! Readers are made and dropped, and look up.
 
 ghost use Rattle.std.specs.Prelude.{◌≡◌, IsSomeAnd, length};
-ghost use Rattle.registry_c.specs.Clients.{LeadsToClient, LeadsNowhere, Makes};
+ghost use Rattle.c_handle.specs.Handles.{HandsBack, LeadsNowhere};
+ghost use Rattle.registry_c.specs.Clients.{LeadsToClient};
 ghost use Rattle.registry_c.specs.Finds.{TellsFind, found_told, place_told};
 ghost use Rattle.registry_c.specs.Readers.{LeadsToReader, MakesAnother, MakesReader};
 ghost use Rattle.registry_c.specs.Readers.{ReaderAsksLoaded, ReaderAsksRegistered, ReaderFinds};
@@ -70,7 +71,7 @@ pub extern "C" fn registry_c_reader(
     requires client { LeadsToClient client.held }
     requires out { LeadsNowhere out.old.held }
     requires back { LeadsNowhere back.old.held }
-    ensures { Makes (MakesReader result out.new.held) client.held back.new.held }
+    ensures { HandsBack (MakesReader result out.new.held) client.held back.new.held }
 {
     let mut open = client.open(alloc);
     let made = make_reader(&mut open, alloc, out);
@@ -90,7 +91,7 @@ pub extern "C" fn registry_c_reader_again(
     requires reader { LeadsToReader reader.held }
     requires out { LeadsNowhere out.old.held }
     requires back { LeadsNowhere back.old.held }
-    ensures { Makes (MakesAnother result out.new.held) reader.held back.new.held }
+    ensures { HandsBack (MakesAnother result out.new.held) reader.held back.new.held }
 {
     let mut open = reader.open(alloc);
     let made = make_another(&mut open, alloc, out);
@@ -121,7 +122,7 @@ pub extern "C" fn registry_c_reader_try_registered(
 )
     requires reader { LeadsToReader reader.held }
     requires back { LeadsNowhere back.old.held }
-    ensures { Makes (TellsFind ReaderAsksRegistered found_told pc found.new) reader.held
+    ensures { HandsBack (TellsFind ReaderAsksRegistered found_told pc found.new) reader.held
         back.new.held }
 {
     let mut open = reader.open(alloc);
@@ -141,7 +142,7 @@ pub extern "C" fn registry_c_reader_try_loaded(
 )
     requires reader { LeadsToReader reader.held }
     requires back { LeadsNowhere back.old.held }
-    ensures { Makes (TellsFind ReaderAsksLoaded found_told pc found.new) reader.held
+    ensures { HandsBack (TellsFind ReaderAsksLoaded found_told pc found.new) reader.held
         back.new.held }
 {
     let mut open = reader.open(alloc);
@@ -161,7 +162,7 @@ pub extern "C" fn registry_c_reader_find(
 )
     requires reader { LeadsToReader reader.held }
     requires back { LeadsNowhere back.old.held }
-    ensures { Makes (TellsFind ReaderFinds place_told pc place.new) reader.held back.new.held }
+    ensures { HandsBack (TellsFind ReaderFinds place_told pc place.new) reader.held back.new.held }
 {
     let mut open = reader.open(alloc);
     tell_place(&mut open, pc, place);

@@ -4,7 +4,8 @@
 //! has used up its releases, one that is left takes its place.
 
 ghost use Rattle.std.specs.Prelude.{◌≡◌, MatchBool};
-ghost use Rattle.registry_c.specs.Clients.{LeadsToClient, LeadsNowhere, Makes};
+ghost use Rattle.c_handle.specs.Handles.{HandsBack, LeadsNowhere};
+ghost use Rattle.registry_c.specs.Clients.{LeadsToClient};
 ghost use Rattle.registry_c.specs.Answers.{TellsAttempt, insertion_told, loading_told};
 ghost use Rattle.registry_c.specs.Answers.{removal_told, replacement_told};
 ghost use Rattle.registry_c.specs.Tries.{Begins, IsSpent, is_lost, is_provided};
@@ -210,7 +211,7 @@ pub extern "C" fn registry_c_register(
 )
     requires client { LeadsToClient client.held }
     requires back { LeadsNowhere back.old.held }
-    ensures { Makes (TellsAttempt (Registers member.now) insertion_told answer.new) client.held
+    ensures { HandsBack (TellsAttempt (Registers member.now) insertion_told answer.new) client.held
         back.new.held }
 {
     let mut open = client.open(alloc);
@@ -229,7 +230,7 @@ pub extern "C" fn registry_c_deregister(
 )
     requires client { LeadsToClient client.held }
     requires back { LeadsNowhere back.old.held }
-    ensures { Makes (TellsAttempt (Deregisters base) removal_told answer.new) client.held
+    ensures { HandsBack (TellsAttempt (Deregisters base) removal_told answer.new) client.held
         back.new.held }
 {
     let mut open = client.open(alloc);
@@ -248,7 +249,8 @@ pub extern "C" fn registry_c_replace(
 )
     requires client { LeadsToClient client.held }
     requires back { LeadsNowhere back.old.held }
-    ensures { Makes (TellsAttempt (Replaces member.now) (replacement_told member.now) answer.new)
+    ensures { HandsBack
+        (TellsAttempt (Replaces member.now) (replacement_told member.now) answer.new)
         client.held back.new.held }
 {
     let mut open = client.open(alloc);
@@ -267,7 +269,7 @@ pub extern "C" fn registry_c_load(
 )
     requires client { LeadsToClient client.held }
     requires back { LeadsNowhere back.old.held }
-    ensures { Makes (TellsAttempt (Loads member.now) loading_told answer.new) client.held
+    ensures { HandsBack (TellsAttempt (Loads member.now) loading_told answer.new) client.held
         back.new.held }
 {
     let mut open = client.open(alloc);
@@ -286,7 +288,7 @@ pub extern "C" fn registry_c_unload(
 )
     requires client { LeadsToClient client.held }
     requires back { LeadsNowhere back.old.held }
-    ensures { Makes (TellsAttempt (Unloads base) removal_told answer.new) client.held
+    ensures { HandsBack (TellsAttempt (Unloads base) removal_told answer.new) client.held
         back.new.held }
 {
     let mut open = client.open(alloc);

@@ -1,6 +1,5 @@
 pub mod Answers
 pub mod Finds
-pub mod Handles
 pub mod Limits
 pub mod Reach
 pub mod Readers

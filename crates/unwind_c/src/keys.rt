@@ -3,7 +3,7 @@
 ghost use Rattle.std.specs.Prelude.{◌≡◌, ◌≢◌, ◌++◌, [], ℕ, Contains, IsSomeAnd, drop, length, take};
 ghost use Rattle.std.specs.Map.{keys_of};
 ghost use Rattle.fde_writer.specs.Standing.{standing_under};
-ghost use Rattle.unwind_c.specs.Handles.{LeadsToNothing};
+ghost use Rattle.c_handle.specs.Handles.{LeadsNowhere};
 ghost use Rattle.unwind_c.specs.Writers.{LeadsToFdeWriter};
 
 use crate::writer_handle::FdeWriterHandle;
@@ -19,7 +19,7 @@ pub extern "C" fn unwind_c_keys(
     back: &mut FdeWriterHandle,
 ) -> usize
     requires writer { LeadsToFdeWriter writer.held }
-    requires back { LeadsToNothing back.old.held }
+    requires back { LeadsNowhere back.old.held }
     ensures count { IsSomeAnd writer.held (λ u. result ≡ length u.stands) }
     ensures written { IsSomeAnd writer.held (λ u. keys.new
         ≡ take (length keys.old) (keys_of u.stands) ++ drop (length u.stands) keys.old) }

@@ -1,7 +1,7 @@
 //! Readers are made, look up, and are dropped.
 
 ghost use Rattle.std.specs.Prelude.{◌≡◌, IsSomeAnd, length};
-ghost use Rattle.unwind_c.specs.Handles.{HandsBack, LeadsToNothing};
+ghost use Rattle.c_handle.specs.Handles.{HandsBack, LeadsNowhere};
 ghost use Rattle.unwind_c.specs.Finds.{TellsFde};
 ghost use Rattle.unwind_c.specs.Readers.{LeadsToFdeReader, MakesFdeReaderAgain};
 
@@ -11,7 +11,7 @@ use fde_reader::FdeReader;
 use std::alloc::Global;
 
 fn make_another(reader: &mut FdeReader, alloc: Global, out: &mut FdeReaderHandle) -> bool
-    requires { LeadsToNothing out.old.held }
+    requires { LeadsNowhere out.old.held }
     ensures { MakesFdeReaderAgain result out.new.held reader.old reader.new }
 {
     let Ok(other) = reader.another() else {
@@ -42,8 +42,8 @@ pub extern "C" fn unwind_c_reader_again(
     back: &mut FdeReaderHandle,
 ) -> bool
     requires reader { LeadsToFdeReader reader.held }
-    requires out { LeadsToNothing out.old.held }
-    requires back { LeadsToNothing back.old.held }
+    requires out { LeadsNowhere out.old.held }
+    requires back { LeadsNowhere back.old.held }
     ensures { HandsBack (MakesFdeReaderAgain result out.new.held) reader.held back.new.held }
 {
     let mut open = reader.open(alloc);
@@ -73,7 +73,7 @@ pub extern "C" fn unwind_c_find(
     back: &mut FdeReaderHandle,
 )
     requires reader { LeadsToFdeReader reader.held }
-    requires back { LeadsToNothing back.old.held }
+    requires back { LeadsNowhere back.old.held }
     ensures { HandsBack (TellsFde pc found.new) reader.held back.new.held }
 {
     let mut open = reader.open(alloc);

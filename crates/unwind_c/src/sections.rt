@@ -1,7 +1,7 @@
 //! Sections are registered, given up and moved.
 
 ghost use Rattle.std.specs.Prelude.{IsSomeAnd};
-ghost use Rattle.unwind_c.specs.Handles.{HandsBack, LeadsToNothing};
+ghost use Rattle.c_handle.specs.Handles.{HandsBack, LeadsNowhere};
 ghost use Rattle.fde_writer.specs.Outcomes.{IsDeregistration};
 ghost use Rattle.unwind_c.specs.Answers.{RegistersBytes, TellsMove, TellsSection, bytes_told};
 ghost use Rattle.unwind_c.specs.Answers.{deregistration_told};
@@ -90,7 +90,7 @@ pub extern "C" fn unwind_c_register(
     back: &mut FdeWriterHandle,
 )
     requires writer { LeadsToFdeWriter writer.held }
-    requires back { LeadsToNothing back.old.held }
+    requires back { LeadsNowhere back.old.held }
     ensures { HandsBack (TellsSection (RegistersBytes key note address bytes.now) bytes_told
         told.new) writer.held back.new.held }
 {
@@ -110,7 +110,7 @@ pub extern "C" fn unwind_c_deregister(
     back: &mut FdeWriterHandle,
 )
     requires writer { LeadsToFdeWriter writer.held }
-    requires back { LeadsToNothing back.old.held }
+    requires back { LeadsNowhere back.old.held }
     ensures { HandsBack (TellsSection (IsDeregistration key) deregistration_told told.new)
         writer.held back.new.held }
 {
@@ -133,8 +133,8 @@ pub extern "C" fn unwind_c_move(
 )
     requires writer { LeadsToFdeWriter writer.held }
     requires into { LeadsToFdeWriter into.held }
-    requires back { LeadsToNothing back.old.held }
-    requires into_back { LeadsToNothing into_back.old.held }
+    requires back { LeadsNowhere back.old.held }
+    requires into_back { LeadsNowhere into_back.old.held }
     ensures { IsSomeAnd into.held (λ v. IsSomeAnd into_back.new.held
         (λ v'. HandsBack (TellsMove key v v' told.new) writer.held back.new.held)) }
 {

@@ -1,7 +1,7 @@
 //! Libraries are made and dropped, and readers of them made.
 
 ghost use Rattle.std.specs.Prelude.{◌≡◌, IsSomeAnd, MatchResult, Ok, Err};
-ghost use Rattle.unwind_c.specs.Handles.{HandsBack, LeadsToNothing};
+ghost use Rattle.c_handle.specs.Handles.{HandsBack, LeadsNowhere};
 ghost use Rattle.fde_writer.specs.Sections.{members_due};
 ghost use Rattle.unwind_c.specs.Limits.{IsNewLibrary, TellsNewLibrary};
 ghost use Rattle.unwind_c.specs.Writers.{LeadsToFdeWriter, MakesFdeReader};
@@ -36,7 +36,7 @@ pub extern "C" fn unwind_c_new(
     limits: &UnwindLimits,
     out: &mut FdeWriterHandle,
 ) -> u64
-    requires out { LeadsToNothing out.old.held }
+    requires out { LeadsNowhere out.old.held }
     ensures { TellsNewLibrary limits.now result out.new.held }
 {
     match new_writer(alloc, limits) {
@@ -51,7 +51,7 @@ pub extern "C" fn unwind_c_new(
 }
 
 fn make_reader(writer: &mut FdeWriter, alloc: Global, out: &mut FdeReaderHandle) -> bool
-    requires { LeadsToNothing out.old.held }
+    requires { LeadsNowhere out.old.held }
     ensures { MakesFdeReader result out.new.held writer.old writer.new }
 {
     let Ok(registry) = writer.share() else {
@@ -78,8 +78,8 @@ pub extern "C" fn unwind_c_reader(
     back: &mut FdeWriterHandle,
 ) -> bool
     requires writer { LeadsToFdeWriter writer.held }
-    requires out { LeadsToNothing out.old.held }
-    requires back { LeadsToNothing back.old.held }
+    requires out { LeadsNowhere out.old.held }
+    requires back { LeadsNowhere back.old.held }
     ensures { HandsBack (MakesFdeReader result out.new.held) writer.held back.new.held }
 {
     let mut open = writer.open(alloc);
@@ -96,7 +96,7 @@ pub extern "C" fn unwind_c_left(
     back: &mut FdeWriterHandle,
 ) -> u32
     requires writer { LeadsToFdeWriter writer.held }
-    requires back { LeadsToNothing back.old.held }
+    requires back { LeadsNowhere back.old.held }
     ensures left { IsSomeAnd writer.held (λ u. result ≡ u.client.me.left) }
     ensures back { back.new.held ≡ writer.held }
 {
@@ -114,7 +114,7 @@ pub extern "C" fn unwind_c_due(
     back: &mut FdeWriterHandle,
 ) -> u32
     requires writer { LeadsToFdeWriter writer.held }
-    requires back { LeadsToNothing back.old.held }
+    requires back { LeadsNowhere back.old.held }
     ensures due { IsSomeAnd writer.held (λ u. result ≡ members_due u) }
     ensures back { back.new.held ≡ writer.held }
 {
