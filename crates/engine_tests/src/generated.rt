@@ -3,7 +3,7 @@
 use crate::held_back::HeldBack;
 use crate::playing::run_text;
 use event_script::{Answer, print_script};
-use reg_model::{Found, Inserted, Loading, Place, Removed};
+use reg_model::{Found, Inserted, Loading, Place, Removed, Replaced};
 use run_engine::{Gate, Status};
 use script_generator::generate;
 use std::sync::Wait;
@@ -107,6 +107,10 @@ impl Counting {
         match answer {
             Answer::Register {
                 answer: Inserted::Done { number },
+                ..
+            } => self.see_number(*number),
+            Answer::Replace {
+                answer: Replaced::Done { number, .. },
                 ..
             } => self.see_number(*number),
             Answer::Load {

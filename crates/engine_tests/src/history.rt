@@ -1,7 +1,7 @@
 //! The accepted updates of a journal, by their numbers.
 
 use event_script::{Answer, Journal, Script};
-use reg_model::{Inserted, Loading, Member, Removed, Update};
+use reg_model::{Inserted, Loading, Member, Removed, Replaced, Update};
 use std::alloc::Global;
 use std::test::Fail;
 
@@ -28,6 +28,13 @@ fn update_of(script: &Script, answer: &Answer) -> Option<(u32, Update)> {
             base,
             answer: Removed::Done { number, .. },
         } => Some((*number, Update::Deregister { base: *base })),
+        Answer::Replace {
+            image,
+            answer: Replaced::Done { number, .. },
+        } => {
+            let member = member_of(script, *image)?;
+            Some((*number, Update::Replace { member }))
+        }
         Answer::Load {
             image,
             answer: Loading::Done { number },

@@ -6,7 +6,7 @@
 ghost use Rattle.std.specs.Prelude.{◌≡◌, ◌≤◌};
 ghost use Rattle.word_rule.specs.Callers.{IsIdle};
 
-use reg_model::{Inserted, PlainRegistry, Removed, Update};
+use reg_model::{Inserted, PlainRegistry, Removed, Replaced, Update};
 use registry_core::Registry;
 use std::alloc::Global;
 use std::sync::Wait;
@@ -131,6 +131,13 @@ fn make_again<R: Wait>(
         Update::Deregister { base } => {
             let answer = registry.deregister(rt, me, *base);
             Ok(matches!(answer, Removed::Done { .. }) && lists.deregister(*base) == answer)
+        }
+        Update::Replace { member } => {
+            if member.payload >= PAYLOADS {
+                return Ok(false);
+            }
+            let answer = registry.replace(rt, me, *member);
+            Ok(matches!(answer, Replaced::Done { .. }) && lists.replace(*member) == answer)
         }
         Update::Load { .. } | Update::Unload { .. } => Ok(true),
     }

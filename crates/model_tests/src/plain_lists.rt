@@ -89,6 +89,11 @@ fn deregisters(registry: &mut PlainRegistry, base: u64, wanted: Removed) -> bool
     registry.updates() < 1000 && registry.deregister(base) == wanted
 }
 
+/// The same of a replacement.
+fn replaces(registry: &mut PlainRegistry, member: &Member, wanted: Replaced) -> bool {
+    registry.updates() < 1000 && registry.replace(*member) == wanted
+}
+
 /// The same of a load.
 fn loads(registry: &mut PlainRegistry, member: &Member, wanted: Loading) -> bool {
     registry.updates() < 1000 && registry.load(*member).ok() == Some(wanted)
@@ -173,6 +178,30 @@ fn one_range(rt: HostRuntime) {
             && is_nowhere(&registry, 0x1010, 2)
             && registry.updates() == 2
     );
+}
+
+/// A member of a span gets another payload, and one of a part of it is absent.
+fn exchanges(registry: &mut PlainRegistry, old: &Member, new: &Member, part: &Member) -> bool {
+    let (number, payload) = (2, old.payload);
+    let done = Replaced::Done { number, payload };
+    replaces(registry, old, Replaced::NotFound { stamp: 0 })
+        && registers(registry, old, Inserted::Done { number: 1 })
+        && replaces(registry, new, done)
+        && is_registered(registry, 0x1010, new, 2)
+        && replaces(registry, part, Replaced::NotFound { stamp: 2 })
+        && deregisters(registry, 0x1000, removed(3, new))
+}
+
+#[test]
+fn a_payload_is_exchanged_in_place(rt: HostRuntime) {
+    let (Some(old), Some(new)) = (image(0, 0x1000, 0x30), image(1, 0x1000, 0x30)) else {
+        panic!(rt; "spans")
+    };
+    let Some(part) = image(2, 0x1000, 0x20) else {
+        panic!(rt; "a span")
+    };
+    let mut registry = PlainRegistry::new(rt.alloc(), Vec::new(rt.alloc()), 8);
+    assert!(rt; exchanges(&mut registry, &old, &new, &part) && registry.updates() == 3);
 }
 
 /// Registers two members, and between them and behind them one that overlaps both.

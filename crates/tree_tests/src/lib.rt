@@ -7,6 +7,8 @@ mod by_sight;
 #[cfg(test)]
 mod insertions;
 #[cfg(test)]
+mod replacing;
+#[cfg(test)]
 mod tree_lookups;
 #[cfg(test)]
 mod writers;
