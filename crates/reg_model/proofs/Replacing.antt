@@ -131,22 +131,31 @@ step_along m all now i d before b within known is test =
   where
     x : Member
     x = get_or all i d
+
     front : List Member
     front = with_payload m (take i all)
+
     rest : List Member
     rest = drop (i + 1) all
+
     long : length front ≡ i
     long = length-map (take i all) (instead m) ∙ length-take-le i all (omega arith)
+
     here : now ≡ front ++ x ∷ rest
     here = is ∙ ap (λ z. front ++ z) (drop_more all i d within)
+
     same : get_or now i d ≡ x
     same = ap (λ z. get_or z i d) here ∙ subst (λ n. get_or (front ++ x ∷ rest) n d ≡ x) long (get_or-append_seam front x rest d)
+
     found : at_span m.span (take (i + 1) all) ≡ option_or (at_span m.span (take i all)) (at_span m.span (x ∷ []))
     found = ap (at_span m.span) (take_more all i d within) ∙ find-append (λ z. is_same_span z.span m.span) (take i all) (x ∷ [])
+
     next : with_payload m (take (i + 1) all) ++ rest ≡ front ++ instead m x ∷ rest
     next = ap (λ z. with_payload m z ++ rest) (take_more all i d within) ∙ ap (λ z. z ++ rest) (map-append (instead m) (take i all) (x ∷ [])) ∙ append_assoc front (instead m x ∷ []) rest
+
     put : (y : Member) → set now i y ≡ front ++ y ∷ rest
     put y = ap (λ z. set z i y) here ∙ subst (λ n. set (front ++ x ∷ rest) n y ≡ front ++ y ∷ rest) long (set-append_seam front x rest y)
+
     by_test : (b : Bool) → is_same_span x.span m.span ≡ b → (cond b (option_or before (Some (get_or now i d))) before ≡ at_span m.span (take (i + 1) all)) × (set now i (cond b m (get_or now i d)) ≡ with_payload m (take (i + 1) all) ++ drop (i + 1) all)
     by_test true test = (
       rw (same, known) (sym (found ∙ ap (λ t. option_or (at_span m.span (take i all)) (cond t (Some x) None)) test)),

@@ -14,7 +14,7 @@ mod plain;
 mod span;
 
 pub use answer::{
-    Again, Found, Half, Inserted, Loading, NoMemory, Place, Receipt, Removed, Update,
+    Again, Found, Half, Inserted, Loading, NoMemory, Place, Receipt, Removed, Replaced, Update,
 };
 pub use plain::PlainRegistry;
 pub use span::{Member, Span};
