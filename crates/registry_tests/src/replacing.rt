@@ -61,9 +61,25 @@ fn a_payload_is_exchanged_in_place(rt: HostRuntime) -> Result<(), Fail> {
     assert!(rt; replaces(&rt, &registry, &mut a, old, Replaced::NotFound { stamp: 0 }));
     assert!(rt; registry.register(&rt, &mut a, old) == Inserted::Done { number: 1 });
     let (number, payload) = (2, 0);
-    assert!(rt; replaces(&rt, &registry, &mut a, new, Replaced::Done { number, payload }));
+    assert!(rt;
+        replaces(
+            &rt,
+            &registry,
+            &mut a,
+            new,
+            Replaced::Done { number, payload }
+        )
+    );
     assert!(rt; is_registered(&rt, &registry, &mut a, new, 2));
-    assert!(rt; replaces(&rt, &registry, &mut a, part, Replaced::NotFound { stamp: 2 }));
+    assert!(rt;
+        replaces(
+            &rt,
+            &registry,
+            &mut a,
+            part,
+            Replaced::NotFound { stamp: 2 }
+        )
+    );
     let gone = Removed::Done {
         number: 3,
         member: new,
