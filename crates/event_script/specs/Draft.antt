@@ -1,10 +1,11 @@
 -- A script as far as its lines have come: which lines may come, and what each adds.
 use Rattle.std.specs.Prelude.{ℕ, ◌+◌, ◌-◌, List, [], ◌∷◌, ◌++◌, Bool, true, false}
-use Rattle.std.specs.Prelude.{Result, Ok, Err, replicate}
+use Rattle.std.specs.Prelude.{Result, Ok, Err, replicate, nat_le}
 use Rattle.reg_model.specs.SpanData.{SpanData}
 use Rattle.frame_parse.specs.Sections.{SectionData}
 use Rattle.frame_parse.specs.Reading.{section_of}
 use Rattle.frame_parse.specs.declared.fault.FrameFault.{FrameFault}
+use Rattle.event_script.specs.declared.limits.TheConstants.{REPLACE_VERSION}
 use Rattle.event_script.specs.ScriptData.{ScriptData, ImageData, SnapshotData}
 use Rattle.event_script.specs.declared.script.Event.{Event}
 use Rattle.event_script.specs.declared.script.Event.TheVariants as event
@@ -29,6 +30,7 @@ pub record DraftData : Type 0 where
 
 abbrev pub no_script : ScriptData
 no_script = record {
+  version = 0;
   nodes = 0;
   loads = 0;
   images = [];
@@ -59,37 +61,38 @@ nothing_known = record {
 
 -- ---- which lines may come
 
--- which lines may come next
-abbrev pub may_come : Stage → Kind → Bool
-may_come stage.Version kind.Version = true
-may_come stage.Nodes kind.Nodes = true
-may_come stage.Loads kind.Loads = true
-may_come stage.Images kind.Image = true
-may_come stage.Images kind.Fixed = true
-may_come stage.Images kind.Snapshot = true
-may_come stage.Images kind.Round = true
-may_come stage.Images kind.End = true
-may_come stage.Fixed kind.Fixed = true
-may_come stage.Fixed kind.Snapshot = true
-may_come stage.Fixed kind.Round = true
-may_come stage.Fixed kind.End = true
-may_come stage.Snapshots kind.Snapshot = true
-may_come stage.Snapshots kind.Memory = true
-may_come stage.Snapshots kind.Round = true
-may_come stage.Snapshots kind.End = true
-may_come stage.Round kind.Round = true
-may_come stage.Round kind.Thread = true
-may_come stage.Round kind.End = true
-may_come stage.Thread kind.Round = true
-may_come stage.Thread kind.Thread = true
-may_come stage.Thread kind.End = true
-may_come stage.Thread kind.Register = true
-may_come stage.Thread kind.Deregister = true
-may_come stage.Thread kind.Load = true
-may_come stage.Thread kind.Unload = true
-may_come stage.Thread kind.Find = true
-may_come stage.Thread kind.Unwind = true
-may_come _ _ = false
+-- which lines may come next in a script of the version
+abbrev pub may_come : ℕ → Stage → Kind → Bool
+may_come version stage.Version kind.Version = true
+may_come version stage.Nodes kind.Nodes = true
+may_come version stage.Loads kind.Loads = true
+may_come version stage.Images kind.Image = true
+may_come version stage.Images kind.Fixed = true
+may_come version stage.Images kind.Snapshot = true
+may_come version stage.Images kind.Round = true
+may_come version stage.Images kind.End = true
+may_come version stage.Fixed kind.Fixed = true
+may_come version stage.Fixed kind.Snapshot = true
+may_come version stage.Fixed kind.Round = true
+may_come version stage.Fixed kind.End = true
+may_come version stage.Snapshots kind.Snapshot = true
+may_come version stage.Snapshots kind.Memory = true
+may_come version stage.Snapshots kind.Round = true
+may_come version stage.Snapshots kind.End = true
+may_come version stage.Round kind.Round = true
+may_come version stage.Round kind.Thread = true
+may_come version stage.Round kind.End = true
+may_come version stage.Thread kind.Round = true
+may_come version stage.Thread kind.Thread = true
+may_come version stage.Thread kind.End = true
+may_come version stage.Thread kind.Register = true
+may_come version stage.Thread kind.Deregister = true
+may_come version stage.Thread kind.Replace = nat_le REPLACE_VERSION version
+may_come version stage.Thread kind.Load = true
+may_come version stage.Thread kind.Unload = true
+may_come version stage.Thread kind.Find = true
+may_come version stage.Thread kind.Unwind = true
+may_come version _ _ = false
 
 -- the `end` line was read
 abbrev pub is_ended : Stage → Bool
@@ -172,7 +175,8 @@ after_round known next = record {
 
 -- what is known after one more line that says so
 abbrev pub with_statement : DraftData → Statement → DraftData
-with_statement known (statement.Version version) = record known { stage = stage.Nodes }
+with_statement known (statement.Version version) =
+    record known { stage = stage.Nodes; script = record known.script { version = version } }
 with_statement known (statement.Nodes nodes) =
     record known { stage = stage.Loads; script = record known.script { nodes = nodes } }
 with_statement known (statement.Loads loads) =

@@ -8,6 +8,7 @@ use Rattle.event_script.specs.declared.script.Event.TheVariants as event
 abbrev pub event_spelling : Event → List ℕ
 event_spelling (event.Register image) = codes "register " ++ decimal image
 event_spelling (event.Deregister base) = codes "deregister " ++ hex base
+event_spelling (event.Replace image) = codes "replace " ++ decimal image
 event_spelling (event.Load image) = codes "load " ++ decimal image
 event_spelling (event.Unload base) = codes "unload " ++ hex base
 event_spelling (event.Find pc) = codes "find " ++ hex pc

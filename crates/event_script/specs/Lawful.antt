@@ -20,8 +20,8 @@ use Rattle.event_script.specs.JournalData.{JournalData}
 use Rattle.event_script.specs.declared.script.Event.{Event}
 use Rattle.event_script.specs.declared.script.Event.TheVariants as event
 use Rattle.event_script.specs.declared.journal.Answer.{Answer}
-use Rattle.event_script.specs.declared.journal.Answer.TheVariants.{Register, Deregister, Load}
-use Rattle.event_script.specs.declared.journal.Answer.TheVariants.{Unload, Find, Unwind}
+use Rattle.event_script.specs.declared.journal.Answer.TheVariants.{Register, Deregister, Replace}
+use Rattle.event_script.specs.declared.journal.Answer.TheVariants.{Load, Unload, Find, Unwind}
 
 -- the member that is meant by the number of an image
 abbrev pub image_member : List SpanData → ℕ → Member
@@ -31,6 +31,7 @@ image_member images image = record { span = span_of images image; payload = imag
 abbrev pub AnswersEvent : Event → Answer → Type 0
 AnswersEvent (event.Register image) (Register asked answer) = asked ≡ image
 AnswersEvent (event.Deregister base) (Deregister asked answer) = asked ≡ base
+AnswersEvent (event.Replace image) (Replace asked answer) = asked ≡ image
 AnswersEvent (event.Load image) (Load asked answer) = asked ≡ image
 AnswersEvent (event.Unload base) (Unload asked answer) = asked ≡ base
 AnswersEvent (event.Find pc) (Find asked place) = (asked ≡ pc) × IsPlace place
@@ -47,6 +48,8 @@ abbrev pub receipts_of : List SpanData → Answer → List Receipt
 receipts_of images (Register image answer) =
     receipt.Register (image_member images image) answer ∷ []
 receipts_of images (Deregister base answer) = receipt.Deregister base answer ∷ []
+receipts_of images (Replace image answer) =
+    receipt.Replace (image_member images image) answer ∷ []
 receipts_of images (Load image answer) = receipt.Load (image_member images image) answer ∷ []
 receipts_of images (Unload base answer) = receipt.Unload base answer ∷ []
 receipts_of images (Find pc place) = receipts_of_place pc place

@@ -12,7 +12,8 @@ use Rattle.frame_parse.specs.Sections.{SectionData}
 use Rattle.frame_parse.specs.declared.fault.FrameFault.{FrameFault}
 use Rattle.frame_parse.specs.declared.fault.FrameFault.TheVariants as frame_fault
 use Rattle.frame_parse.specs.Reading.{section_of}
-use Rattle.event_script.specs.declared.limits.TheConstants.{VERSION, LEAST_NODES, MOST_NODES}
+use Rattle.event_script.specs.declared.limits.TheConstants.{FIRST_VERSION, LAST_VERSION}
+use Rattle.event_script.specs.declared.limits.TheConstants.{LEAST_NODES, MOST_NODES}
 use Rattle.event_script.specs.declared.limits.TheConstants.{LEAST_LOADS, MOST_LOADS, MOST_IMAGES}
 use Rattle.event_script.specs.declared.limits.TheConstants.{MOST_SECTION_BYTES, MOST_SNAPSHOTS}
 use Rattle.event_script.specs.declared.limits.TheConstants.{MOST_MEMORY_BYTES, MOST_ROUNDS}
@@ -67,9 +68,9 @@ LeavesDraft now (Err e) given = Fails e given
 -- ---- what a line says
 
 abbrev pub kinds : List Kind
-kinds = kind.Find ∷ kind.Register ∷ kind.Deregister ∷ kind.Load ∷ kind.Unload ∷ kind.Unwind ∷
-    kind.Memory ∷ kind.Thread ∷ kind.Round ∷ kind.Image ∷ kind.Fixed ∷ kind.Snapshot ∷
-    kind.Version ∷ kind.Nodes ∷ kind.Loads ∷ kind.End ∷ []
+kinds = kind.Find ∷ kind.Register ∷ kind.Deregister ∷ kind.Replace ∷ kind.Load ∷ kind.Unload ∷
+    kind.Unwind ∷ kind.Memory ∷ kind.Thread ∷ kind.Round ∷ kind.Image ∷ kind.Fixed ∷
+    kind.Snapshot ∷ kind.Version ∷ kind.Nodes ∷ kind.Loads ∷ kind.End ∷ []
 
 unfoldable pub kind_of : List ℕ → Option Kind
 kind_of word = find (λ kind. bytes_eq word (word_of kind)) kinds
@@ -144,6 +145,8 @@ statement_of kind.Register fields =
     one_decimal fields >=> λ image. Ok (statement.Event (event.Register image))
 statement_of kind.Deregister fields =
     one_hex fields >=> λ base. Ok (statement.Event (event.Deregister base))
+statement_of kind.Replace fields =
+    one_decimal fields >=> λ image. Ok (statement.Event (event.Replace image))
 statement_of kind.Load fields =
     one_decimal fields >=> λ image. Ok (statement.Event (event.Load image))
 statement_of kind.Unload fields =
@@ -215,6 +218,7 @@ memory_added known region =
 -- whether an event names nothing that there isn't
 abbrev pub is_named : Counts → Event → Bool
 is_named counts (event.Register image) = nat_lt image counts.images
+is_named counts (event.Replace image) = nat_lt image counts.images
 is_named counts (event.Load image) = nat_lt image counts.images
 is_named counts (event.Unwind snapshot) = nat_lt snapshot counts.snapshots
 is_named counts _ = true
@@ -226,7 +230,7 @@ has_room totals _ = true
 
 unfoldable pub added : DraftData → Statement → Result DraftData Reason
 added known (statement.Version version) =
-    if version == VERSION
+    if nat_le FIRST_VERSION version && nat_le version LAST_VERSION
     then Ok (with_statement known (statement.Version version)) else Err reason.Limit
 added known (statement.Nodes nodes) =
     if nat_le LEAST_NODES nodes && nat_le nodes MOST_NODES
@@ -261,7 +265,8 @@ unfoldable pub by_word : DraftData → List (List ℕ) → Result DraftData Reas
 by_word known [] = Err reason.Word
 by_word known (word ∷ fields) =
     ok_or (kind_of word) reason.Word >=> λ kind.
-    if may_come known.stage kind then spoken_added known kind fields else Err reason.Word
+    if may_come known.script.version known.stage kind then spoken_added known kind fields
+    else Err reason.Word
 
 -- what is known after a line, which stands here without its line feed
 unfoldable pub after_line : DraftData → List ℕ → Result DraftData Reason

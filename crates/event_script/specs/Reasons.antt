@@ -3,7 +3,8 @@ use Rattle.std.specs.Prelude.{◌≡◌, ◌≢◌, ◌⊎◌, ℕ, ◌+◌, ◌
 use Rattle.std.specs.Prelude.{Bool, true, false, Some, slice_get}
 use Rattle.frame_parse.specs.Sections.{IsRefused}
 use Rattle.frame_parse.specs.declared.fault.FrameFault.{FrameFault}
-use Rattle.event_script.specs.declared.limits.TheConstants.{VERSION, LEAST_NODES, MOST_NODES}
+use Rattle.event_script.specs.declared.limits.TheConstants.{FIRST_VERSION, LAST_VERSION}
+use Rattle.event_script.specs.declared.limits.TheConstants.{LEAST_NODES, MOST_NODES}
 use Rattle.event_script.specs.declared.limits.TheConstants.{LEAST_LOADS, MOST_LOADS, MOST_IMAGES}
 use Rattle.event_script.specs.declared.limits.TheConstants.{MOST_SECTION_BYTES, MOST_SNAPSHOTS}
 use Rattle.event_script.specs.declared.limits.TheConstants.{MOST_MEMORY_BYTES, MOST_ROUNDS}
@@ -39,7 +40,7 @@ fields_of text = pieces 32 text.bytes
 abbrev pub IsOfKind : DraftData → LineText → (Kind → Line → Type 0) → Type 0
 IsOfKind known text P =
     (kind : Kind) × (fields : Line) × (fields_of text ≡ word_of kind ∷ fields)
-    × (may_come known.stage kind ≡ true) × P kind fields
+    × (may_come known.script.version known.stage kind ≡ true) × P kind fields
 
 -- the line says this
 pub record Says (text : LineText) (s : Statement) : Type 0 where
@@ -66,7 +67,8 @@ IsUnwindTooMany known _ = ⊥
 
 -- a number, or a count with this line, is outside its limit
 abbrev pub IsOutsideLimit : DraftData → Statement → Type 0
-IsOutsideLimit known (statement.Version version) = version ≢ VERSION
+IsOutsideLimit known (statement.Version version) =
+    (version < FIRST_VERSION) ⊎ (LAST_VERSION < version)
 IsOutsideLimit known (statement.Nodes nodes) = (nodes < LEAST_NODES) ⊎ (MOST_NODES < nodes)
 IsOutsideLimit known (statement.Loads loads) = (loads < LEAST_LOADS) ⊎ (MOST_LOADS < loads)
 IsOutsideLimit known (statement.Image image) =
@@ -95,6 +97,7 @@ HasBadSection fault _ = ⊥
 abbrev pub IsNameless : DraftData → Statement → Type 0
 IsNameless known (statement.Fixed image) = length known.script.images ≤ image
 IsNameless known (statement.Event (event.Register image)) = length known.script.images ≤ image
+IsNameless known (statement.Event (event.Replace image)) = length known.script.images ≤ image
 IsNameless known (statement.Event (event.Load image)) = length known.script.images ≤ image
 IsNameless known (statement.Event (event.Unwind snapshot)) =
     length known.script.snapshots ≤ snapshot
@@ -150,7 +153,7 @@ SpeaksAgainst reason.Byte known text = is_printable text.bytes ≡ false
 -- its first field can't start a line here
 SpeaksAgainst reason.Word known text =
     (kind : Kind) (fields : Line) → fields_of text ≡ word_of kind ∷ fields
-    → may_come known.stage kind ≡ true → ⊥
+    → may_come known.script.version known.stage kind ≡ true → ⊥
 -- the number of fields is wrong; an empty field counts as a field
 SpeaksAgainst reason.Fields known text =
     IsOfKind known text (λ kind fields. length fields ≢ length (forms kind))

@@ -7,6 +7,8 @@ use Rattle.hex.specs.Hex.{IsBytes}
 use Rattle.frame_expr.specs.Regions.{RegionData, AreRegions}
 use Rattle.frame_expr.specs.declared.regs.Regs.{Regs}
 use Rattle.frame_parse.specs.Sections.{SectionData, HasFdes}
+use Rattle.event_script.specs.declared.limits.TheConstants.{FIRST_VERSION, LAST_VERSION}
+use Rattle.event_script.specs.declared.limits.TheConstants.{REPLACE_VERSION}
 use Rattle.event_script.specs.declared.limits.TheConstants.{LEAST_NODES, MOST_NODES, LEAST_LOADS}
 use Rattle.event_script.specs.declared.limits.TheConstants.{MOST_LOADS, MOST_IMAGES}
 use Rattle.event_script.specs.declared.limits.TheConstants.{MOST_SECTION_BYTES, MOST_SNAPSHOTS}
@@ -14,8 +16,8 @@ use Rattle.event_script.specs.declared.limits.TheConstants.{MOST_MEMORY_BYTES, M
 use Rattle.event_script.specs.declared.limits.TheConstants.{MOST_THREADS, MOST_EVENTS}
 use Rattle.event_script.specs.declared.limits.TheConstants.{MOST_UNWINDS}
 use Rattle.event_script.specs.declared.script.Event.{Event}
-use Rattle.event_script.specs.declared.script.Event.TheVariants.{Register, Deregister, Load, Unload}
-use Rattle.event_script.specs.declared.script.Event.TheVariants.{Find, Unwind}
+use Rattle.event_script.specs.declared.script.Event.TheVariants.{Register, Deregister, Replace}
+use Rattle.event_script.specs.declared.script.Event.TheVariants.{Load, Unload, Find, Unwind}
 
 -- what a contract sees of a recorded stack: the registers of its innermost frame, and memory
 pub record SnapshotData : Type 0 where
@@ -24,6 +26,7 @@ pub record SnapshotData : Type 0 where
 
 -- what a contract sees of a script: by round and thread, the events
 pub record ScriptData : Type 0 where
+  pub version : ℕ
   pub nodes : ℕ
   pub loads : ℕ
   pub images : List SpanData
@@ -32,15 +35,18 @@ pub record ScriptData : Type 0 where
   pub snapshots : List SnapshotData
   pub rounds : List (List (List Event))
 
--- how many images and how many snapshots there are
+-- the version, which says what events there are, and how many images and how many snapshots
 pub record Counts : Type 0 where
+  pub version : ℕ
   pub images : ℕ
   pub snapshots : ℕ
 
--- The event names an image or a snapshot that there is; addresses have 64 bits.
+-- The event names an image or a snapshot that there is; addresses have 64 bits. The first version
+-- has no replacements.
 abbrev pub IsEvent : Counts → Event → Type 0
 IsEvent counts (Register image) = image < counts.images
 IsEvent counts (Deregister base) = base < 2 ^ 64
+IsEvent counts (Replace image) = (image < counts.images) × (REPLACE_VERSION ≤ counts.version)
 IsEvent counts (Load image) = image < counts.images
 IsEvent counts (Unload base) = base < 2 ^ 64
 IsEvent counts (Find pc) = pc < 2 ^ 64
@@ -61,7 +67,11 @@ abbrev pub count_unwinds : List (List (List Event)) → ℕ
 count_unwinds rounds = sum_by (sum_by (count_by is_unwind)) rounds
 
 abbrev pub counts_of : ScriptData → Counts
-counts_of s = record { images = length s.images; snapshots = length s.snapshots }
+counts_of s = record {
+  version = s.version;
+  images = length s.images;
+  snapshots = length s.snapshots;
+}
 
 -- the section of an image, whose bytes are records of `.eh_frame`
 pub record IsSectionOf (section : SectionData) : Type 0 where
@@ -101,6 +111,7 @@ pub record IsSnapshot (snapshot : SnapshotData) : Type 0 where
 -- each number and each count is within its limit, each image is a span and has a section, each
 -- snapshot is one, and each event names one of these
 pub record IsRunnable (s : ScriptData) : Type 0 where
+  pub version : (FIRST_VERSION ≤ s.version) × (s.version ≤ LAST_VERSION)
   pub nodes : (LEAST_NODES ≤ s.nodes) × (s.nodes ≤ MOST_NODES)
   pub loads : (LEAST_LOADS ≤ s.loads) × (s.loads ≤ MOST_LOADS)
   pub images : (length s.images ≤ MOST_IMAGES) × All IsSpan s.images

@@ -3,7 +3,6 @@ use Rattle.std.specs.Prelude.{◌≡◌, ℕ, ◌+◌, ◌-◌, List, [], ◌∷
 use Rattle.std.specs.List.{flat_map}
 use Rattle.frame_parse.specs.Sections.{SectionData}
 use Rattle.reg_model.specs.SpanData.{SpanData}
-use Rattle.event_script.specs.declared.limits.TheConstants.{VERSION}
 use Rattle.event_script.specs.ScriptData.{ScriptData, ImageData, SnapshotData, IsRunnable}
 use Rattle.event_script.specs.Statements.{statement_line}
 use Rattle.event_script.specs.declared.script.Event.{Event}
@@ -68,14 +67,14 @@ round_statements (threads ∷ rounds) =
     statement.Round ∷ thread_statements threads ++ round_statements rounds
 
 -- the version and the two numbers
-abbrev pub first_statements : ℕ → ℕ → List Statement
-first_statements nodes loads =
-    statement.Version VERSION ∷ statement.Nodes nodes ∷ statement.Loads loads ∷ []
+abbrev pub first_statements : ℕ → ℕ → ℕ → List Statement
+first_statements version nodes loads =
+    statement.Version version ∷ statement.Nodes nodes ∷ statement.Loads loads ∷ []
 
 -- what the lines of a script say, but for the last one
 abbrev pub body_statements : ScriptData → List Statement
 body_statements s =
-    first_statements s.nodes s.loads ++ image_statements 0 s.images s.sections
+    first_statements s.version s.nodes s.loads ++ image_statements 0 s.images s.sections
     ++ map statement.Fixed s.fixed ++ snapshot_statements 0 s.snapshots ++ round_statements s.rounds
 
 -- the text of a script

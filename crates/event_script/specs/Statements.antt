@@ -23,6 +23,7 @@ word_of kind.Round = codes "round"
 word_of kind.Thread = codes "thread"
 word_of kind.Register = codes "register"
 word_of kind.Deregister = codes "deregister"
+word_of kind.Replace = codes "replace"
 word_of kind.Load = codes "load"
 word_of kind.Unload = codes "unload"
 word_of kind.Find = codes "find"
@@ -72,6 +73,7 @@ AreFields (form ∷ others) (field ∷ fields) = IsField form field × AreFields
 abbrev pub kind_of_event : Event → Kind
 kind_of_event (event.Register image) = kind.Register
 kind_of_event (event.Deregister base) = kind.Deregister
+kind_of_event (event.Replace image) = kind.Replace
 kind_of_event (event.Load image) = kind.Load
 kind_of_event (event.Unload base) = kind.Unload
 kind_of_event (event.Find pc) = kind.Find
@@ -80,6 +82,7 @@ kind_of_event (event.Unwind snapshot) = kind.Unwind
 abbrev pub event_fields : Event → List (List ℕ)
 event_fields (event.Register image) = decimal image ∷ []
 event_fields (event.Deregister base) = hex base ∷ []
+event_fields (event.Replace image) = decimal image ∷ []
 event_fields (event.Load image) = decimal image ∷ []
 event_fields (event.Unload base) = hex base ∷ []
 event_fields (event.Find pc) = hex pc ∷ []
@@ -119,6 +122,7 @@ statement_line s = word_of (kind_of_statement s) ∷ statement_fields s
 abbrev pub HasEventForm : Event → Type 0
 HasEventForm (event.Register image) = image < 2 ^ 32
 HasEventForm (event.Deregister base) = base < 2 ^ 64
+HasEventForm (event.Replace image) = image < 2 ^ 32
 HasEventForm (event.Load image) = image < 2 ^ 32
 HasEventForm (event.Unload base) = base < 2 ^ 64
 HasEventForm (event.Find pc) = pc < 2 ^ 64

@@ -13,6 +13,8 @@ use Rattle.reg_model.specs.declared.answer.Loading.{Loading}
 use Rattle.reg_model.specs.declared.answer.Loading.TheVariants as loading
 use Rattle.reg_model.specs.declared.answer.Removed.{Removed}
 use Rattle.reg_model.specs.declared.answer.Removed.TheVariants as removed
+use Rattle.reg_model.specs.declared.answer.Replaced.{Replaced}
+use Rattle.reg_model.specs.declared.answer.Replaced.TheVariants as replaced
 use Rattle.unwind_step.specs.Backtrace.{TraceData}
 use Rattle.unwind_step.specs.declared.backtrace.End.{End}
 use Rattle.unwind_step.specs.declared.backtrace.End.TheVariants as end
@@ -20,8 +22,8 @@ use Rattle.unwind_step.specs.declared.backtrace.FrameLine.{FrameLine}
 use Rattle.event_script.specs.Digits.{hex}
 use Rattle.event_script.specs.JournalData.{JournalData}
 use Rattle.event_script.specs.declared.journal.Answer.{Answer}
-use Rattle.event_script.specs.declared.journal.Answer.TheVariants.{Register, Deregister, Load}
-use Rattle.event_script.specs.declared.journal.Answer.TheVariants.{Unload, Find, Unwind}
+use Rattle.event_script.specs.declared.journal.Answer.TheVariants.{Register, Deregister, Replace}
+use Rattle.event_script.specs.declared.journal.Answer.TheVariants.{Load, Unload, Find, Unwind}
 
 -- which member overlaps: its first address and its image
 abbrev pub overlap_text : Member → ℕ → List ℕ
@@ -46,6 +48,13 @@ removed_text (removed.Done number member) =
     codes "done " ++ decimal number ++ codes " image " ++ decimal member.payload
 removed_text (removed.NotFound stamp) = codes "absent at " ++ decimal stamp
 removed_text removed.Spent = []
+
+-- the image is the one that was there before
+abbrev pub replaced_text : Replaced → List ℕ
+replaced_text (replaced.Done number payload) =
+    codes "done " ++ decimal number ++ codes " image " ++ decimal payload
+replaced_text (replaced.NotFound stamp) = codes "absent at " ++ decimal stamp
+replaced_text replaced.Spent = []
 
 -- an image, or none, and the stamp
 abbrev pub found_text : Found → List ℕ
@@ -99,6 +108,8 @@ answer_line (Register image answer) =
     codes "register " ++ decimal image ++ codes " " ++ inserted_text answer
 answer_line (Deregister base answer) =
     codes "deregister " ++ hex base ++ codes " " ++ removed_text answer
+answer_line (Replace image answer) =
+    codes "replace " ++ decimal image ++ codes " " ++ replaced_text answer
 answer_line (Load image answer) = codes "load " ++ decimal image ++ codes " " ++ loading_text answer
 answer_line (Unload base answer) = codes "unload " ++ hex base ++ codes " " ++ removed_text answer
 answer_line (Find pc place) = codes "find " ++ hex pc ++ codes " " ++ place_text place
@@ -150,6 +161,7 @@ journal_text journal = numbered round_text 1 journal.rounds ++ updates_text jour
 abbrev pub IsPrintable : Answer → Type 0
 IsPrintable (Register image inserted.Spent) = ⊥
 IsPrintable (Deregister base removed.Spent) = ⊥
+IsPrintable (Replace image replaced.Spent) = ⊥
 IsPrintable (Load image loading.Spent) = ⊥
 IsPrintable (Unload base removed.Spent) = ⊥
 IsPrintable (Find pc place) = IsPlace place

@@ -1,6 +1,6 @@
 //! What came of a script.
 
-use reg_model::{Inserted, Loading, Place, Removed};
+use reg_model::{Inserted, Loading, Place, Removed, Replaced};
 use std::marker::Model;
 use unwind_step::Trace;
 
@@ -9,6 +9,7 @@ use unwind_step::Trace;
 pub enum Answer {
     Register { image: u32, answer: Inserted },
     Deregister { base: u64, answer: Removed },
+    Replace { image: u32, answer: Replaced },
     Load { image: u32, answer: Loading },
     Unload { base: u64, answer: Removed },
     Find { pc: u64, place: Place },

@@ -1,7 +1,12 @@
 //! The limits of scripts.
 
-/// The version of the format.
-pub const VERSION: u32 = 1;
+/// The versions of the format.
+pub const FIRST_VERSION: u32 = 1;
+
+pub const LAST_VERSION: u32 = 2;
+
+/// The first version that has `replace` events.
+pub const REPLACE_VERSION: u32 = 2;
 
 /// Nodes of the tree of registered ranges, the root included.
 pub const LEAST_NODES: u32 = 4;

@@ -72,6 +72,7 @@ pub fn read(alloc: Global, bytes: &[u8]) -> Result<Script, ScriptFault>
 {
     let draft = draft_of(alloc, bytes)?;
     let Draft {
+        version,
         nodes,
         loads,
         images,
@@ -82,6 +83,7 @@ pub fn read(alloc: Global, bytes: &[u8]) -> Result<Script, ScriptFault>
         ..
     } = draft;
     Ok(Script {
+        version,
         nodes,
         loads,
         images,

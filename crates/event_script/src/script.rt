@@ -27,6 +27,8 @@ pub enum Event {
     Register { image: u32 },
     /// Removes what is registered at a first address.
     Deregister { base: u64 },
+    /// Gives what is registered at an image's span that image's number.
+    Replace { image: u32 },
     /// Loads an image, by its number.
     Load { image: u32 },
     /// Removes what is loaded at a first address.
@@ -71,6 +73,8 @@ impl Model for Round {
 /// that there is.
 #[derive(Drop)]
 pub struct Script {
+    /// The version of the format: the first one has no `Event::Replace`.
+    pub version: u32,
     /// The number of nodes of the tree of registered ranges.
     pub nodes: u32,
     /// The greatest number of loaded images.
@@ -92,6 +96,7 @@ impl Model for Script {
     ghost Value = { ScriptData };
 
     ghost view = { λ s. record {
+      version = s.version;
       nodes = s.nodes;
       loads = s.loads;
       images = s.images.items;
@@ -103,6 +108,7 @@ impl Model for Script {
 
     ghost invariant = { λ s. IsRunnable
         (record {
+          version = s.version;
           nodes = s.nodes;
           loads = s.loads;
           images = s.images.items;

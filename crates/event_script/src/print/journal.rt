@@ -5,8 +5,9 @@ ghost use Rattle.std.specs.Prelude.{IfOk, OnOk, All, codes, decimal};
 ghost use Rattle.std.specs.String.{string_bytes};
 ghost use Rattle.event_script.specs.Digits.{hex};
 ghost use Rattle.event_script.specs.Text.{IsPrintable, overlap_text, inserted_text, loading_text};
-ghost use Rattle.event_script.specs.Text.{removed_text, found_text, place_text, frame_text};
-ghost use Rattle.event_script.specs.Text.{frame_line, end_text, end_line, trace_lines};
+ghost use Rattle.event_script.specs.Text.{removed_text, replaced_text, found_text, place_text};
+ghost use Rattle.event_script.specs.Text.{frame_text, frame_line, end_text, end_line};
+ghost use Rattle.event_script.specs.Text.{trace_lines};
 ghost use Rattle.event_script.specs.Text.{answer_line, answer_lines, event_line, addresses_text};
 ghost use Rattle.event_script.specs.Text.{event_number};
 ghost use Rattle.event_script.specs.Text.{answer_text, numbered, thread_text, updates_text};
@@ -15,7 +16,7 @@ ghost use Rattle.event_script.specs.Text.{journal_text};
 use crate::journal::{Answer, Journal};
 use crate::print::line::LineEnd;
 use crate::print::numbers::put_decimal_after;
-use reg_model::{Found, Inserted, Loading, Member, NoMemory, Place, Removed};
+use reg_model::{Found, Inserted, Loading, Member, NoMemory, Place, Removed, Replaced};
 use std::alloc::{AllocError, Global};
 use unwind_step::{End, FrameLine, Trace};
 
@@ -251,6 +252,11 @@ fn prepend_answer(end: &mut LineEnd, answer: &Answer)
             end.prepend(" ");
             prepend_address(end, "deregister ", *base);
         }
+        Answer::Replace { image, answer } => {
+            prepend_replaced(end, answer);
+            end.prepend(" ");
+            prepend_number_after(end, "replace ", *image);
+        }
         Answer::Load { image, answer } => {
             prepend_loading(end, answer);
             end.prepend(" ");
@@ -322,6 +328,22 @@ fn prepend_removed(end: &mut LineEnd, answer: &Removed)
         }
         Removed::NotFound { stamp } => prepend_number_after(end, "absent at ", *stamp),
         Removed::Spent => {}
+    }
+}
+
+/// Puts the answer to a replacement, with the image that was there before, before a line's end.
+fn prepend_replaced(end: &mut LineEnd, answer: &Replaced)
+    requires { 52 + length end.old ≤ 272 }
+    ensures text { end.new ≡ replaced_text answer.now ++ end.old }
+    ensures short { length end.new ≤ 52 + length end.old }
+{
+    match answer {
+        Replaced::Done { number, payload } => {
+            prepend_number_after(end, " image ", *payload);
+            prepend_number_after(end, "done ", *number);
+        }
+        Replaced::NotFound { stamp } => prepend_number_after(end, "absent at ", *stamp),
+        Replaced::Spent => {}
     }
 }
 

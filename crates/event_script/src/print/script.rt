@@ -23,7 +23,7 @@ pub fn print_script(alloc: Global, script: &Script) -> Result<Vec<u8>, NoMemory>
     ensures text { IfOk result (λ text. text.items ≡ script_text script.now) }
 {
     let mut text = String::new(alloc);
-    text.push_str("frames 1\n")?;
+    put_number(&mut text, "frames", script.version)?;
     put_number(&mut text, "nodes", script.nodes)?;
     put_number(&mut text, "loads", script.loads)?;
     put_images(alloc, &mut text, &script.images, &script.sections)?;
@@ -190,6 +190,7 @@ fn put_event(text: &mut String, event: &Event) -> Result<(), AllocError>
     match event {
         Event::Register { image } => write!(text, "register {image}\n"),
         Event::Deregister { base } => write!(text, "deregister {base:x}\n"),
+        Event::Replace { image } => write!(text, "replace {image}\n"),
         Event::Load { image } => write!(text, "load {image}\n"),
         Event::Unload { base } => write!(text, "unload {base:x}\n"),
         Event::Find { pc } => write!(text, "find {pc:x}\n"),

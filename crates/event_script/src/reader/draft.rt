@@ -2,6 +2,7 @@
 
 ghost use Rattle.std.specs.Prelude.{◌≡◌, ◌≤◌, Ok, Err, [], length, if◌then◌else◌};
 ghost use Rattle.frame_parse.specs.Reading.{section_of};
+ghost use Rattle.event_script.specs.ScriptData.{counts_of};
 ghost use Rattle.event_script.specs.Fields.{fields_after, is_printable, pieces};
 ghost use Rattle.event_script.specs.declared.limits.TheConstants.{MOST_SECTION_BYTES};
 ghost use Rattle.event_script.specs.declared.reader.kinds.Stage.TheVariants as stage;
@@ -15,8 +16,8 @@ ghost use Rattle.event_script.specs.Reading.{after_line, at_end, by_word};
 ghost use Rattle.event_script.specs.declared.reader.fault.Reason.TheVariants as reason;
 
 use crate::limits::{
-    LEAST_LOADS, LEAST_NODES, MOST_EVENTS, MOST_IMAGES, MOST_LOADS, MOST_NODES, MOST_ROUNDS,
-    MOST_SECTION_BYTES, MOST_SNAPSHOTS, MOST_THREADS, VERSION,
+    FIRST_VERSION, LAST_VERSION, LEAST_LOADS, LEAST_NODES, MOST_EVENTS, MOST_IMAGES, MOST_LOADS,
+    MOST_NODES, MOST_ROUNDS, MOST_SECTION_BYTES, MOST_SNAPSHOTS, MOST_THREADS,
 };
 use crate::reader::events::event_of;
 use crate::reader::fault::{LineFault, Reason};
@@ -40,6 +41,7 @@ use std::mem::replace;
 #[derive(Drop)]
 pub struct Draft {
     pub stage: Stage,
+    pub version: u32,
     pub nodes: u32,
     pub loads: u32,
     pub images: Vec<Span>,
@@ -67,6 +69,7 @@ impl Model for Draft {
     ghost view = { λ d. record {
       stage = d.stage;
       script = record {
+        version = d.version;
         nodes = d.nodes;
         loads = d.loads;
         images = d.images.items;
@@ -109,17 +112,6 @@ fn is_above_last(images: &[Span], fixed: &[u32], span: &Span) -> bool
     }
 }
 
-/// Whether the event names nothing that there isn't.
-fn is_named(images: usize, snapshots: usize, event: Event) -> bool
-    ensures { result ≡ is_named (record { images = images; snapshots = snapshots }) event }
-{
-    match event {
-        Event::Register { image } | Event::Load { image } => (image as usize) < images,
-        Event::Unwind { snapshot } => (snapshot as usize) < snapshots,
-        _ => true,
-    }
-}
-
 /// Where no snapshot goes on.
 fn no_snapshot(alloc: Global) -> SnapshotDraft
     ensures { result ≡ no_snapshot }
@@ -134,6 +126,7 @@ impl Draft {
     {
         Draft {
             stage: Stage::Version,
+            version: 0,
             nodes: 0,
             loads: 0,
             images: Vec::new(alloc),
@@ -191,10 +184,11 @@ impl Draft {
     fn version(&mut self, version: u32) -> Result<(), LineFault>
         ensures { LeavesDraft self.new result (added self.old (statement.Version version)) }
     {
-        if version != VERSION {
+        if version < FIRST_VERSION || LAST_VERSION < version {
             return Err(Reason::Limit.into());
         }
         self.stage = Stage::Nodes;
+        self.version = version;
         Ok(())
     }
 
@@ -295,6 +289,19 @@ impl Draft {
         Ok(())
     }
 
+    /// Whether the event names nothing that there isn't.
+    fn is_named(&self, event: Event) -> bool
+        ensures { result ≡ is_named (counts_of self.now.script) event }
+    {
+        match event {
+            Event::Register { image } | Event::Replace { image } | Event::Load { image } => {
+                (image as usize) < self.images.len()
+            }
+            Event::Unwind { snapshot } => (snapshot as usize) < self.snapshots.len(),
+            _ => true,
+        }
+    }
+
     #[tactic(auto, unfolding(crate::specs::Reading::added))]
     fn event(&mut self, event: Event) -> Result<(), LineFault>
         ensures { LeavesDraft self.new result (added self.old (statement.Event event)) }
@@ -302,7 +309,7 @@ impl Draft {
         if self.events.len() >= MOST_EVENTS || !self.totals.has_room(event) {
             return Err(Reason::Limit.into());
         }
-        if !is_named(self.images.len(), self.snapshots.len(), event) {
+        if !self.is_named(event) {
             return Err(Reason::Name.into());
         }
         self.totals.add(event);
@@ -358,7 +365,7 @@ impl Draft {
         }
         let (word, rest) = first_field(line);
         let kind = kind_of(word).ok_or(Reason::Word)?;
-        if !may_come(self.stage, kind) {
+        if !may_come(self.version, self.stage, kind) {
             return Err(Reason::Word.into());
         }
         self.read_fields(alloc, kind, rest)
@@ -369,7 +376,7 @@ impl Draft {
         requires { self.old.stage ≡ stage.Thread }
         ensures { LeavesDraft self.new result (after_line self.old line.now) }
     {
-        match event_of(line) {
+        match event_of(self.version, line) {
             Some(event) => self.event(event),
             None => self.read_by_fields(alloc, line),
         }

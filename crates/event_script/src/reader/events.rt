@@ -1,10 +1,13 @@
 //! Lines of events, as nearly all are: read at once, where nothing is wrong with them.
 
-ghost use Rattle.std.specs.Prelude.{◌≡◌, ◌^◌, ◌<◌, ◌++◌, IfSome, decimal};
+ghost use Rattle.std.specs.Prelude.{◌≡◌, ◌^◌, ◌<◌, ◌++◌, true, IfSome, decimal};
 ghost use Rattle.event_script.specs.Digits.{hex};
-ghost use Rattle.event_script.specs.Statements.{HasEventForm};
+ghost use Rattle.event_script.specs.Draft.{may_come};
+ghost use Rattle.event_script.specs.Statements.{HasEventForm, kind_of_event};
+ghost use Rattle.event_script.specs.declared.reader.kinds.Stage.TheVariants as stage;
 ghost use Rattle.event_script.specs.EventLines.{event_spelling};
 
+use crate::limits::REPLACE_VERSION;
 use crate::reader::numbers::{decimal_in, hex_in};
 use crate::script::Event;
 
@@ -44,10 +47,11 @@ fn hex_after(line: &[u8], word: &[u8]) -> Option<u64>
     hex_in(after_word(line, word)?)
 }
 
-/// The event that the line spells. None where it spells none: then the line is read field by field,
-/// which finds the reason.
-pub fn event_of(line: &[u8]) -> Option<Event>
-    ensures { IfSome result (λ event. HasEventForm event × (line.now ≡ event_spelling event)) }
+/// The event of the version that the line spells. None where it spells none: then the line is read
+/// field by field, which finds the reason.
+pub fn event_of(version: u32, line: &[u8]) -> Option<Event>
+    ensures { IfSome result (λ event. HasEventForm event × (line.now ≡ event_spelling event)
+        × (may_come version stage.Thread (kind_of_event event) ≡ true)) }
 {
     if let Some(pc) = hex_after(line, b"find ") {
         return Some(Event::Find { pc });
@@ -57,6 +61,11 @@ pub fn event_of(line: &[u8]) -> Option<Event>
     }
     if let Some(base) = hex_after(line, b"deregister ") {
         return Some(Event::Deregister { base });
+    }
+    if version >= REPLACE_VERSION {
+        if let Some(image) = decimal_after(line, b"replace ") {
+            return Some(Event::Replace { image });
+        }
     }
     if let Some(image) = decimal_after(line, b"load ") {
         return Some(Event::Load { image });

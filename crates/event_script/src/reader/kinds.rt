@@ -3,6 +3,9 @@
 ghost use Rattle.std.specs.Prelude.{◌≡◌};
 ghost use Rattle.event_script.specs.Draft.{may_come};
 ghost use Rattle.event_script.specs.Reading.{kind_of};
+ghost use Rattle.event_script.specs.declared.reader.kinds.Stage.TheVariants as stage;
+
+use crate::limits::REPLACE_VERSION;
 
 /// How far a script has come: which lines may come next.
 #[derive(Clone, Copy, Debug, PartialEq, Eq)]
@@ -39,6 +42,7 @@ pub enum Kind {
     Thread,
     Register,
     Deregister,
+    Replace,
     Load,
     Unload,
     Find,
@@ -57,6 +61,8 @@ pub fn kind_of(word: &[u8]) -> Option<Kind>
         Some(Kind::Register)
     } else if word == b"deregister".as_slice() {
         Some(Kind::Deregister)
+    } else if word == b"replace".as_slice() {
+        Some(Kind::Replace)
     } else if word == b"load".as_slice() {
         Some(Kind::Load)
     } else if word == b"unload".as_slice() {
@@ -88,9 +94,9 @@ pub fn kind_of(word: &[u8]) -> Option<Kind>
     }
 }
 
-/// Whether a line of the kind may come.
-pub fn may_come(stage: Stage, kind: Kind) -> bool
-    ensures { result ≡ may_come stage kind }
+/// Whether a line of the kind may come in a script of the version.
+pub fn may_come(version: u32, stage: Stage, kind: Kind) -> bool
+    ensures { result ≡ may_come version stage kind }
 {
     match stage {
         Stage::Version => matches!(kind, Kind::Version),
@@ -106,18 +112,20 @@ pub fn may_come(stage: Stage, kind: Kind) -> bool
             Kind::Snapshot | Kind::Memory | Kind::Round | Kind::End
         ),
         Stage::Round => matches!(kind, Kind::Round | Kind::Thread | Kind::End),
-        Stage::Thread => matches!(
-            kind,
-            Kind::Round
-                | Kind::Thread
-                | Kind::End
-                | Kind::Register
-                | Kind::Deregister
-                | Kind::Load
-                | Kind::Unload
-                | Kind::Find
-                | Kind::Unwind
-        ),
+        Stage::Thread => may_come_in_thread(version, kind),
         Stage::Ended => false,
+    }
+}
+
+/// Whether a line of the kind may come where a thread has begun.
+fn may_come_in_thread(version: u32, kind: Kind) -> bool
+    ensures { result ≡ may_come version stage.Thread kind }
+{
+    match kind {
+        Kind::Replace => version >= REPLACE_VERSION,
+        Kind::Round | Kind::Thread | Kind::End => true,
+        Kind::Register | Kind::Deregister | Kind::Load | Kind::Unload => true,
+        Kind::Find | Kind::Unwind => true,
+        _ => false,
     }
 }

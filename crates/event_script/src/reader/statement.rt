@@ -107,6 +107,10 @@ pub fn statement_of(alloc: Global, kind: Kind, rest: &[u8]) -> Result<Statement,
             let base = one_hex(rest)?;
             Ok(Statement::Event(Event::Deregister { base }))
         }
+        Kind::Replace => {
+            let image = one_decimal(rest)?;
+            Ok(Statement::Event(Event::Replace { image }))
+        }
         Kind::Load => {
             let image = one_decimal(rest)?;
             Ok(Statement::Event(Event::Load { image }))
