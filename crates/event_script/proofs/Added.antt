@@ -28,7 +28,7 @@ use Rattle.event_script.proofs.Sections.{section_visible, digits_visible}
 
 -- the line may come, and no reason speaks against it
 pub record CanAdd (known : DraftData) (s : Statement) : Type 0 where
-  pub may : may_come known.stage (kind_of_statement s) ≡ true
+  pub may : may_come known.script.version known.stage (kind_of_statement s) ≡ true
   pub form : HasForm s
   pub is : added known s ≡ Ok (with_statement known s)
 
@@ -37,10 +37,10 @@ abbrev pub Adds : DraftData → List Statement → DraftData → Type 0
 Adds known [] last = known ≡ last
 Adds known (s ∷ statements) last = CanAdd known s × Adds (with_statement known s) statements last
 
-pub open_still : (at : Stage) (k : Kind) → may_come at k ≡ true → is_ended at ≡ false
-open_still stage.Ended kind.Version e = absurd cc
-open_still stage.Ended _ e = absurd cc
-open_still _ _ e = refl
+pub open_still : (version : ℕ) (at : Stage) (k : Kind) → may_come version at k ≡ true → is_ended at ≡ false
+open_still version stage.Ended kind.Version e = absurd cc
+open_still version stage.Ended _ e = absurd cc
+open_still version _ _ e = refl
 
 pub hexes_visible : (numbers : List ℕ) → AllByRecursion (λ n. n < 2 ^ 64) numbers → AllByRecursion IsVisible (map hex numbers)
 hexes_visible [] small = tt
@@ -59,6 +59,7 @@ visible statement.Round form = (word_visible kind.Round, tt)
 visible statement.Thread form = (word_visible kind.Thread, tt)
 visible (statement.Event (event.Register image)) form = (word_visible kind.Register, (decimal_visible image form, tt))
 visible (statement.Event (event.Deregister base)) form = (word_visible kind.Deregister, (hex_visible base form, tt))
+visible (statement.Event (event.Replace image)) form = (word_visible kind.Replace, (decimal_visible image form, tt))
 visible (statement.Event (event.Load image)) form = (word_visible kind.Load, (decimal_visible image form, tt))
 visible (statement.Event (event.Unload base)) form = (word_visible kind.Unload, (hex_visible base form, tt))
 visible (statement.Event (event.Find pc)) form = (word_visible kind.Find, (hex_visible pc form, tt))
@@ -71,9 +72,9 @@ word_added known s can =
     let k = kind_of_statement s in
     let fields = statement_fields s in
     let say = λ (k : Kind). statement_of k fields >=> λ s. added known s in
-    let given = λ (k : Kind). cond (may_come known.stage k) (say k) (Err reason.Word) in
+    let given = λ (k : Kind). cond (may_come known.script.version known.stage k) (say k) (Err reason.Word) in
     ap (λ (o : Option Kind). ok_or o reason.Word >=> given) (word_again k)
-    ∙ cond-true (may_come known.stage k) (say k) (Err reason.Word) can.may
+    ∙ cond-true (may_come known.script.version known.stage k) (say k) (Err reason.Word) can.may
     ∙ ap (λ (r : Result Statement Reason). r >=> λ s. added known s) (said_again s can.form)
     ∙ can.is
 
@@ -81,7 +82,7 @@ pub line_added : (known : DraftData) (s : Statement) → CanAdd known s → afte
 unfolding after_line
 line_added known s can =
     let line = join 32 (statement_line s) in
-    cond-false (is_ended known.stage) (Err reason.After) (cond (is_printable line) (by_word known (pieces 32 line)) (Err reason.Byte)) (open_still known.stage (kind_of_statement s) can.may)
+    cond-false (is_ended known.stage) (Err reason.After) (cond (is_printable line) (by_word known (pieces 32 line)) (Err reason.Byte)) (open_still known.script.version known.stage (kind_of_statement s) can.may)
     ∙ cond-true (is_printable line) (by_word known (pieces 32 line)) (Err reason.Byte) (printable_again (statement_line s) (visible s can.form))
     ∙ ap (by_word known) (fields_again (word_of (kind_of_statement s)) (statement_fields s) (visible s can.form))
     ∙ word_added known s can

@@ -119,21 +119,22 @@ record CanEnd (known : DraftData) : Type 0 where
   is : body_statements script ++ statement.End ∷ [] ≡ statements_so_far known ++ more
 
 -- the least script: nothing stands in it
-abbrev least : ℕ → ℕ → ScriptData
-least nodes loads = record { nodes = nodes; loads = loads; images = []; sections = []; fixed = []; snapshots = []; rounds = [] }
+abbrev least : ℕ → ℕ → ℕ → ScriptData
+least version nodes loads = record { version = version; nodes = nodes; loads = loads; images = []; sections = []; fixed = []; snapshots = []; rounds = [] }
 
-abbrev none_there : Counts
-none_there = record { images = 0; snapshots = 0 }
+abbrev none_there : ℕ → Counts
+none_there version = record { version = version; images = 0; snapshots = 0 }
 
-least_runs : (nodes loads : ℕ) → (4 ≤ nodes) × (nodes ≤ 16384) → (1 ≤ loads) × (loads ≤ 1024) → IsRunnable (least nodes loads)
-least_runs nodes loads some_nodes some_loads = record {
+least_runs : (version nodes loads : ℕ) → (1 ≤ version) × (version ≤ 2) → (4 ≤ nodes) × (nodes ≤ 16384) → (1 ≤ loads) × (loads ≤ 1024) → IsRunnable (least version nodes loads)
+least_runs version nodes loads known_version some_nodes some_loads = record {
+  version = known_version;
   nodes = some_nodes;
   loads = some_loads;
   images = (omega arith, at_first.spans);
   sections = (refl, at_first.sections);
   fixed = no_fixed [];
   snapshots = no_snapshots;
-  rounds = (omega arith, no_rounds none_there);
+  rounds = (omega arith, no_rounds (none_there version));
   unwinds = omega arith;
 }
 
@@ -144,9 +145,10 @@ module _ (script : ScriptData) (snapshot : SnapshotData) (threads : List (List E
   abbrev with_all : List SnapshotData → List (List (List Event)) → ScriptData
   with_all snapshots rounds = record script { snapshots = snapshots; rounds = rounds }
 
-  with_rounds : (at : Stage) (snapshots : List SnapshotData) (rounds : List (List (List Event))) → (length snapshots ≤ 4096) × All IsSnapshot snapshots → (4 ≤ script.nodes) × (script.nodes ≤ 16384) → (1 ≤ script.loads) × (script.loads ≤ 1024) → Sound (so_far at) → Totalled totals rounds
-      → AreRounds (record { images = length script.images; snapshots = length snapshots }) rounds → IsRunnable (with_all snapshots rounds)
-  with_rounds at snapshots rounds some nodes loads s t are = record {
+  with_rounds : (at : Stage) (snapshots : List SnapshotData) (rounds : List (List (List Event))) → (length snapshots ≤ 4096) × All IsSnapshot snapshots → (1 ≤ script.version) × (script.version ≤ 2) → (4 ≤ script.nodes) × (script.nodes ≤ 16384) → (1 ≤ script.loads) × (script.loads ≤ 1024) → Sound (so_far at) → Totalled totals rounds
+      → AreRounds (record { version = script.version; images = length script.images; snapshots = length snapshots }) rounds → IsRunnable (with_all snapshots rounds)
+  with_rounds at snapshots rounds some version nodes loads s t are = record {
+    version = version;
     nodes = nodes;
     loads = loads;
     images = (s.count, s.spans);
@@ -162,24 +164,24 @@ module _ (script : ScriptData) (snapshot : SnapshotData) (threads : List (List E
   ends_with at snapshots rounds is can = record { script = with_all snapshots rounds; more = statement.End ∷ []; runnable = can; is = ap (λ (x : List Statement). x ++ statement.End ∷ []) is }
 
   can_end : (at : Stage) → Sound (so_far at) → CanEnd (so_far at)
-  can_end stage.Version s = record { script = least 4 1; more = body_statements (least 4 1) ++ statement.End ∷ []; runnable = least_runs 4 1 (omega arith, omega arith) (omega arith, omega arith); is = refl }
-  can_end stage.Nodes s = record { script = least 4 1; more = statement.Nodes 4 ∷ statement.Loads 1 ∷ statement.End ∷ []; runnable = least_runs 4 1 (omega arith, omega arith) (omega arith, omega arith); is = refl }
-  can_end stage.Loads s = record { script = least script.nodes 1; more = statement.Loads 1 ∷ statement.End ∷ []; runnable = least_runs script.nodes 1 s.nodes (omega arith, omega arith); is = refl }
-  can_end stage.Images s = ends_with stage.Images script.snapshots script.rounds refl (with_rounds stage.Images script.snapshots script.rounds s.snapshots s.nodes s.loads s s.totals (early_rounds (counts_of script) script.rounds s.shape.0))
-  can_end stage.Fixed s = ends_with stage.Fixed script.snapshots script.rounds refl (with_rounds stage.Fixed script.snapshots script.rounds s.snapshots s.nodes s.loads s s.totals (early_rounds (counts_of script) script.rounds s.shape.0))
+  can_end stage.Version s = record { script = least 1 4 1; more = body_statements (least 1 4 1) ++ statement.End ∷ []; runnable = least_runs 1 4 1 (omega arith, omega arith) (omega arith, omega arith) (omega arith, omega arith); is = refl }
+  can_end stage.Nodes s = record { script = least script.version 4 1; more = statement.Nodes 4 ∷ statement.Loads 1 ∷ statement.End ∷ []; runnable = least_runs script.version 4 1 s.version (omega arith, omega arith) (omega arith, omega arith); is = refl }
+  can_end stage.Loads s = record { script = least script.version script.nodes 1; more = statement.Loads 1 ∷ statement.End ∷ []; runnable = least_runs script.version script.nodes 1 s.version s.nodes (omega arith, omega arith); is = refl }
+  can_end stage.Images s = ends_with stage.Images script.snapshots script.rounds refl (with_rounds stage.Images script.snapshots script.rounds s.snapshots s.version s.nodes s.loads s s.totals (early_rounds (counts_of script) script.rounds s.shape.0))
+  can_end stage.Fixed s = ends_with stage.Fixed script.snapshots script.rounds refl (with_rounds stage.Fixed script.snapshots script.rounds s.snapshots s.version s.nodes s.loads s s.totals (early_rounds (counts_of script) script.rounds s.shape.0))
   can_end stage.Snapshots s =
       let stacks = script.snapshots ++ snapshot ∷ [] in
       let some = open_snapshots script snapshot threads events totals (s.shape.2, s.shape.3) s.snapshots in
-      let are = early_rounds (record { images = length script.images; snapshots = length stacks }) script.rounds s.shape.0 in
-      ends_with stage.Snapshots stacks script.rounds refl (with_rounds stage.Snapshots stacks script.rounds some s.nodes s.loads s s.totals are)
+      let are = early_rounds (record { version = script.version; images = length script.images; snapshots = length stacks }) script.rounds s.shape.0 in
+      ends_with stage.Snapshots stacks script.rounds refl (with_rounds stage.Snapshots stacks script.rounds some s.version s.nodes s.loads s s.totals are)
   can_end stage.Round s =
       let rounds = script.rounds ++ threads ∷ [] in
-      ends_with stage.Round script.snapshots rounds refl (with_rounds stage.Round script.snapshots rounds s.snapshots s.nodes s.loads s s.totals (round_rounds script snapshot threads events totals s))
+      ends_with stage.Round script.snapshots rounds refl (with_rounds stage.Round script.snapshots rounds s.snapshots s.version s.nodes s.loads s s.totals (round_rounds script snapshot threads events totals s))
   can_end stage.Thread s =
       let rounds = script.rounds ++ (threads ++ events ∷ []) ∷ [] in
-      ends_with stage.Thread script.snapshots rounds refl (with_rounds stage.Thread script.snapshots rounds s.snapshots s.nodes s.loads s s.totals (thread_rounds script snapshot threads events totals s))
+      ends_with stage.Thread script.snapshots rounds refl (with_rounds stage.Thread script.snapshots rounds s.snapshots s.version s.nodes s.loads s s.totals (thread_rounds script snapshot threads events totals s))
   can_end stage.Ended s =
-      let can = with_rounds stage.Ended script.snapshots script.rounds s.snapshots s.nodes s.loads s s.totals (record { few = s.shape; each = s.rounds }) in
+      let can = with_rounds stage.Ended script.snapshots script.rounds s.snapshots s.version s.nodes s.loads s s.totals (record { few = s.shape; each = s.rounds }) in
       record { script = script; more = []; runnable = can; is = sym (append-nil (body_statements script ++ statement.End ∷ [])) }
 
 -- good lines are the text of what they make known

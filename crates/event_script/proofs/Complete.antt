@@ -36,12 +36,12 @@ use Rattle.event_script.proofs.Added.{Adds, CanAdd, adds_then, reads_all}
 abbrev good : DraftData → Result DraftData Reason
 good known = Ok known
 
-module _ (nodes loads : ℕ) where
+module _ (version nodes loads : ℕ) where
   -- where these rounds are over
   abbrev at_rounds : Stage → List SpanData → List SectionData → List ℕ → List SnapshotData → SnapshotData → List (List (List Event)) → DraftData
   at_rounds stage images sections fixed snapshots snapshot rounds = record {
     stage = stage;
-    script = record { nodes = nodes; loads = loads; images = images; sections = sections; fixed = fixed; snapshots = snapshots; rounds = rounds };
+    script = record { version = version; nodes = nodes; loads = loads; images = images; sections = sections; fixed = fixed; snapshots = snapshots; rounds = rounds };
     snapshot = snapshot;
     threads = [];
     events = [];
@@ -52,12 +52,12 @@ module _ (nodes loads : ℕ) where
   abbrev at : Stage → List SpanData → List SectionData → List ℕ → List SnapshotData → SnapshotData → DraftData
   at stage images sections fixed snapshots snapshot = at_rounds stage images sections fixed snapshots snapshot []
 
-  adds_first : 4 ≤ nodes → nodes ≤ 16384 → 1 ≤ loads → loads ≤ 1024 → Adds nothing_known (first_statements nodes loads) (at stage.Images [] [] [] [] no_snapshot)
+  adds_first : 1 ≤ version → version ≤ 2 → 4 ≤ nodes → nodes ≤ 16384 → 1 ≤ loads → loads ≤ 1024 → Adds nothing_known (first_statements version nodes loads) (at stage.Images [] [] [] [] no_snapshot)
   unfolding added
-  adds_first low high least most =
-      let nodes_known : DraftData = with_statement nothing_known (statement.Version 1) in
+  adds_first first last low high least most =
+      let nodes_known : DraftData = with_statement nothing_known (statement.Version version) in
       let loads_known : DraftData = with_statement nodes_known (statement.Nodes nodes) in (
-        record { may = refl; form = omega arith; is = refl },
+        record { may = refl; form = omega arith; is = cond-true (leb 1 version && leb version 2) (good nodes_known) (Err reason.Limit) (and_from _ _ (le-leb 1 version first) (le-leb version 2 last)) },
         (
           record { may = refl; form = omega arith; is = cond-true (leb 4 nodes && leb nodes 16384) (good loads_known) (Err reason.Limit) (and_from _ _ (le-leb 4 nodes low) (le-leb nodes 16384 high)) },
           (
@@ -158,7 +158,7 @@ module _ (nodes loads : ℕ) where
     abbrev IsThere : ℕ → Type 0
     IsThere image = image < length images
 
-    fixed_can : (start : Stage) (front : List ℕ) (image : ℕ) → may_come start kind.Fixed ≡ true → image < length images → is_above (last_fixed images front) (span_of images image) ≡ true → CanAdd (with_fixed start front) (statement.Fixed image)
+    fixed_can : (start : Stage) (front : List ℕ) (image : ℕ) → may_come version start kind.Fixed ≡ true → image < length images → is_above (last_fixed images front) (span_of images image) ≡ true → CanAdd (with_fixed start front) (statement.Fixed image)
     unfolding added
     fixed_can start front image may named above =
         let next = with_fixed stage.Fixed (front ++ image ∷ []) in
@@ -174,7 +174,7 @@ module _ (nodes loads : ℕ) where
     named_in [] image fixed named = All-head IsThere image fixed named
     named_in (x ∷ front) image fixed named = named_in front image fixed (All-tail IsThere x (front ++ image ∷ fixed) named)
 
-    adds_fixed : (start : Stage) (front fixed : List ℕ) → may_come start kind.Fixed ≡ true → AreFixed images (front ++ fixed) → Adds (with_fixed start front) (map statement.Fixed fixed) (with_fixed (after_fixed start fixed) (front ++ fixed))
+    adds_fixed : (start : Stage) (front fixed : List ℕ) → may_come version start kind.Fixed ≡ true → AreFixed images (front ++ fixed) → Adds (with_fixed start front) (map statement.Fixed fixed) (with_fixed (after_fixed start fixed) (front ++ fixed))
     adds_fixed start front [] may are = ap (with_fixed start) (sym (append-nil front))
     adds_fixed start front (image ∷ fixed) may are =
         let regrouped : (front ++ image ∷ []) ++ fixed ≡ front ++ image ∷ fixed = append_assoc front (image ∷ []) fixed in
@@ -187,9 +187,9 @@ module _ (nodes loads : ℕ) where
 
     -- before the first round
     record IsEarly (start : Stage) : Type 0 where
-      may_stack : may_come start kind.Snapshot ≡ true
-      may_begin : may_come start kind.Round ≡ true
-      may_end : may_come start kind.End ≡ true
+      may_stack : may_come version start kind.Snapshot ≡ true
+      may_begin : may_come version start kind.Round ≡ true
+      may_end : may_come version start kind.End ≡ true
       none : rounds_at start [] [] [] ≡ []
 
     early : (fixed : List ℕ) → IsEarly (after_fixed stage.Images fixed)
@@ -206,7 +206,7 @@ module _ (nodes loads : ℕ) where
       abbrev with_stacks : Stage → List SnapshotData → SnapshotData → DraftData
       with_stacks start snapshots snapshot = at start images sections fixed snapshots snapshot
 
-      snapshot_can : (start : Stage) (front : List SnapshotData) (snapshot : SnapshotData) (fields : SnapshotFields) → may_come start kind.Snapshot ≡ true → fields.number ≡ length (snapshots_at start front snapshot) → length (snapshots_at start front snapshot) < 4096
+      snapshot_can : (start : Stage) (front : List SnapshotData) (snapshot : SnapshotData) (fields : SnapshotFields) → may_come version start kind.Snapshot ≡ true → fields.number ≡ length (snapshots_at start front snapshot) → length (snapshots_at start front snapshot) < 4096
           → length fields.regs.columns ≡ 17 → All (λ n. n < 2 ^ 64) fields.regs.columns → CanAdd (with_stacks start front snapshot) (statement.Snapshot fields)
       unfolding added
       snapshot_can start front snapshot fields may number room count small =
@@ -245,7 +245,7 @@ module _ (nodes loads : ℕ) where
           )
 
       -- a snapshot, after the others
-      adds_snapshot : (start : Stage) (front : List SnapshotData) (before snapshot : SnapshotData) (number : ℕ) → may_come start kind.Snapshot ≡ true → number ≡ length (snapshots_at start front before) → length (snapshots_at start front before) < 4096 → IsSnapshot snapshot
+      adds_snapshot : (start : Stage) (front : List SnapshotData) (before snapshot : SnapshotData) (number : ℕ) → may_come version start kind.Snapshot ≡ true → number ≡ length (snapshots_at start front before) → length (snapshots_at start front before) < 4096 → IsSnapshot snapshot
           → Adds (with_stacks start front before) (snapshot_lines number snapshot) (with_stacks stage.Snapshots (snapshots_at start front before) snapshot)
       adds_snapshot start front before snapshot number may same room is = (
         snapshot_can start front before (record { number = number; regs = snapshot.regs }) may same room is.count is.columns,
@@ -279,7 +279,7 @@ module _ (nodes loads : ℕ) where
 
     -- ---- before the first round
 
-    early_open : (fixed : List ℕ) (snapshots : List SnapshotData) (few_stacks : length snapshots ≤ 4096) (start : Stage) (so_far : List SnapshotData) (snapshot : SnapshotData) → IsEarly start → snapshots_at start so_far snapshot ≡ snapshots → IsOpen nodes loads images sections few fixed snapshots few_stacks [] (at start images sections fixed so_far snapshot)
+    early_open : (fixed : List ℕ) (snapshots : List SnapshotData) (few_stacks : length snapshots ≤ 4096) (start : Stage) (so_far : List SnapshotData) (snapshot : SnapshotData) → IsEarly start → snapshots_at start so_far snapshot ≡ snapshots → IsOpen version nodes loads images sections few fixed snapshots few_stacks [] (at start images sections fixed so_far snapshot)
     early_open fixed snapshots few_stacks start so_far snapshot is all = record {
       may_begin = is.may_begin;
       may_end = is.may_end;
@@ -297,24 +297,24 @@ script_adds bytes s is =
     let spans = recursion_from_All IsSpan s.images run.images.1 in
     let sections = recursion_from_All IsSectionOf s.sections run.sections.1 in
     let are = recursion_from_All (IsRound (counts_of s)) s.rounds run.rounds.1 in
-    let start = after_fixed s.nodes s.loads stage.Images s.fixed in
-    let at_first = at s.nodes s.loads stage.Images [] [] [] [] no_snapshot in
-    let at_images = at s.nodes s.loads stage.Images s.images s.sections [] [] no_snapshot in
-    let at_fixed = at s.nodes s.loads start s.images s.sections s.fixed [] no_snapshot in
-    let first = adds_first s.nodes s.loads run.nodes.0 run.nodes.1 run.loads.0 run.loads.1 in
-    let images = adds_images s.nodes s.loads [] s.images 0 [] s.sections refl run.sections.0 (omega (arith, few)) spans sections in
-    let fixed = adds_fixed s.nodes s.loads s.images s.sections few stage.Images [] s.fixed refl run.fixed in
-    let is_early = early s.nodes s.loads s.images s.sections few s.fixed in
-    let none : snapshots_at start [] no_snapshot ≡ [] = none_stacked s.nodes s.loads s.fixed in
+    let start = after_fixed s.version s.nodes s.loads stage.Images s.fixed in
+    let at_first = at s.version s.nodes s.loads stage.Images [] [] [] [] no_snapshot in
+    let at_images = at s.version s.nodes s.loads stage.Images s.images s.sections [] [] no_snapshot in
+    let at_fixed = at s.version s.nodes s.loads start s.images s.sections s.fixed [] no_snapshot in
+    let first = adds_first s.version s.nodes s.loads run.version.0 run.version.1 run.nodes.0 run.nodes.1 run.loads.0 run.loads.1 in
+    let images = adds_images s.version s.nodes s.loads [] s.images 0 [] s.sections refl run.sections.0 (omega (arith, few)) spans sections in
+    let fixed = adds_fixed s.version s.nodes s.loads s.images s.sections few stage.Images [] s.fixed refl run.fixed in
+    let is_early = early s.version s.nodes s.loads s.images s.sections few s.fixed in
+    let none : snapshots_at start [] no_snapshot ≡ [] = none_stacked s.version s.nodes s.loads s.fixed in
     let no_count : length (snapshots_at start [] no_snapshot) ≡ 0 = ap (λ (x : List SnapshotData). length x) none in
     let some = run.snapshots.0 in
-    let stacks = adds_snapshots s.nodes s.loads s.images s.sections few s.fixed start [] no_snapshot 0 s.snapshots is_early (omega arith) (omega arith) (recursion_from_All IsSnapshot s.snapshots run.snapshots.1) in
+    let stacks = adds_snapshots s.version s.nodes s.loads s.images s.sections few s.fixed start [] no_snapshot 0 s.snapshots is_early (omega arith) (omega arith) (recursion_from_All IsSnapshot s.snapshots run.snapshots.1) in
     let all_stacks : snapshots_at stacks.last stacks.so_far stacks.snapshot ≡ s.snapshots = stacks.all ∙ ap (λ (x : List SnapshotData). x ++ s.snapshots) none in
-    let at_stacks = at s.nodes s.loads stacks.last s.images s.sections s.fixed stacks.so_far stacks.snapshot in
-    let opened = early_open s.nodes s.loads s.images s.sections few s.fixed s.snapshots some stacks.last stacks.so_far stacks.snapshot stacks.early all_stacks in
-    let rounds = adds_rounds s.nodes s.loads s.images s.sections few s.fixed s.snapshots some at_stacks [] s.rounds opened run.unwinds (omega (arith, run.rounds.0)) are in
-    let front = first_statements s.nodes s.loads ++ image_statements 0 s.images s.sections in
-    let one = adds_then nothing_known at_first at_images (first_statements s.nodes s.loads) (image_statements 0 s.images s.sections) first images in
+    let at_stacks = at s.version s.nodes s.loads stacks.last s.images s.sections s.fixed stacks.so_far stacks.snapshot in
+    let opened = early_open s.version s.nodes s.loads s.images s.sections few s.fixed s.snapshots some stacks.last stacks.so_far stacks.snapshot stacks.early all_stacks in
+    let rounds = adds_rounds s.version s.nodes s.loads s.images s.sections few s.fixed s.snapshots some at_stacks [] s.rounds opened run.unwinds (omega (arith, run.rounds.0)) are in
+    let front = first_statements s.version s.nodes s.loads ++ image_statements 0 s.images s.sections in
+    let one = adds_then nothing_known at_first at_images (first_statements s.version s.nodes s.loads) (image_statements 0 s.images s.sections) first images in
     let two = adds_then nothing_known at_images at_fixed front (map statement.Fixed s.fixed) one fixed in
     let three = adds_then nothing_known at_fixed at_stacks (front ++ map statement.Fixed s.fixed) (snapshot_statements 0 s.snapshots) two stacks.adds in
     let all = adds_then nothing_known at_stacks (whole s) (front ++ map statement.Fixed s.fixed ++ snapshot_statements 0 s.snapshots) (round_statements s.rounds ++ statement.End ∷ []) three rounds in

@@ -46,6 +46,7 @@ module _ (rounds : List (List (List Event))) (threads : List (List Event)) (even
   pub totals_event : (e : Event) → totals_of (grown e) ≡ with_event (totals_of begun) e
   totals_event (event.Register image) = ap these (omega (arith, unwinds_event (event.Register image)))
   totals_event (event.Deregister base) = ap these (omega (arith, unwinds_event (event.Deregister base)))
+  totals_event (event.Replace image) = ap these (omega (arith, unwinds_event (event.Replace image)))
   totals_event (event.Load image) = ap these (omega (arith, unwinds_event (event.Load image)))
   totals_event (event.Unload base) = ap these (omega (arith, unwinds_event (event.Unload base)))
   totals_event (event.Find pc) = ap these (omega (arith, unwinds_event (event.Find pc)))
@@ -71,6 +72,7 @@ module _ (totals : Totals) (rounds : List (List (List Event))) (threads : List (
   pub totalled_event : (e : Event) → has_room totals e ≡ true → Totalled (with_event totals e) (grown rounds threads events e)
   totalled_event (event.Register image) room = record { is = grown_totals (event.Register image); few = t.few }
   totalled_event (event.Deregister base) room = record { is = grown_totals (event.Deregister base); few = t.few }
+  totalled_event (event.Replace image) room = record { is = grown_totals (event.Replace image); few = t.few }
   totalled_event (event.Load image) room = record { is = grown_totals (event.Load image); few = t.few }
   totalled_event (event.Unload base) room = record { is = grown_totals (event.Unload base); few = t.few }
   totalled_event (event.Find pc) room = record { is = grown_totals (event.Find pc); few = t.few }

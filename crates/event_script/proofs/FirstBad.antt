@@ -44,7 +44,7 @@ image_made known next image e =
 
 pub added_makes : (known next : DraftData) (s : Statement) → added known s ≡ Ok next → with_statement known s ≡ next
 unfolding added
-added_makes known next (statement.Version version) e = (guard_last (eqb version 1) reason.Limit (with_statement known (statement.Version version)) next e).1
+added_makes known next (statement.Version version) e = (guard_last (leb 1 version && leb version 2) reason.Limit (with_statement known (statement.Version version)) next e).1
 added_makes known next (statement.Nodes nodes) e = (guard_last (leb 4 nodes && leb nodes 16384) reason.Limit (with_statement known (statement.Nodes nodes)) next e).1
 added_makes known next (statement.Loads loads) e = (guard_last (leb 1 loads && leb loads 1024) reason.Limit (with_statement known (statement.Loads loads)) next e).1
 added_makes known next (statement.Image image) e = image_made known next image e

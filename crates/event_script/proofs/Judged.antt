@@ -120,12 +120,14 @@ why_is known x y e = cc
 
 named_there : (known : DraftData) (e : Event) → is_named (counts_of known.script) e ≡ true → IsNameless known (statement.Event e) → ⊥
 named_there known (event.Register image) is past = let lt = ltb-true image (length known.script.images) is in absurd (omega arith)
+named_there known (event.Replace image) is past = let lt = ltb-true image (length known.script.images) is in absurd (omega arith)
 named_there known (event.Load image) is past = let lt = ltb-true image (length known.script.images) is in absurd (omega arith)
 named_there known (event.Unwind snapshot) is past = let lt = ltb-true snapshot (length known.script.snapshots) is in absurd (omega arith)
 named_there known _ is past = past
 
 named_missing : (known : DraftData) (e : Event) → is_named (counts_of known.script) e ≡ false → IsNameless known (statement.Event e)
 named_missing known (event.Register image) is = ltb-false image (length known.script.images) is
+named_missing known (event.Replace image) is = ltb-false image (length known.script.images) is
 named_missing known (event.Load image) is = ltb-false image (length known.script.images) is
 named_missing known (event.Unwind snapshot) is = ltb-false snapshot (length known.script.snapshots) is
 named_missing known _ is = absurd (true≢false is)
@@ -273,6 +275,7 @@ module _ (known : DraftData) (text : LineText) (e : Event) (says : Says text (st
   one_too_many (event.Unwind snapshot) is = ltb-false known.totals.unwinds 16384 is
   one_too_many (event.Register image) is = absurd cc
   one_too_many (event.Deregister base) is = absurd cc
+  one_too_many (event.Replace image) is = absurd cc
   one_too_many (event.Load image) is = absurd cc
   one_too_many (event.Unload base) is = absurd cc
   one_too_many (event.Find pc) is = absurd cc
@@ -281,6 +284,7 @@ module _ (known : DraftData) (text : LineText) (e : Event) (says : Says text (st
   not_too_many (event.Unwind snapshot) is many = (let few = ltb-true known.totals.unwinds 16384 is in omega arith)
   not_too_many (event.Register image) is many = many
   not_too_many (event.Deregister base) is many = many
+  not_too_many (event.Replace image) is many = many
   not_too_many (event.Load image) is many = many
   not_too_many (event.Unload base) is many = many
   not_too_many (event.Find pc) is many = many
@@ -302,7 +306,7 @@ module _ (known : DraftData) (text : LineText) (e : Event) (says : Says text (st
 pub judged_statement : (known : DraftData) (text : LineText) (s : Statement) → Says text s → Passed known text 9 → Judged known text (added known s)
 unfolding added
 judged_statement known text (statement.Version version) says before =
-    by_limit known text (statement.Version version) says before nothing nothing no_section nothing nothing nothing (eqb version 1) (λ is other. other (eqb-true _ _ is)) (λ is. eqb-false _ _ is) (with_statement known (statement.Version version))
+    by_limit known text (statement.Version version) says before nothing nothing no_section nothing nothing nothing (leb 1 version && leb version 2) (inside 1 2 version) (outside 1 2 version) (with_statement known (statement.Version version))
 judged_statement known text (statement.Nodes nodes) says before =
     by_limit known text (statement.Nodes nodes) says before nothing nothing no_section nothing nothing nothing (leb 4 nodes && leb nodes 16384) (inside 4 16384 nodes) (outside 4 16384 nodes) (with_statement known (statement.Nodes nodes))
 judged_statement known text (statement.Loads loads) says before =
@@ -331,7 +335,7 @@ module _ (known : DraftData) (line : List ℕ) where
         let same = same_kind other k others fields (sym other_is ∙ is) in
         refute (subst (λ (xs : Line). P k xs) same.1 (subst (λ (x : Kind). P x others) same.0 holds))
 
-    spoken_line : (k : Kind) (fields : Line) → pieces 32 line ≡ word_of k ∷ fields → may_come known.stage k ≡ true → Passed known here 7 → (given : Result Statement Reason) → statement_of k fields ≡ given → Judged known here (given >=> λ s. added known s)
+    spoken_line : (k : Kind) (fields : Line) → pieces 32 line ≡ word_of k ∷ fields → may_come known.script.version known.stage k ≡ true → Passed known here 7 → (given : Result Statement Reason) → statement_of k fields ≡ given → Judged known here (given >=> λ s. added known s)
     spoken_line k fields is may passed (Ok s) e =
         let says = spoken k fields s e in
         let same = same_kind k (kind_of_statement s) fields (statement_fields s) says.line in
@@ -348,16 +352,16 @@ module _ (known : DraftData) (line : List ℕ) where
         wrong_line reason.Spelling (count, refute) = refused known here reason.Spelling (pass_fields known here passed (of_kind k fields is (λ k fields. length fields ≢ length (forms k)) (λ other. other count))) (k, fields, is, may, refute)
         wrong_line _ refute = absurd refute
 
-    kind_line : (k : Kind) (fields : Line) → pieces 32 line ≡ word_of k ∷ fields → (t : Bool) → may_come known.stage k ≡ t → Judged known here (cond t (statement_of k fields >=> λ s. added known s) (Err reason.Word))
+    kind_line : (k : Kind) (fields : Line) → pieces 32 line ≡ word_of k ∷ fields → (t : Bool) → may_come known.script.version known.stage k ≡ t → Judged known here (cond t (statement_of k fields >=> λ s. added known s) (Err reason.Word))
     kind_line k fields is true may = spoken_line k fields is may (pass_word known here before (λ refute. refute k fields is may)) (statement_of k fields) refl
     kind_line k fields is false may = refused known here reason.Word before no_kind
       where
-        no_kind : (other : Kind) (others : Line) → pieces 32 line ≡ word_of other ∷ others → may_come known.stage other ≡ true → ⊥
-        no_kind other others other_is can = true≢false (sym can ∙ ap (may_come known.stage) (same_kind other k others fields (sym other_is ∙ is)).0 ∙ may)
+        no_kind : (other : Kind) (others : Line) → pieces 32 line ≡ word_of other ∷ others → may_come known.script.version known.stage other ≡ true → ⊥
+        no_kind other others other_is can = true≢false (sym can ∙ ap (may_come known.script.version known.stage) (same_kind other k others fields (sym other_is ∙ is)).0 ∙ may)
 
     word_line : (word : List ℕ) (fields : Line) → pieces 32 line ≡ word ∷ fields → (o : Option Kind) → kind_of word ≡ o
-        → Judged known here (ok_or o reason.Word >=> λ k. cond (may_come known.stage k) (statement_of k fields >=> λ s. added known s) (Err reason.Word))
-    word_line word fields is (Some k) e = kind_line k fields (is ∙ ap (λ (w : List ℕ). w ∷ fields) (kind_word word k (ap (λ (o : Option Kind). ok_or o reason.Word) e))) (may_come known.stage k) refl
+        → Judged known here (ok_or o reason.Word >=> λ k. cond (may_come known.script.version known.stage k) (statement_of k fields >=> λ s. added known s) (Err reason.Word))
+    word_line word fields is (Some k) e = kind_line k fields (is ∙ ap (λ (w : List ℕ). w ∷ fields) (kind_word word k (ap (λ (o : Option Kind). ok_or o reason.Word) e))) (may_come known.script.version known.stage k) refl
     word_line word fields is None e = refused known here reason.Word before no_kind
       where
         none : (o : Option Kind) (k : Kind) → o ≡ None → o ≡ Some k → ⊥
@@ -366,7 +370,7 @@ module _ (known : DraftData) (line : List ℕ) where
         first_word : (word other : List ℕ) (fields others : Line) → word ∷ fields ≡ other ∷ others → word ≡ other
         first_word word other fields others e = cc
 
-        no_kind : (other : Kind) (others : Line) → pieces 32 line ≡ word_of other ∷ others → may_come known.stage other ≡ true → ⊥
+        no_kind : (other : Kind) (others : Line) → pieces 32 line ≡ word_of other ∷ others → may_come known.script.version known.stage other ≡ true → ⊥
         no_kind other others other_is may = none (kind_of word) other e (ap kind_of (first_word word (word_of other) fields others (sym is ∙ other_is)) ∙ word_again other)
 
     judged_words : (fields : Line) → pieces 32 line ≡ fields → Judged known here (by_word known fields)

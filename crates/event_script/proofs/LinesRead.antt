@@ -22,14 +22,14 @@ use Rattle.event_script.proofs.Steps.{bind_ok, guard_last, guard_then, guard_els
 use Rattle.event_script.proofs.Spoken.{same_kind, spoken}
 use Rattle.event_script.specs.declared.reader.totals.Totals.{Totals}
 use Rattle.event_script.proofs.EventTotals.{totals_of}
-use Rattle.event_script.proofs.SoFar.{statements_at, statements_so_far, NodesAt, LoadsAt, ShapeAt, Sound, Step, no_events, no_threads, no_rounds, no_snapshots, no_fixed}
+use Rattle.event_script.proofs.SoFar.{statements_at, statements_so_far, VersionAt, NodesAt, LoadsAt, ShapeAt, Sound, Step, no_events, no_threads, no_rounds, no_snapshots, no_fixed}
 use Rattle.event_script.proofs.Sound.{statement_sound}
 
 -- a line that was read says something that may come, and that is what it adds
 pub record LineRead (known next : DraftData) (line : List ℕ) : Type 0 where
   pub statement : Statement
   pub says : Says (whole_line line) statement
-  pub may : may_come known.stage (kind_of_statement statement) ≡ true
+  pub may : may_come known.script.version known.stage (kind_of_statement statement) ≡ true
   pub is : added known statement ≡ Ok next
 
 module _ (known next : DraftData) (line : List ℕ) where
@@ -38,14 +38,14 @@ module _ (known next : DraftData) (line : List ℕ) where
   words_read [] is e = absurd cc
   words_read (word ∷ fields) is e =
       let k = bind_ok (ok_or (kind_of word) reason.Word) _ next e in
-      let may = guard_then (may_come known.stage k.0) reason.Word _ next k.2 in
+      let may = guard_then (may_come known.script.version known.stage k.0) reason.Word _ next k.2 in
       let s = bind_ok (statement_of k.0 fields) (λ s. added known s) next may.1 in
       let is_spoken = spoken k.0 fields s.0 s.1 in
       let same = (same_kind k.0 (kind_of_statement s.0) fields (statement_fields s.0) is_spoken.line).0 in
       record {
         statement = s.0;
         says = record { line = is ∙ ap (λ (w : List ℕ). w ∷ fields) (kind_word word k.0 k.1) ∙ is_spoken.line; form = is_spoken.form };
-        may = sym (ap (may_come known.stage) same) ∙ may.0;
+        may = sym (ap (may_come known.script.version known.stage) same) ∙ may.0;
         is = s.2;
       }
 
@@ -118,15 +118,16 @@ pub at_first : Sound nothing_known
 at_first = record {
   each = refl;
   sections = All-from_recursion IsSectionOf [] tt;
+  version = tt;
   nodes = tt;
   loads = tt;
   count = omega arith;
   spans = All-from_recursion IsSpan [] tt;
   fixed = no_fixed [];
   snapshots = no_snapshots;
-  rounds = no_rounds (record { images = 0; snapshots = 0 });
-  threads = no_threads (record { images = 0; snapshots = 0 });
-  events = no_events (record { images = 0; snapshots = 0 });
+  rounds = no_rounds (record { version = 0; images = 0; snapshots = 0 });
+  threads = no_threads (record { version = 0; images = 0; snapshots = 0 });
+  events = no_events (record { version = 0; images = 0; snapshots = 0 });
   totals = record { is = refl; few = omega arith };
   shape = (refl, refl, refl, refl, refl, refl);
 }
@@ -144,6 +145,7 @@ script_from known text e = by known.stage refl e.is_last
         record {
           text = e.is ∙ ap (λ (x : Stage). statements_text (statements_at x known)) same;
           runnable = record {
+            version = subst (λ (x : Stage). VersionAt x known.script.version) same s.version;
             nodes = subst (λ (x : Stage). NodesAt x known.script.nodes) same s.nodes;
             loads = subst (λ (x : Stage). LoadsAt x known.script.loads) same s.loads;
             images = (s.count, s.spans);

@@ -1,5 +1,5 @@
 -- Rounds, threads and events: each line of a script that can be run is good after those before it.
-use Rattle.std.proofs.Common.{◌≡◌, ℕ, ◌+◌, ◌<◌, ◌≤◌, true, cond, ◌&&◌, ltb, List, [], ◌∷◌, ◌++◌, length, map, Result, Ok, Err, refl, sym, ap, subst, ◌∙◌, append_assoc, append-nil, lt-ltb, arith, length-append}
+use Rattle.std.proofs.Common.{◌≡◌, ℕ, ◌+◌, ◌<◌, ◌≤◌, true, cond, ◌&&◌, ltb, List, [], ◌∷◌, ◌++◌, length, map, Result, Ok, Err, refl, sym, ap, subst, ◌∙◌, append_assoc, append-nil, lt-ltb, le-leb, arith, length-append}
 use Rattle.std.specs.List.{AllByRecursion}
 use Rattle.std.proofs.lemmas.Bool.{and_from, cond-true}
 use Rattle.std.proofs.lemmas.List.Elements.{recursion_from_All}
@@ -27,15 +27,15 @@ use Rattle.event_script.proofs.Added.{Adds, CanAdd, adds_then}
 abbrev good : DraftData → Result DraftData Reason
 good known = Ok known
 
-module _ (nodes loads : ℕ) (images : List SpanData) (sections : List SectionData) (few : length images ≤ 4096) (fixed : List ℕ) (snapshots : List SnapshotData) (few_stacks : length snapshots ≤ 4096) where
+module _ (version nodes loads : ℕ) (images : List SpanData) (sections : List SectionData) (few : length images ≤ 4096) (fixed : List ℕ) (snapshots : List SnapshotData) (few_stacks : length snapshots ≤ 4096) where
   abbrev pub counts : Counts
-  counts = record { images = length images; snapshots = length snapshots }
+  counts = record { version = version; images = length images; snapshots = length snapshots }
 
   -- where rounds stand, and what their events come to
   abbrev pub after_all : Stage → List (List (List Event)) → List (List Event) → List Event → Totals → DraftData
   after_all stage rounds threads events totals = record {
     stage = stage;
-    script = record { nodes = nodes; loads = loads; images = images; sections = sections; fixed = fixed; snapshots = snapshots; rounds = rounds };
+    script = record { version = version; nodes = nodes; loads = loads; images = images; sections = sections; fixed = fixed; snapshots = snapshots; rounds = rounds };
     snapshot = no_snapshot;
     threads = threads;
     events = events;
@@ -53,13 +53,13 @@ module _ (nodes loads : ℕ) (images : List SpanData) (sections : List SectionDa
 
   -- these rounds have begun, and another may begin, or the script end
   pub record IsOpen (rounds : List (List (List Event))) (known : DraftData) : Type 0 where
-    pub may_begin : may_come known.stage kind.Round ≡ true
-    pub may_end : may_come known.stage kind.End ≡ true
+    pub may_begin : may_come known.script.version known.stage kind.Round ≡ true
+    pub may_end : may_come known.script.version known.stage kind.End ≡ true
     pub after : (next : Stage) → after_round known next ≡ after_all next rounds [] [] (totals_of rounds)
 
   -- and these threads of a round after them
   record IsOpenRound (rounds : List (List (List Event))) (threads : List (List Event)) (known : DraftData) : Type 0 where
-    may_begin : may_come known.stage kind.Thread ≡ true
+    may_begin : may_come known.script.version known.stage kind.Thread ≡ true
     so_far : threads_so_far known ≡ threads
     after : with_statement known statement.Thread ≡ after_all stage.Thread rounds threads [] (totals_of (rounds ++ threads ∷ []))
     opened : IsOpen (rounds ++ threads ∷ []) known
@@ -75,6 +75,7 @@ module _ (nodes loads : ℕ) (images : List SpanData) (sections : List SectionDa
   event_form : (e : Event) → IsEvent counts e → HasForm (statement.Event e)
   event_form (event.Register image) is = omega arith
   event_form (event.Deregister base) is = is
+  event_form (event.Replace image) is = (let there = is.0 in omega arith)
   event_form (event.Load image) is = omega arith
   event_form (event.Unload base) is = is
   event_form (event.Find pc) is = is
@@ -83,18 +84,20 @@ module _ (nodes loads : ℕ) (images : List SpanData) (sections : List SectionDa
   event_named : (e : Event) → IsEvent counts e → is_named counts e ≡ true
   event_named (event.Register image) is = lt-ltb _ _ is
   event_named (event.Deregister base) is = refl
+  event_named (event.Replace image) is = lt-ltb _ _ is.0
   event_named (event.Load image) is = lt-ltb _ _ is
   event_named (event.Unload base) is = refl
   event_named (event.Find pc) is = refl
   event_named (event.Unwind stack) is = lt-ltb _ _ is
 
-  event_may : (e : Event) → may_come stage.Thread (kind_of_statement (statement.Event e)) ≡ true
-  event_may (event.Register image) = refl
-  event_may (event.Deregister base) = refl
-  event_may (event.Load image) = refl
-  event_may (event.Unload base) = refl
-  event_may (event.Find pc) = refl
-  event_may (event.Unwind stack) = refl
+  event_may : (e : Event) → IsEvent counts e → may_come version stage.Thread (kind_of_statement (statement.Event e)) ≡ true
+  event_may (event.Register image) is = refl
+  event_may (event.Deregister base) is = refl
+  event_may (event.Replace image) is = le-leb 2 version is.1
+  event_may (event.Load image) is = refl
+  event_may (event.Unload base) is = refl
+  event_may (event.Find pc) is = refl
+  event_may (event.Unwind stack) is = refl
 
   module _ (rounds : List (List (List Event))) (threads : List (List Event)) (others : List (List Event)) (later : List (List (List Event))) where
     -- all rounds of the script, where these events stand in one of its threads
@@ -108,7 +111,7 @@ module _ (nodes loads : ℕ) (images : List SpanData) (sections : List SectionDa
         let next = with_statement known (statement.Event e) in
         let test = ltb (length front) 4096 && has_room known.totals e in
         record {
-          may = event_may e;
+          may = event_may e is;
           form = event_form e is;
           is = cond-true test (cond (is_named counts e) (good next) (Err reason.Name)) (Err reason.Limit) (and_from _ _ (lt-ltb _ _ room) (event_room rounds threads front e events others later can))
               ∙ cond-true (is_named counts e) (good next) (Err reason.Name) (event_named e is);

@@ -4,7 +4,7 @@ use Rattle.std.specs.Option.{ok_or}
 use Rattle.std.proofs.lemmas.Bool.{cond-true, cond-false}
 use Rattle.event_script.specs.Digits.{hex}
 use Rattle.event_script.specs.Fields.{pieces, fields_after, is_printable, decimal_in, hex_in, section_bytes}
-use Rattle.event_script.specs.Statements.{word_of, kind_of_statement, statement_fields, statement_line, HasForm, HasEventForm}
+use Rattle.event_script.specs.Statements.{word_of, kind_of_event, kind_of_statement, statement_fields, statement_line, HasForm, HasEventForm}
 use Rattle.event_script.specs.EventLines.{event_spelling}
 use Rattle.event_script.specs.ScriptData.{ImageData}
 use Rattle.event_script.specs.Draft.{DraftData, may_come, is_ended}
@@ -27,54 +27,47 @@ use Rattle.event_script.proofs.Sections.{section_visible}
 use Rattle.event_script.proofs.Steps.{bytes_are, decimal_is, hex_is}
 
 -- what a line adds is what it says
-module _ (known : DraftData) (s : Statement) (may : may_come known.stage (kind_of_statement s) ≡ true) (form : HasForm s) where
+module _ (known : DraftData) (s : Statement) (may : may_come known.script.version known.stage (kind_of_statement s) ≡ true) (form : HasForm s) where
   pub word_said : by_word known (statement_line s) ≡ added known s
   unfolding by_word
   word_said =
       let k = kind_of_statement s in
       let fields = statement_fields s in
       let say = λ (k : Kind). statement_of k fields >=> λ s. added known s in
-      let given = λ (k : Kind). cond (may_come known.stage k) (say k) (Err reason.Word) in
+      let given = λ (k : Kind). cond (may_come known.script.version known.stage k) (say k) (Err reason.Word) in
       ap (λ (o : Option Kind). ok_or o reason.Word >=> given) (word_again k)
-      ∙ cond-true (may_come known.stage k) (say k) (Err reason.Word) may
+      ∙ cond-true (may_come known.script.version known.stage k) (say k) (Err reason.Word) may
       ∙ ap (λ (r : Result Statement Reason). r >=> λ s. added known s) (said_again s form)
 
   pub line_said : after_line known (join 32 (statement_line s)) ≡ added known s
   unfolding after_line
   line_said =
       let line = join 32 (statement_line s) in
-      cond-false (is_ended known.stage) (Err reason.After) (cond (is_printable line) (by_word known (pieces 32 line)) (Err reason.Byte)) (open_still known.stage (kind_of_statement s) may)
+      cond-false (is_ended known.stage) (Err reason.After) (cond (is_printable line) (by_word known (pieces 32 line)) (Err reason.Byte)) (open_still known.script.version known.stage (kind_of_statement s) may)
       ∙ cond-true (is_printable line) (by_word known (pieces 32 line)) (Err reason.Byte) (printable_again (statement_line s) (visible s form))
       ∙ ap (by_word known) (fields_again (word_of (kind_of_statement s)) (statement_fields s) (visible s form))
       ∙ word_said
 
 -- the line of an event, in a thread
-pub event_said : (known : DraftData) (e : Event) (line : List ℕ) → known.stage ≡ stage.Thread → HasEventForm e → line ≡ event_spelling e → after_line known line ≡ added known (statement.Event e)
-event_said known e line at form is =
-    ap (after_line known) (is ∙ joined e) ∙ line_said known (statement.Event e) (ap (λ (s : Stage). may_come s (kind_of_statement (statement.Event e))) at ∙ may e) form
+pub event_said : (known : DraftData) (e : Event) (line : List ℕ) → known.stage ≡ stage.Thread → may_come known.script.version stage.Thread (kind_of_event e) ≡ true → HasEventForm e → line ≡ event_spelling e → after_line known line ≡ added known (statement.Event e)
+event_said known e line at may form is =
+    ap (after_line known) (is ∙ joined e) ∙ line_said known (statement.Event e) (ap (λ (s : Stage). may_come known.script.version s (kind_of_event e)) at ∙ may) form
   where
     joined : (e : Event) → event_spelling e ≡ join 32 (statement_line (statement.Event e))
     joined (event.Register image) = refl
     joined (event.Deregister base) = refl
+    joined (event.Replace image) = refl
     joined (event.Load image) = refl
     joined (event.Unload base) = refl
     joined (event.Find pc) = refl
     joined (event.Unwind snapshot) = refl
-
-    may : (e : Event) → may_come stage.Thread (kind_of_statement (statement.Event e)) ≡ true
-    may (event.Register image) = refl
-    may (event.Deregister base) = refl
-    may (event.Load image) = refl
-    may (event.Unload base) = refl
-    may (event.Find pc) = refl
-    may (event.Unwind snapshot) = refl
 
 -- the line of an image, where images come
 pub image_said : (known : DraftData) (image : ImageData) (line : List ℕ) → known.stage ≡ stage.Images → HasForm (statement.Image image) → pieces 32 line ≡ statement_line (statement.Image image) → after_line known line ≡ image_added known image
 unfolding added
 image_said known image line at form is =
     ap (after_line known) (sym (join_pieces 32 line) ∙ ap (join 32) is)
-    ∙ line_said known (statement.Image image) (ap (λ (s : Stage). may_come s kind.Image) at) form
+    ∙ line_said known (statement.Image image) (ap (λ (s : Stage). may_come known.script.version s kind.Image) at) form
 
 -- the fields of an image's line, one after another
 pub image_numbers : (line fields number base size section digits r1 r2 r3 r4 : List ℕ) (n b s a : ℕ) → line ≡ codes "image " ++ fields

@@ -20,8 +20,8 @@ script_so_far known = record known.script { snapshots = snapshots_so_far known; 
 
 abbrev pub statements_at : Stage → DraftData → List Statement
 statements_at stage.Version known = []
-statements_at stage.Nodes known = statement.Version 1 ∷ []
-statements_at stage.Loads known = statement.Version 1 ∷ statement.Nodes known.script.nodes ∷ []
+statements_at stage.Nodes known = statement.Version known.script.version ∷ []
+statements_at stage.Loads known = statement.Version known.script.version ∷ statement.Nodes known.script.nodes ∷ []
 statements_at stage.Ended known = body_statements known.script ++ statement.End ∷ []
 statements_at _ known = body_statements (script_so_far known)
 
@@ -29,6 +29,10 @@ abbrev pub statements_so_far : DraftData → List Statement
 statements_so_far known = statements_at known.stage known
 
 -- ---- what holds of what is known
+
+abbrev pub VersionAt : Stage → ℕ → Type 0
+VersionAt stage.Version version = Unit {0}
+VersionAt _ version = (1 ≤ version) × (version ≤ 2)
 
 abbrev pub NodesAt : Stage → ℕ → Type 0
 NodesAt stage.Version nodes = Unit {0}
@@ -58,6 +62,7 @@ ShapeAt _ known = (known.script.images ≡ []) × (known.script.rounds ≡ []) �
 pub record Sound (known : DraftData) : Type 0 where
   pub each : length known.script.sections ≡ length known.script.images
   pub sections : All IsSectionOf known.script.sections
+  pub version : VersionAt known.stage known.script.version
   pub nodes : NodesAt known.stage known.script.nodes
   pub loads : LoadsAt known.stage known.script.loads
   pub count : length known.script.images ≤ 4096

@@ -75,15 +75,7 @@ module _ (script : ScriptData) (snapshot : SnapshotData) (threads : List (List E
   snapshots_part = part_with script.snapshots
 
   abbrev top : List Statement → List Statement
-  top lines = statement.Version 1 ∷ statement.Nodes script.nodes ∷ statement.Loads script.loads ∷ lines
-
-  version_sound : (version : ℕ) (next : DraftData) → Sound (as_of stage.Version) → cond (eqb version 1) (Ok (as_of stage.Nodes)) (Err reason.Limit) ≡ Ok next → Step (as_of stage.Version) next (statement.Version version)
-  version_sound version next s e =
-      let g = guard_last (eqb version 1) reason.Limit (as_of stage.Nodes) next e in
-      same_step _ (as_of stage.Nodes) next _ g.1 (record {
-        sound = record { each = s.each; sections = s.sections; nodes = tt; loads = tt; count = s.count; spans = s.spans; fixed = s.fixed; snapshots = s.snapshots; rounds = s.rounds; threads = s.threads; events = s.events; totals = s.totals; shape = s.shape };
-        statements = ap (λ (n : ℕ). statement.Version n ∷ []) (sym (eqb-true version 1 g.0));
-      })
+  top lines = statement.Version script.version ∷ statement.Nodes script.nodes ∷ statement.Loads script.loads ∷ lines
 
   nodes_sound : (nodes : ℕ) (next : DraftData) → Sound (as_of stage.Nodes) → cond (leb 4 nodes && leb nodes 16384) (Ok (with_statement (as_of stage.Nodes) (statement.Nodes nodes))) (Err reason.Limit) ≡ Ok next → Step (as_of stage.Nodes) next (statement.Nodes nodes)
   nodes_sound nodes next s e =
@@ -91,7 +83,7 @@ module _ (script : ScriptData) (snapshot : SnapshotData) (threads : List (List E
       let g = guard_last (leb 4 nodes && leb nodes 16384) reason.Limit made next e in
       let limits = and_parts (leb 4 nodes) (leb nodes 16384) g.0 in
       same_step _ made next _ g.1 (record {
-        sound = record { each = s.each; sections = s.sections; nodes = (leb-true 4 nodes limits.0, leb-true nodes 16384 limits.1); loads = tt; count = s.count; spans = s.spans; fixed = s.fixed; snapshots = s.snapshots; rounds = s.rounds; threads = s.threads; events = s.events; totals = s.totals; shape = s.shape };
+        sound = record { each = s.each; sections = s.sections; version = s.version; nodes = (leb-true 4 nodes limits.0, leb-true nodes 16384 limits.1); loads = tt; count = s.count; spans = s.spans; fixed = s.fixed; snapshots = s.snapshots; rounds = s.rounds; threads = s.threads; events = s.events; totals = s.totals; shape = s.shape };
         statements = refl;
       })
 
@@ -101,8 +93,8 @@ module _ (script : ScriptData) (snapshot : SnapshotData) (threads : List (List E
       let g = guard_last (leb 1 loads && leb loads 1024) reason.Limit made next e in
       let limits = and_parts (leb 1 loads) (leb loads 1024) g.0 in
       same_step _ made next _ g.1 (record {
-        sound = record { each = s.each; sections = s.sections; nodes = s.nodes; loads = (leb-true 1 loads limits.0, leb-true loads 1024 limits.1); count = s.count; spans = s.spans; fixed = s.fixed; snapshots = s.snapshots; rounds = s.rounds; threads = s.threads; events = s.events; totals = s.totals; shape = (s.shape.1, s.shape.2, s.shape.3, s.shape.4, s.shape.5) };
-        statements = ap (λ (x : List Statement). statement.Version 1 ∷ statement.Nodes script.nodes ∷ statement.Loads loads ∷ x) (
+        sound = record { each = s.each; sections = s.sections; version = s.version; nodes = s.nodes; loads = (leb-true 1 loads limits.0, leb-true loads 1024 limits.1); count = s.count; spans = s.spans; fixed = s.fixed; snapshots = s.snapshots; rounds = s.rounds; threads = s.threads; events = s.events; totals = s.totals; shape = (s.shape.1, s.shape.2, s.shape.3, s.shape.4, s.shape.5) };
+        statements = ap (λ (x : List Statement). statement.Version script.version ∷ statement.Nodes script.nodes ∷ statement.Loads loads ∷ x) (
             before_fixed images_part script.fixed script.snapshots script.rounds s.shape.4 s.shape.5 s.shape.1
             ∙ ap (λ (is : List SpanData). image_statements 0 is script.sections) s.shape.0);
       })
@@ -116,6 +108,17 @@ module _ (script : ScriptData) (snapshot : SnapshotData) (threads : List (List E
 
   none_happened : (any : Counts) → events ≡ [] → IsThread any events
   none_happened any none = subst (IsThread any) (sym none) (no_events any)
+
+  version_sound : (version : ℕ) (next : DraftData) → Sound (as_of stage.Version) → cond (leb 1 version && leb version 2) (Ok (with_statement (as_of stage.Version) (statement.Version version))) (Err reason.Limit) ≡ Ok next → Step (as_of stage.Version) next (statement.Version version)
+  version_sound version next s e =
+      let made = with_statement (as_of stage.Version) (statement.Version version) in
+      let g = guard_last (leb 1 version && leb version 2) reason.Limit made next e in
+      let limits = and_parts (leb 1 version) (leb version 2) g.0 in
+      let now = counts_of made.script in
+      same_step _ made next _ g.1 (record {
+        sound = record { each = s.each; sections = s.sections; version = (leb-true 1 version limits.0, leb-true version 2 limits.1); nodes = tt; loads = tt; count = s.count; spans = s.spans; fixed = s.fixed; snapshots = s.snapshots; rounds = none_over now s.shape.1; threads = none_before now s.shape.2; events = none_happened now s.shape.3; totals = s.totals; shape = s.shape };
+        statements = refl;
+      })
 
   image_sound : (image : ImageData) (next : DraftData) → HasForm (statement.Image image) → Sound (as_of stage.Images) → image_added (as_of stage.Images) image ≡ Ok next → Step (as_of stage.Images) next (statement.Image image)
   image_sound image next are s e =
@@ -147,6 +150,7 @@ module _ (script : ScriptData) (snapshot : SnapshotData) (threads : List (List E
         sound = record {
           each = omega (arith, length-append script.sections (section ∷ []), length-append images (span ∷ []));
           sections = All-push IsSectionOf script.sections section s.sections is_section;
+          version = s.version;
           nodes = s.nodes;
           loads = s.loads;
           count = omega (arith, length-append images (span ∷ []));
@@ -169,7 +173,7 @@ module _ (script : ScriptData) (snapshot : SnapshotData) (threads : List (List E
 
   -- where no image was fixed, the next may be
   may_be_fixed : Sound (as_of stage.Images) → Sound (as_of stage.Fixed)
-  may_be_fixed s = record { each = s.each; sections = s.sections; nodes = s.nodes; loads = s.loads; count = s.count; spans = s.spans; fixed = s.fixed; snapshots = s.snapshots; rounds = s.rounds; threads = s.threads; events = s.events; totals = s.totals; shape = (s.shape.0, s.shape.1, s.shape.4, s.shape.2) }
+  may_be_fixed s = record { each = s.each; sections = s.sections; version = s.version; nodes = s.nodes; loads = s.loads; count = s.count; spans = s.spans; fixed = s.fixed; snapshots = s.snapshots; rounds = s.rounds; threads = s.threads; events = s.events; totals = s.totals; shape = (s.shape.0, s.shape.1, s.shape.4, s.shape.2) }
 
   from_images : (next : DraftData) (s : Statement) → Step (as_of stage.Fixed) next s → Step (as_of stage.Images) next s
   from_images next s step = record { sound = step.sound; statements = step.statements }
@@ -181,7 +185,7 @@ module _ (script : ScriptData) (snapshot : SnapshotData) (threads : List (List E
       let made = with_statement (as_of stage.Fixed) (statement.Fixed image) in
       let above = guard_last (is_above (last_fixed script.images script.fixed) named.0) reason.Fixed made next named.2 in
       same_step _ made next _ above.1 (record {
-        sound = record { each = s.each; sections = s.sections; nodes = s.nodes; loads = s.loads; count = s.count; spans = s.spans; fixed = fixed_push script.images script.fixed image named.0 s.fixed found above.0; snapshots = s.snapshots; rounds = s.rounds; threads = s.threads; events = s.events; totals = s.totals; shape = s.shape };
+        sound = record { each = s.each; sections = s.sections; version = s.version; nodes = s.nodes; loads = s.loads; count = s.count; spans = s.spans; fixed = fixed_push script.images script.fixed image named.0 s.fixed found above.0; snapshots = s.snapshots; rounds = s.rounds; threads = s.threads; events = s.events; totals = s.totals; shape = s.shape };
         statements = ap top (
             before_snapshots (images_part ++ map statement.Fixed (script.fixed ++ image ∷ [])) script.snapshots script.rounds s.shape.2 s.shape.0
             ∙ ap (λ (x : List Statement). images_part ++ x) (map_push statement.Fixed script.fixed image)
@@ -199,7 +203,7 @@ module _ (script : ScriptData) (snapshot : SnapshotData) (threads : List (List E
   with_open = script.snapshots ++ snapshot ∷ []
 
   abbrev counts_open : Counts
-  counts_open = record { images = length script.images; snapshots = length with_open }
+  counts_open = record { version = script.version; images = length script.images; snapshots = length with_open }
 
   pub open_snapshots : (length script.snapshots < 4096) × IsSnapshot snapshot → (length script.snapshots ≤ 4096) × All IsSnapshot script.snapshots → (length with_open ≤ 4096) × All IsSnapshot with_open
   open_snapshots one so_far =
@@ -224,7 +228,7 @@ module _ (script : ScriptData) (snapshot : SnapshotData) (threads : List (List E
       let order = guard_then (eqb fields.number (length script.snapshots)) reason.Order _ next e in
       let limit = guard_last (ltb (length script.snapshots) 4096) reason.Limit made next order.1 in
       same_step _ made next _ limit.1 (record {
-        sound = record { each = s.each; sections = s.sections; nodes = s.nodes; loads = s.loads; count = s.count; spans = s.spans; fixed = s.fixed; snapshots = s.snapshots; rounds = s.rounds; threads = s.threads; events = s.events; totals = s.totals; shape = (s.shape.0, s.shape.1, ltb-true _ _ limit.0, no_memory fields form, s.shape.3) };
+        sound = record { each = s.each; sections = s.sections; version = s.version; nodes = s.nodes; loads = s.loads; count = s.count; spans = s.spans; fixed = s.fixed; snapshots = s.snapshots; rounds = s.rounds; threads = s.threads; events = s.events; totals = s.totals; shape = (s.shape.0, s.shape.1, ltb-true _ _ limit.0, no_memory fields form, s.shape.3) };
         statements = snapshot_begun script.snapshots fields s.shape.0 (eqb-true _ _ order.0);
       })
 
@@ -234,7 +238,7 @@ module _ (script : ScriptData) (snapshot : SnapshotData) (threads : List (List E
       let order = guard_then (eqb fields.number (length with_open)) reason.Order _ next e in
       let limit = guard_last (ltb (length with_open) 4096) reason.Limit made next order.1 in
       same_step _ made next _ limit.1 (record {
-        sound = record { each = s.each; sections = s.sections; nodes = s.nodes; loads = s.loads; count = s.count; spans = s.spans; fixed = s.fixed; snapshots = open_snapshots (s.shape.2, s.shape.3) s.snapshots; rounds = none_over counts_open s.shape.0; threads = none_before counts_open s.shape.1; events = none_happened counts_open s.shape.4; totals = s.totals; shape = (s.shape.0, s.shape.1, ltb-true _ _ limit.0, no_memory fields form, s.shape.4) };
+        sound = record { each = s.each; sections = s.sections; version = s.version; nodes = s.nodes; loads = s.loads; count = s.count; spans = s.spans; fixed = s.fixed; snapshots = open_snapshots (s.shape.2, s.shape.3) s.snapshots; rounds = none_over counts_open s.shape.0; threads = none_before counts_open s.shape.1; events = none_happened counts_open s.shape.4; totals = s.totals; shape = (s.shape.0, s.shape.1, ltb-true _ _ limit.0, no_memory fields form, s.shape.4) };
         statements = snapshot_begun with_open fields s.shape.0 (eqb-true _ _ order.0);
       })
 
@@ -248,7 +252,7 @@ module _ (script : ScriptData) (snapshot : SnapshotData) (threads : List (List E
       let same : made ≡ next = ap (λ (x : SnapshotData). record (as_of stage.Snapshots) { snapshot = x }) accepted.1 ∙ ok_is _ next added_one.2 in
       let number = 0 + length script.snapshots in
       same_step _ made next _ same (record {
-        sound = record { each = s.each; sections = s.sections; nodes = s.nodes; loads = s.loads; count = s.count; spans = s.spans; fixed = s.fixed; snapshots = s.snapshots; rounds = s.rounds; threads = s.threads; events = s.events; totals = s.totals; shape = (s.shape.0, s.shape.1, s.shape.2, snapshot_push snapshot region s.shape.3 form (leb-true _ _ limit.0) (accepted_true snapshot.memory region accepted.0), s.shape.4) };
+        sound = record { each = s.each; sections = s.sections; version = s.version; nodes = s.nodes; loads = s.loads; count = s.count; spans = s.spans; fixed = s.fixed; snapshots = s.snapshots; rounds = s.rounds; threads = s.threads; events = s.events; totals = s.totals; shape = (s.shape.0, s.shape.1, s.shape.2, snapshot_push snapshot region s.shape.3 form (leb-true _ _ limit.0) (accepted_true snapshot.memory region accepted.0), s.shape.4) };
         statements = ap top (
             before_rounds (part_with (script.snapshots ++ grown ∷ [])) script.rounds s.shape.0
             ∙ ap (λ (x : List Statement). fixed_part ++ x) (
@@ -275,7 +279,7 @@ module _ (script : ScriptData) (snapshot : SnapshotData) (threads : List (List E
       let made = with_statement (as_of stage.Snapshots) statement.Round in
       let few = guard_last (ltb (length script.rounds) 64) reason.Limit made next e in
       same_step _ made next _ few.1 (record {
-        sound = record { each = s.each; sections = s.sections; nodes = s.nodes; loads = s.loads; count = s.count; spans = s.spans; fixed = s.fixed; snapshots = open_snapshots (s.shape.2, s.shape.3) s.snapshots; rounds = none_over counts_open s.shape.0; threads = no_threads counts_open; events = no_events counts_open; totals = totalled_round totals script.rounds s.totals; shape = ltb-true _ _ few.0 };
+        sound = record { each = s.each; sections = s.sections; version = s.version; nodes = s.nodes; loads = s.loads; count = s.count; spans = s.spans; fixed = s.fixed; snapshots = open_snapshots (s.shape.2, s.shape.3) s.snapshots; rounds = none_over counts_open s.shape.0; threads = no_threads counts_open; events = no_events counts_open; totals = totalled_round totals script.rounds s.totals; shape = ltb-true _ _ few.0 };
         statements = one_more with_open script.rounds (script.rounds ++ [] ∷ []) statement.Round (rounds_push script.rounds []);
       })
 
@@ -284,7 +288,7 @@ module _ (script : ScriptData) (snapshot : SnapshotData) (threads : List (List E
       let made = with_statement (as_of stage.Fixed) statement.Round in
       let few = guard_last (ltb (length script.rounds) 64) reason.Limit made next e in
       same_step _ made next _ few.1 (record {
-        sound = record { each = s.each; sections = s.sections; nodes = s.nodes; loads = s.loads; count = s.count; spans = s.spans; fixed = s.fixed; snapshots = s.snapshots; rounds = s.rounds; threads = no_threads counts; events = no_events counts; totals = totalled_round totals script.rounds s.totals; shape = ltb-true _ _ few.0 };
+        sound = record { each = s.each; sections = s.sections; version = s.version; nodes = s.nodes; loads = s.loads; count = s.count; spans = s.spans; fixed = s.fixed; snapshots = s.snapshots; rounds = s.rounds; threads = no_threads counts; events = no_events counts; totals = totalled_round totals script.rounds s.totals; shape = ltb-true _ _ few.0 };
         statements = one_more script.snapshots script.rounds (script.rounds ++ [] ∷ []) statement.Round (rounds_push script.rounds []);
       })
 
@@ -306,7 +310,7 @@ module _ (script : ScriptData) (snapshot : SnapshotData) (threads : List (List E
       let made = with_statement (as_of stage.Round) statement.Round in
       let few = guard_last (ltb (length with_round) 64) reason.Limit made next e in
       same_step _ made next _ few.1 (record {
-        sound = record { each = s.each; sections = s.sections; nodes = s.nodes; loads = s.loads; count = s.count; spans = s.spans; fixed = s.fixed; snapshots = s.snapshots; rounds = (round_rounds s).each; threads = no_threads counts; events = no_events counts; totals = totalled_round totals with_round s.totals; shape = ltb-true _ _ few.0 };
+        sound = record { each = s.each; sections = s.sections; version = s.version; nodes = s.nodes; loads = s.loads; count = s.count; spans = s.spans; fixed = s.fixed; snapshots = s.snapshots; rounds = (round_rounds s).each; threads = no_threads counts; events = no_events counts; totals = totalled_round totals with_round s.totals; shape = ltb-true _ _ few.0 };
         statements = one_more script.snapshots with_round (with_round ++ [] ∷ []) statement.Round (rounds_push with_round []);
       })
 
@@ -315,7 +319,7 @@ module _ (script : ScriptData) (snapshot : SnapshotData) (threads : List (List E
       let made = with_statement (as_of stage.Thread) statement.Round in
       let few = guard_last (ltb (length with_thread) 64) reason.Limit made next e in
       same_step _ made next _ few.1 (record {
-        sound = record { each = s.each; sections = s.sections; nodes = s.nodes; loads = s.loads; count = s.count; spans = s.spans; fixed = s.fixed; snapshots = s.snapshots; rounds = (thread_rounds s).each; threads = no_threads counts; events = no_events counts; totals = totalled_round totals with_thread s.totals; shape = ltb-true _ _ few.0 };
+        sound = record { each = s.each; sections = s.sections; version = s.version; nodes = s.nodes; loads = s.loads; count = s.count; spans = s.spans; fixed = s.fixed; snapshots = s.snapshots; rounds = (thread_rounds s).each; threads = no_threads counts; events = no_events counts; totals = totalled_round totals with_thread s.totals; shape = ltb-true _ _ few.0 };
         statements = one_more script.snapshots with_thread (with_thread ++ [] ∷ []) statement.Round (rounds_push with_thread []);
       })
 
@@ -324,7 +328,7 @@ module _ (script : ScriptData) (snapshot : SnapshotData) (threads : List (List E
       let made = with_statement (as_of stage.Round) statement.Thread in
       let few = guard_last (ltb (length threads) 16) reason.Limit made next e in
       same_step _ made next _ few.1 (record {
-        sound = record { each = s.each; sections = s.sections; nodes = s.nodes; loads = s.loads; count = s.count; spans = s.spans; fixed = s.fixed; snapshots = s.snapshots; rounds = s.rounds; threads = s.threads; events = no_events counts; totals = totalled_thread totals script.rounds threads s.totals; shape = (s.shape, ltb-true _ _ few.0) };
+        sound = record { each = s.each; sections = s.sections; version = s.version; nodes = s.nodes; loads = s.loads; count = s.count; spans = s.spans; fixed = s.fixed; snapshots = s.snapshots; rounds = s.rounds; threads = s.threads; events = no_events counts; totals = totalled_thread totals script.rounds threads s.totals; shape = (s.shape, ltb-true _ _ few.0) };
         statements = one_more script.snapshots with_round (script.rounds ++ (threads ++ [] ∷ []) ∷ []) statement.Thread (thread_begins script.rounds threads);
       })
 
@@ -333,23 +337,27 @@ module _ (script : ScriptData) (snapshot : SnapshotData) (threads : List (List E
       let made = with_statement (as_of stage.Thread) statement.Thread in
       let few = guard_last (ltb (length (threads ++ events ∷ [])) 16) reason.Limit made next e in
       same_step _ made next _ few.1 (record {
-        sound = record { each = s.each; sections = s.sections; nodes = s.nodes; loads = s.loads; count = s.count; spans = s.spans; fixed = s.fixed; snapshots = s.snapshots; rounds = s.rounds; threads = thread_push counts threads events s.shape.1 s.threads s.events; events = no_events counts; totals = totalled_thread totals script.rounds (threads ++ events ∷ []) s.totals; shape = (s.shape.0, ltb-true _ _ few.0) };
+        sound = record { each = s.each; sections = s.sections; version = s.version; nodes = s.nodes; loads = s.loads; count = s.count; spans = s.spans; fixed = s.fixed; snapshots = s.snapshots; rounds = s.rounds; threads = thread_push counts threads events s.shape.1 s.threads s.events; events = no_events counts; totals = totalled_thread totals script.rounds (threads ++ events ∷ []) s.totals; shape = (s.shape.0, ltb-true _ _ few.0) };
         statements = one_more script.snapshots with_thread (script.rounds ++ ((threads ++ events ∷ []) ++ [] ∷ []) ∷ []) statement.Thread (thread_begins script.rounds (threads ++ events ∷ []));
       })
 
-  -- the event names an image that there is, and its numbers are small
-  event_is : (e : Event) → is_named counts e ≡ true → HasForm (statement.Event e) → IsEvent counts e
-  event_is (event.Register image) named form = ltb-true image (length script.images) named
-  event_is (event.Deregister base) named form = form
-  event_is (event.Load image) named form = ltb-true image (length script.images) named
-  event_is (event.Unload base) named form = form
-  event_is (event.Find pc) named form = form
-  event_is (event.Unwind stack) named form = ltb-true stack (length script.snapshots) named
+  -- the event may come in the version, names an image that there is, and its numbers are small
+  abbrev MayHappen : Event → Type 0
+  MayHappen e = may_come script.version stage.Thread (kind_of_statement (statement.Event e)) ≡ true
 
-  event_sound : (happens : Event) (next : DraftData) → HasForm (statement.Event happens) → Sound (as_of stage.Thread)
+  event_is : (e : Event) → MayHappen e → is_named counts e ≡ true → HasForm (statement.Event e) → IsEvent counts e
+  event_is (event.Register image) may named form = ltb-true image (length script.images) named
+  event_is (event.Deregister base) may named form = form
+  event_is (event.Replace image) may named form = (ltb-true image (length script.images) named, leb-true 2 script.version may)
+  event_is (event.Load image) may named form = ltb-true image (length script.images) named
+  event_is (event.Unload base) may named form = form
+  event_is (event.Find pc) may named form = form
+  event_is (event.Unwind stack) may named form = ltb-true stack (length script.snapshots) named
+
+  event_sound : (happens : Event) (next : DraftData) → MayHappen happens → HasForm (statement.Event happens) → Sound (as_of stage.Thread)
       → cond (ltb (length events) 4096 && has_room totals happens) (cond (is_named counts happens) (Ok (with_statement (as_of stage.Thread) (statement.Event happens))) (Err reason.Name)) (Err reason.Limit) ≡ Ok next
       → Step (as_of stage.Thread) next (statement.Event happens)
-  event_sound happens next form s e =
+  event_sound happens next may form s e =
       let made = with_statement (as_of stage.Thread) (statement.Event happens) in
       let limit = guard_then (ltb (length events) 4096 && has_room totals happens) reason.Limit _ next e in
       let room = and_parts (ltb (length events) 4096) (has_room totals happens) limit.0 in
@@ -360,6 +368,7 @@ module _ (script : ScriptData) (snapshot : SnapshotData) (threads : List (List E
         sound = record {
           each = s.each;
           sections = s.sections;
+          version = s.version;
           nodes = s.nodes;
           loads = s.loads;
           count = s.count;
@@ -368,7 +377,7 @@ module _ (script : ScriptData) (snapshot : SnapshotData) (threads : List (List E
           snapshots = s.snapshots;
           rounds = s.rounds;
           threads = s.threads;
-          events = (omega (arith, length-append events (happens ∷ [])), All-push (IsEvent counts) events happens so_far.1 (event_is happens named.0 form));
+          events = (omega (arith, length-append events (happens ∷ [])), All-push (IsEvent counts) events happens so_far.1 (event_is happens may named.0 form));
           totals = totalled_event totals script.rounds threads events s.totals happens room.1;
           shape = s.shape;
         };
@@ -382,30 +391,30 @@ module _ (script : ScriptData) (snapshot : SnapshotData) (threads : List (List E
 
   end_fixed : (next : DraftData) → Sound (as_of stage.Fixed) → with_statement (as_of stage.Fixed) statement.End ≡ next → Step (as_of stage.Fixed) next statement.End
   end_fixed next s e = same_step _ (with_statement (as_of stage.Fixed) statement.End) next _ e (record {
-    sound = record { each = s.each; sections = s.sections; nodes = s.nodes; loads = s.loads; count = s.count; spans = s.spans; fixed = s.fixed; snapshots = s.snapshots; rounds = s.rounds; threads = no_threads counts; events = no_events counts; totals = s.totals; shape = no_round_yet s.shape.0 };
+    sound = record { each = s.each; sections = s.sections; version = s.version; nodes = s.nodes; loads = s.loads; count = s.count; spans = s.spans; fixed = s.fixed; snapshots = s.snapshots; rounds = s.rounds; threads = no_threads counts; events = no_events counts; totals = s.totals; shape = no_round_yet s.shape.0 };
     statements = refl;
   })
 
   end_snapshots : (next : DraftData) → Sound (as_of stage.Snapshots) → with_statement (as_of stage.Snapshots) statement.End ≡ next → Step (as_of stage.Snapshots) next statement.End
   end_snapshots next s e = same_step _ (with_statement (as_of stage.Snapshots) statement.End) next _ e (record {
-    sound = record { each = s.each; sections = s.sections; nodes = s.nodes; loads = s.loads; count = s.count; spans = s.spans; fixed = s.fixed; snapshots = open_snapshots (s.shape.2, s.shape.3) s.snapshots; rounds = none_over counts_open s.shape.0; threads = no_threads counts_open; events = no_events counts_open; totals = s.totals; shape = no_round_yet s.shape.0 };
+    sound = record { each = s.each; sections = s.sections; version = s.version; nodes = s.nodes; loads = s.loads; count = s.count; spans = s.spans; fixed = s.fixed; snapshots = open_snapshots (s.shape.2, s.shape.3) s.snapshots; rounds = none_over counts_open s.shape.0; threads = no_threads counts_open; events = no_events counts_open; totals = s.totals; shape = no_round_yet s.shape.0 };
     statements = refl;
   })
 
   end_round : (next : DraftData) → Sound (as_of stage.Round) → with_statement (as_of stage.Round) statement.End ≡ next → Step (as_of stage.Round) next statement.End
   end_round next s e = same_step _ (with_statement (as_of stage.Round) statement.End) next _ e (record {
-    sound = record { each = s.each; sections = s.sections; nodes = s.nodes; loads = s.loads; count = s.count; spans = s.spans; fixed = s.fixed; snapshots = s.snapshots; rounds = (round_rounds s).each; threads = no_threads counts; events = no_events counts; totals = s.totals; shape = (round_rounds s).few };
+    sound = record { each = s.each; sections = s.sections; version = s.version; nodes = s.nodes; loads = s.loads; count = s.count; spans = s.spans; fixed = s.fixed; snapshots = s.snapshots; rounds = (round_rounds s).each; threads = no_threads counts; events = no_events counts; totals = s.totals; shape = (round_rounds s).few };
     statements = refl;
   })
 
   end_thread : (next : DraftData) → Sound (as_of stage.Thread) → with_statement (as_of stage.Thread) statement.End ≡ next → Step (as_of stage.Thread) next statement.End
   end_thread next s e = same_step _ (with_statement (as_of stage.Thread) statement.End) next _ e (record {
-    sound = record { each = s.each; sections = s.sections; nodes = s.nodes; loads = s.loads; count = s.count; spans = s.spans; fixed = s.fixed; snapshots = s.snapshots; rounds = (thread_rounds s).each; threads = no_threads counts; events = no_events counts; totals = s.totals; shape = (thread_rounds s).few };
+    sound = record { each = s.each; sections = s.sections; version = s.version; nodes = s.nodes; loads = s.loads; count = s.count; spans = s.spans; fixed = s.fixed; snapshots = s.snapshots; rounds = (thread_rounds s).each; threads = no_threads counts; events = no_events counts; totals = s.totals; shape = (thread_rounds s).few };
     statements = refl;
   })
 
   -- ---- a line of any kind
-  pub statement_sound : (at : Stage) (s : Statement) (next : DraftData) → may_come at (kind_of_statement s) ≡ true → HasForm s → Sound (as_of at) → added (as_of at) s ≡ Ok next → Step (as_of at) next s
+  pub statement_sound : (at : Stage) (s : Statement) (next : DraftData) → may_come script.version at (kind_of_statement s) ≡ true → HasForm s → Sound (as_of at) → added (as_of at) s ≡ Ok next → Step (as_of at) next s
   unfolding added
   statement_sound stage.Version (statement.Version version) next may form s e = version_sound version next s e
   statement_sound stage.Nodes (statement.Nodes nodes) next may form s e = nodes_sound nodes next s e
@@ -428,10 +437,11 @@ module _ (script : ScriptData) (snapshot : SnapshotData) (threads : List (List E
   statement_sound stage.Round statement.End next may form s e = end_round next s (ok_is _ next e)
   statement_sound stage.Thread statement.Round next may form s e = round_after_thread next s e
   statement_sound stage.Thread statement.Thread next may form s e = next_thread_sound next s e
-  statement_sound stage.Thread (statement.Event happens) next may form s e = event_sound happens next form s e
+  statement_sound stage.Thread (statement.Event happens) next may form s e = event_sound happens next may form s e
   statement_sound stage.Thread statement.End next may form s e = end_thread next s (ok_is _ next e)
   statement_sound _ (statement.Event (event.Register image)) next may form s e = absurd cc
   statement_sound _ (statement.Event (event.Deregister base)) next may form s e = absurd cc
+  statement_sound _ (statement.Event (event.Replace image)) next may form s e = absurd cc
   statement_sound _ (statement.Event (event.Load image)) next may form s e = absurd cc
   statement_sound _ (statement.Event (event.Unload base)) next may form s e = absurd cc
   statement_sound _ (statement.Event (event.Find pc)) next may form s e = absurd cc

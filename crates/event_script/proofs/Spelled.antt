@@ -2,7 +2,6 @@
 use Rattle.std.proofs.Common.{◌≡◌, ℕ, ◌+◌, ◌<◌, List, [], ◌∷◌, ◌++◌, length, map, get_or, take, refl, sym, ap, ap₂, ◌∙◌, append_assoc, append-nil, arith}
 use Rattle.std.specs.Prelude.{codes}
 use Rattle.std.specs.Fmt.{decimal}
-use Rattle.std.proofs.lemmas.Fmt.{decimal_digit}
 use Rattle.std.proofs.lemmas.Grind.{flat_map-append}
 use Rattle.std.proofs.lemmas.List.{take_more, length-take-le}
 use Rattle.std.proofs.lemmas.Option.{slice_get_within, get_or_from_slice_get}
@@ -157,22 +156,21 @@ image_more old text new images sections i span section lt each span_is section_i
     ∙ ap (λ (x : List Statement). old ++ statements_text x) (sym lines)
 
 -- the first three lines
-pub first_three : (nodes loads : ℕ) (empty one two three : List ℕ) → empty ≡ [] → one ≡ empty ++ codes "frames 1\n" → two ≡ one ++ spelling_of (codes "nodes" ∷ decimal nodes ∷ []) → three ≡ two ++ spelling_of (codes "loads" ∷ decimal loads ∷ [])
-    → three ≡ statements_text (first_statements nodes loads)
-first_three nodes loads empty one two three e p q r =
-    let version : codes "frames 1\n" ≡ statement_text (statement.Version 1) = ap (λ (d : List ℕ). spelling_of (codes "frames" ∷ d ∷ [])) (sym (decimal_digit 1 (omega arith))) in
-    let first = line_more [] empty one [] (statement.Version 1) e (p ∙ ap (λ (x : List ℕ). empty ++ x) version) in
-    let second = line_more [] one two (statement.Version 1 ∷ []) (statement.Nodes nodes) first q in
-    line_more [] two three (statement.Version 1 ∷ statement.Nodes nodes ∷ []) (statement.Loads loads) second r
+pub first_three : (version nodes loads : ℕ) (empty one two three : List ℕ) → empty ≡ [] → one ≡ empty ++ spelling_of (codes "frames" ∷ decimal version ∷ []) → two ≡ one ++ spelling_of (codes "nodes" ∷ decimal nodes ∷ []) → three ≡ two ++ spelling_of (codes "loads" ∷ decimal loads ∷ [])
+    → three ≡ statements_text (first_statements version nodes loads)
+first_three version nodes loads empty one two three e p q r =
+    let first = line_more [] empty one [] (statement.Version version) e p in
+    let second = line_more [] one two (statement.Version version ∷ []) (statement.Nodes nodes) first q in
+    line_more [] two three (statement.Version version ∷ statement.Nodes nodes ∷ []) (statement.Loads loads) second r
 
 pub all_lines : (s : ScriptData) (images : List SpanData) (sections : List SectionData) (fixed : List ℕ) (snapshots : List SnapshotData) (rounds : List (List (List Event))) (begun imaged kept stopped gone new : List ℕ) → images ≡ s.images → sections ≡ s.sections → fixed ≡ s.fixed → snapshots ≡ s.snapshots → rounds ≡ s.rounds
-    → begun ≡ statements_text (first_statements s.nodes s.loads) → imaged ≡ begun ++ statements_text (image_statements 0 images sections) → kept ≡ imaged ++ statements_text (map statement.Fixed fixed) → stopped ≡ kept ++ statements_text (snapshot_statements 0 snapshots) → gone ≡ stopped ++ statements_text (round_statements rounds) → new ≡ gone ++ codes "end\n"
+    → begun ≡ statements_text (first_statements s.version s.nodes s.loads) → imaged ≡ begun ++ statements_text (image_statements 0 images sections) → kept ≡ imaged ++ statements_text (map statement.Fixed fixed) → stopped ≡ kept ++ statements_text (snapshot_statements 0 snapshots) → gone ≡ stopped ++ statements_text (round_statements rounds) → new ≡ gone ++ codes "end\n"
     → new ≡ script_text s
 unfolding script_text
 all_lines s images sections fixed snapshots rounds begun imaged kept stopped gone new same_images same_sections same_fixed same_snapshots same_rounds b i f t r e =
-    let first : begun ≡ [] ++ statements_text (first_statements s.nodes s.loads) = b in
-    let second = lines_more [] begun imaged (first_statements s.nodes s.loads) (image_statements 0 s.images s.sections) first (i ∙ ap₂ (λ (x : List SpanData) (y : List SectionData). begun ++ statements_text (image_statements 0 x y)) same_images same_sections) in
-    let between = lines_more [] imaged kept (first_statements s.nodes s.loads ++ image_statements 0 s.images s.sections) (map statement.Fixed s.fixed) second (f ∙ ap (λ (x : List ℕ). imaged ++ statements_text (map statement.Fixed x)) same_fixed) in
-    let stacks = lines_more [] kept stopped (first_statements s.nodes s.loads ++ image_statements 0 s.images s.sections ++ map statement.Fixed s.fixed) (snapshot_statements 0 s.snapshots) between (t ∙ ap (λ (x : List SnapshotData). kept ++ statements_text (snapshot_statements 0 x)) same_snapshots) in
-    let third = lines_more [] stopped gone (first_statements s.nodes s.loads ++ image_statements 0 s.images s.sections ++ map statement.Fixed s.fixed ++ snapshot_statements 0 s.snapshots) (round_statements s.rounds) stacks (r ∙ ap (λ (x : List (List (List Event))). stopped ++ statements_text (round_statements x)) same_rounds) in
+    let first : begun ≡ [] ++ statements_text (first_statements s.version s.nodes s.loads) = b in
+    let second = lines_more [] begun imaged (first_statements s.version s.nodes s.loads) (image_statements 0 s.images s.sections) first (i ∙ ap₂ (λ (x : List SpanData) (y : List SectionData). begun ++ statements_text (image_statements 0 x y)) same_images same_sections) in
+    let between = lines_more [] imaged kept (first_statements s.version s.nodes s.loads ++ image_statements 0 s.images s.sections) (map statement.Fixed s.fixed) second (f ∙ ap (λ (x : List ℕ). imaged ++ statements_text (map statement.Fixed x)) same_fixed) in
+    let stacks = lines_more [] kept stopped (first_statements s.version s.nodes s.loads ++ image_statements 0 s.images s.sections ++ map statement.Fixed s.fixed) (snapshot_statements 0 s.snapshots) between (t ∙ ap (λ (x : List SnapshotData). kept ++ statements_text (snapshot_statements 0 x)) same_snapshots) in
+    let third = lines_more [] stopped gone (first_statements s.version s.nodes s.loads ++ image_statements 0 s.images s.sections ++ map statement.Fixed s.fixed ++ snapshot_statements 0 s.snapshots) (round_statements s.rounds) stacks (r ∙ ap (λ (x : List (List (List Event))). stopped ++ statements_text (round_statements x)) same_rounds) in
     line_more [] gone new (body_statements s) statement.End third e

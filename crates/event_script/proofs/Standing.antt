@@ -25,6 +25,7 @@ module _ (rounds : List (List (List Event))) (threads : List (List Event)) (fron
   room_if : (totals : Totals) (happens : Event) → totals.unwinds + cond (is_unwind happens) 1 0 ≤ 16384 → has_room totals happens ≡ true
   room_if totals (event.Register image) low = refl
   room_if totals (event.Deregister base) low = refl
+  room_if totals (event.Replace image) low = refl
   room_if totals (event.Load image) low = refl
   room_if totals (event.Unload base) low = refl
   room_if totals (event.Find pc) low = refl

@@ -16,7 +16,7 @@ mod reader;
 mod script;
 
 pub use journal::{Answer, Journal};
-pub use limits::MOST_LOADS;
+pub use limits::{FIRST_VERSION, MOST_LOADS};
 pub use members::{member_of, members_of};
 pub use print::fault::print_fault;
 pub use print::journal::{
