@@ -31,9 +31,6 @@ use Rattle.array_publish.proofs.Rewriting.{moved_on, unchanged}
 none_there : (x : Member) → Contains [] x → ⊥
 none_there x c = let l = c.1 in omega (arith, l)
 
-later : (x z : Member) (xs : List Member) → Contains xs z → Contains (x ∷ xs) z
-later x z xs c = (suc c.0, (let l = c.1 in omega (arith, l)), c.2)
-
 in_rest : (x z : Member) (xs : List Member) → x ≢ z → Contains (x ∷ xs) z → Contains xs z
 in_rest x z xs far (zero, l, e) = absurd (far e)
 in_rest x z xs far (suc i, l, e) = (i, omega (arith, l), e)
@@ -58,14 +55,14 @@ same_lists a b (x ∷ xs) [] ax ay same = absurd (none_there x ((same x).0 (0, o
 same_lists a b (x ∷ xs) (y ∷ ys) ax ay same =
     let head = first_same a b x y xs ys ax ay ((same x).0 (0, omega arith, refl)) ((same y).1 (0, omega arith, refl)) in
     let rest = same_lists (x.span.last + 1) (y.span.last + 1) xs ys ax.2 ay.2
-    (λ z. ((λ c. in_rest y z ys (λ e. not_again a x z xs ax c (head ∙ e)) ((same z).0 (later x z xs c))), (λ c. in_rest x z xs (λ e. not_again b y z ys ay c (sym head ∙ e)) ((same z).1 (later y z ys c))))) in
+    (λ z. ((λ c. in_rest y z ys (λ e. not_again a x z xs ax c (head ∙ e)) ((same z).0 (Contains-append_right (x ∷ []) xs z c))), (λ c. in_rest x z xs (λ e. not_again b y z ys ay c (sym head ∙ e)) ((same z).1 (Contains-append_right (y ∷ []) ys z c))))) in
     (λ i. head i ∷ rest i)
 
 -- the member that the longer list has more stands first there
 more_first : (a b : ℕ) (x : Member) (xs ys : List Member) (m : Member) → AscendFrom a (x ∷ xs) → AscendFrom b ys → ¬ Contains ys m → ((z : Member) → Contains (x ∷ xs) z ↔ (Contains ys z ⊎ (m ≡ z))) → m ≡ x → xs ≡ ys
 more_first a b x xs ys m ax ay new same is = same_lists (x.span.last + 1) b xs ys ax.2 ay
     (λ z. (
-      (λ c. ⊎_elim (λ (d : Contains ys z). d) (λ (e : m ≡ z). absurd (not_again a x z xs ax c (sym is ∙ e))) ((same z).0 (later x z xs c))),
+      (λ c. ⊎_elim (λ (d : Contains ys z). d) (λ (e : m ≡ z). absurd (not_again a x z xs ax c (sym is ∙ e))) ((same z).0 (Contains-append_right (x ∷ []) xs z c))),
       (λ c. in_rest x z xs (λ e. new (subst (Contains ys) (sym (is ∙ e)) c)) ((same z).1 (inl c))),
     ))
 
@@ -78,10 +75,10 @@ one_more_in a b (x ∷ xs) [] m ax ay new same =
 one_more_in a b (x ∷ xs) (y ∷ ys) m ax ay new same = ⊎_elim
     (λ (c : Contains (y ∷ ys) x).
     let head = first_same a b x y xs ys ax ay c ((same y).1 (inl (0, omega arith, refl))) in
-    let r = one_more_in (x.span.last + 1) (y.span.last + 1) xs ys m ax.2 ay.2 (λ d. new (later y m ys d))
+    let r = one_more_in (x.span.last + 1) (y.span.last + 1) xs ys m ax.2 ay.2 (λ d. new (Contains-append_right (y ∷ []) ys m d))
     (λ z. (
-      (λ d. ⊎_elim (λ (e : Contains (y ∷ ys) z). inl (in_rest y z ys (λ f. not_again a x z xs ax d (head ∙ f)) e)) (λ (e : m ≡ z). inr e) ((same z).0 (later x z xs d))),
-      (λ d. ⊎_elim (λ (e : Contains ys z). in_rest x z xs (λ f. not_again b y z ys ay e (sym head ∙ f)) ((same z).1 (inl (later y z ys e)))) (λ (e : m ≡ z). in_rest x z xs (λ f. new (subst (Contains (y ∷ ys)) (sym head ∙ (f ∙ sym e)) (0, omega arith, refl))) ((same z).1 (inr e))) d),
+      (λ d. ⊎_elim (λ (e : Contains (y ∷ ys) z). inl (in_rest y z ys (λ f. not_again a x z xs ax d (head ∙ f)) e)) (λ (e : m ≡ z). inr e) ((same z).0 (Contains-append_right (x ∷ []) xs z d))),
+      (λ d. ⊎_elim (λ (e : Contains ys z). in_rest x z xs (λ f. not_again b y z ys ay e (sym head ∙ f)) ((same z).1 (inl (Contains-append_right (y ∷ []) ys z e)))) (λ (e : m ≡ z). in_rest x z xs (λ f. new (subst (Contains (y ∷ ys)) (sym head ∙ (f ∙ sym e)) (0, omega arith, refl))) ((same z).1 (inr e))) d),
     )) in
     (suc r.0, ((let l = r.1.0 in omega (arith, l)), (λ i. head i ∷ r.1.1 i))))
     (λ (is : m ≡ x). let rest = more_first a b x xs (y ∷ ys) m ax ay new same is in (0, (omega arith, (λ i. sym is i ∷ rest i)))) ((same x).0 (0, omega arith, refl))
