@@ -1,18 +1,19 @@
 -- Members in a map by their first addresses.
-use Rattle.std.proofs.Common.{◌≡◌, ◌↔◌, ◌⊎◌, ℕ, ◌+◌, ◌<◌, ◌≤◌, zero, suc, List, [], ◌∷◌, ◌++◌, length, get_or, Option, Some, None, Bool, true, false, not, cond, ◌==◌, min, IsTrue, All, inl, inr, refl, sym, ◌∙◌, ap, subst, length-append, arith}
+use Rattle.std.proofs.Common.{◌≡◌, ◌≢◌, ◌↔◌, ◌⊎◌, ℕ, ◌+◌, ◌<◌, ◌≤◌, zero, suc, List, [], ◌∷◌, ◌++◌, length, get_or, Option, Some, None, Bool, true, false, not, cond, ◌==◌, min, IsTrue, All, inl, inr, refl, sym, ◌∙◌, ap, subst, length-append, arith}
 use Rattle.std.specs.Option.{is_some, IsSome, IfSome}
 use Rattle.std.specs.List.{Contains, find}
 use Rattle.std.specs.BTreeMap.{BTreeMap, get, btree_map_len}
 use Rattle.std.specs.Ordering.{nat_cmp, is_lt, is_gt}
 use Rattle.std.proofs.lemmas.Grind.{common_steps}
 use Rattle.std.proofs.lemmas.Bool.{cases_lt, cases_order, false≢true, eqb-true, eq-eqb, ne_eqb, not-true, false_from_ne_true, cases_Bool, not_from_false}
-use Rattle.std.proofs.lemmas.List.{get_or_default}
+use Rattle.std.proofs.lemmas.List.{get_or_default, length-map}
 use Rattle.std.proofs.lemmas.List.Elements.{All-head, All-tail, All-push, All-filter, filter_passes, All-contains, All-contains_itself, All-weaker, Contains-push, Contains-append_left, Contains-append_cases, Contains-push_cases}
-use Rattle.reg_model.specs.SpanData.{SpanData, IsSpan, contains, Overlaps}
-use Rattle.reg_model.specs.State.{at_base, IsFree, AreDisjoint}
-use Rattle.reg_model.specs.History.{without}
+use Rattle.reg_model.specs.SpanData.{SpanData, IsSpan, contains, Overlaps, is_same_span}
+use Rattle.reg_model.specs.State.{at_base, at_span, IsFree, AreDisjoint}
+use Rattle.reg_model.specs.History.{without, with_payload}
 use Rattle.reg_model.specs.Query.{member_at}
 use Rattle.reg_model.specs.declared.span.Member.{Member}
+use Rattle.reg_model.proofs.Replacing.{same_span, span_same, span_stays, AreDisjoint-with_payload, All-with_payload, from_with_payload, others_with_payload, new_with_payload}
 use Rattle.reg_model.proofs.Spans.{overlap_from, overlap_bounds, contains_bounds}
 use Rattle.reg_model.proofs.Histories.{AreDisjoint-push, AreDisjoint-filter, member_at-contains}
 use Rattle.receipt_check.specs.Maps.{IsMapOf, IsGreatestUpTo}
@@ -190,6 +191,29 @@ module _ (apart : BTreeMap ℕ Member) (kept : List Member) (are : IsMapOf apart
   base_is base None is = find_none (λ m. m.span.first == base) kept (All-weaker (Contains kept) (λ m. (m.span.first == base) ≡ false) (λ x inside. ne_eqb x.span.first base (λ at. (let here = subst (λ k. get nat_cmp apart k ≡ Some x) at (found x inside) in cc))) kept (All-contains_itself kept))
   base_is base (Some m) is = find_one (λ m. m.span.first == base) kept m (All-weaker (Contains kept) (λ x. (x.span.first == base) ≡ true → x ≡ m) (λ x inside holds. same_base x m base inside (eqb-true x.span.first base holds) is) kept (All-contains_itself kept)) (there base m is).0 (eq-eqb m.span.first base (there base m is).1)
 
+  -- the member with a whole span
+  pub span_none : (span : SpanData) → get nat_cmp apart span.first ≡ None → at_span span kept ≡ None
+  span_none span none = find_none (λ m. is_same_span m.span span) kept (All-weaker (Contains kept) (λ m. is_same_span m.span span ≡ false) (λ x inside. false_from_ne_true (is_same_span x.span span) (λ same. (let here = subst (λ k. get nat_cmp apart k ≡ Some x) (ap (λ (s : SpanData). s.first) (same_span x.span span same)) (found x inside) in cc))) kept (All-contains_itself kept))
+
+  -- that member is the one under its first address
+  its_own : (span : SpanData) (m : Member) → get nat_cmp apart span.first ≡ Some m → (x : Member) → Contains kept x → is_same_span x.span span ≡ true → x ≡ m
+  its_own span m is x inside same = same_base x m span.first inside (ap (λ (s : SpanData). s.first) (same_span x.span span same)) is
+
+  span_by : (span : SpanData) (m : Member) (b : Bool) → get nat_cmp apart span.first ≡ Some m → is_same_span m.span span ≡ b → at_span span kept ≡ cond b (Some m) None
+  span_by span m true is same = find_one (λ x. is_same_span x.span span) kept m (All-weaker (Contains kept) (λ x. is_same_span x.span span ≡ true → x ≡ m) (λ x inside fits. its_own span m is x inside fits) kept (All-contains_itself kept)) (there span.first m is).0 same
+  span_by span m false is other = find_none (λ x. is_same_span x.span span) kept (All-weaker (Contains kept) (λ x. is_same_span x.span span ≡ false) (λ x inside. false_from_ne_true (is_same_span x.span span) (λ fits. false≢true (sym other ∙ ap (λ (y : Member). is_same_span y.span span) (sym (its_own span m is x inside fits)) ∙ fits))) kept (All-contains_itself kept))
+
+  pub span_is : (span : SpanData) (m : Member) → get nat_cmp apart span.first ≡ Some m → cond (is_same_span m.span span) (Some m) None ≡ at_span span kept
+  span_is span m is = sym (span_by span m (is_same_span m.span span) is refl)
+
+  -- a member that has the span is the one under its first address
+  span_there : (span : SpanData) (o : Option Member) → get nat_cmp apart span.first ≡ o → is_some (at_span span kept) ≡ true → (x : Member) × (get nat_cmp apart span.first ≡ Some x) × Contains kept x × (x.span ≡ span)
+  span_there span None is some = absurd (false≢true (sym (ap is_some (span_none span is)) ∙ some))
+  span_there span (Some x) is some = elim (cases_Bool (is_same_span x.span span)) [
+    | inl same ↦ (x, is, (there span.first x is).0, same_span x.span span same)
+    | inr other ↦ absurd (false≢true (sym (ap is_some (span_by span x false is other)) ∙ some))
+  ]
+
   pub kept_iff : (m : Member) → ((get nat_cmp apart m.span.first ≡ Some m) ↔ Contains kept m)
   kept_iff m = (λ is. (there m.span.first m is).0, λ inside. found m inside)
 
@@ -221,6 +245,39 @@ module _ (apart : BTreeMap ℕ Member) (kept : List Member) (are : IsMapOf apart
 
     old : (base : ℕ) → (base ≡ m.span.first → ⊥) → IfSome (get nat_cmp new base) (λ x. Contains (kept ++ m ∷ []) x × (x.span.first ≡ base))
     old base differs = subst (λ (o : Option Member). IfSome o (λ x. Contains (kept ++ m ∷ []) x × (x.span.first ≡ base))) (sym (others base differs)) (later base (get nat_cmp apart base) (are.listed base))
+
+  -- one that gets another payload
+  module _ (new : BTreeMap ℕ Member) (m : Member) (m_span : IsSpan m.span) (some : is_some (at_span m.span kept) ≡ true) (here : get nat_cmp new m.span.first ≡ Some m) (others : (base : ℕ) → (base ≡ m.span.first → ⊥) → get nat_cmp new base ≡ get nat_cmp apart base) (many : IsSome (get nat_cmp apart m.span.first) → btree_map_len new ≡ btree_map_len apart) where
+    abbrev was : (x : Member) × (get nat_cmp apart m.span.first ≡ Some x) × Contains kept x × (x.span ≡ m.span)
+    was = span_there m.span (get nat_cmp apart m.span.first) refl some
+
+    -- another member begins elsewhere
+    elsewhere : (x : Member) → Contains kept x → x.span ≢ m.span → x.span.first ≡ m.span.first → ⊥
+    elsewhere x inside other at = other (ap (λ (y : Member). y.span) (same_base x was.0 m.span.first inside at was.1) ∙ was.3)
+
+    still : (x : Member) → (Contains kept x × (x.span ≢ m.span)) ⊎ (x ≡ m) → get nat_cmp new x.span.first ≡ Some x
+    still x (inl (inside, other)) = others x.span.first (elsewhere x inside other) ∙ found x inside
+    still x (inr is) = subst (λ (y : Member). get nat_cmp new y.span.first ≡ Some y) (sym is) here
+
+    as_before : (base : ℕ) → (base ≡ m.span.first → ⊥) → (o : Option Member) → IfSome o (λ x. Contains kept x × (x.span.first ≡ base)) → IfSome o (λ x. Contains (with_payload m kept) x × (x.span.first ≡ base))
+    as_before base differs None is = tt
+    as_before base differs (Some x) is = (others_with_payload m x kept is.0 (λ same. differs (sym is.1 ∙ ap (λ (s : SpanData). s.first) same)), is.1)
+
+    listed_then : (base : ℕ) → (base ≡ m.span.first → ⊥) → IfSome (get nat_cmp new base) (λ x. Contains (with_payload m kept) x × (x.span.first ≡ base))
+    listed_then base differs = subst (λ (o : Option Member). IfSome o (λ x. Contains (with_payload m kept) x × (x.span.first ≡ base))) (sym (others base differs)) (as_before base differs (get nat_cmp apart base) (are.listed base))
+
+    pub kept_replaced : IsMapOf new (with_payload m kept)
+    kept_replaced = record {
+      spans = All-with_payload (λ (x : Member). IsSpan x.span) m kept m_span are.spans;
+      disjoint = AreDisjoint-with_payload m kept are.disjoint;
+      found = All-weaker (Contains (with_payload m kept)) (λ x. get nat_cmp new x.span.first ≡ Some x) (λ x inside. still x (from_with_payload m x kept inside)) (with_payload m kept) (All-contains_itself (with_payload m kept));
+      listed = λ base. elim (cases_order base m.span.first) [
+        | inl same ↦ subst (λ (o : Option Member). IfSome o (λ x. Contains (with_payload m kept) x × (x.span.first ≡ base))) (sym (subst (λ k. get nat_cmp new k ≡ Some m) (sym same) here)) (new_with_payload m was.0 kept was.2 was.3, sym same)
+        | inr (inl less) ↦ listed_then base (λ same. omega arith)
+        | inr (inr more) ↦ listed_then base (λ same. omega arith)
+      ];
+      many = length-map kept (λ x. cond (is_same_span x.span m.span) m x) ∙ are.many ∙ sym (many (ap is_some was.1));
+    }
 
   -- one less
   module _ (new : BTreeMap ℕ Member) (base : ℕ) (here : get nat_cmp new base ≡ None) (others : (other : ℕ) → (other ≡ base → ⊥) → get nat_cmp new other ≡ get nat_cmp apart other) where
@@ -260,6 +317,10 @@ free_same span address xs b is above = (
 pub none_of : (o : Option Member) → (IsSome o → ⊥) → o ≡ None
 none_of None never = refl
 none_of (Some m) never = absurd (never refl)
+
+pub no_member : (o : Option Member) → is_some o ≡ false → o ≡ None
+no_member None none = refl
+no_member (Some m) none = absurd (false≢true (sym none))
 
 -- one test behind another
 pub and_then : (P Q : Type 0) (a b : Bool) → a ≡ true → (IsTrue a ↔ P) → (IsTrue b ↔ Q) → (IsTrue b ↔ (P × Q))

@@ -3,6 +3,7 @@ pub mod Halves
 pub mod Sought
 pub mod LeastLines
 pub mod ByNumber
+pub mod LastMoments
 pub mod States
 pub mod InTurn
 pub mod Misfits

@@ -43,7 +43,7 @@ HasOwnNumber told n t =
     × All (λ other. other.line < t.line → has_number (moment t.receipt) other.receipt ≡ false) told)
 
 -- where it is the accepted update with this number: the update fits the state before it, and a
--- removal names the member that goes
+-- removal names the member that goes, a replacement the payload that was there
 abbrev pub FitsInTurn : State → ℕ → Told → Type 0
 FitsInTurn s number t =
     has_number number t.receipt ≡ true

@@ -1,6 +1,6 @@
 -- Receipts are gone through in the order of the states in which their answers were given.
-use Rattle.std.specs.Prelude.{◌≡◌, ℕ, ◌+◌, ◌-◌, ◌<◌, ◌≤◌, List, length, map, Option, None, All}
-use Rattle.std.specs.Prelude.{IfSome, if◌then◌else◌, slice_index_or}
+use Rattle.std.specs.Prelude.{◌≡◌, ℕ, ◌+◌, ◌-◌, ◌*◌, ◌<◌, ◌≤◌, List, length, map, Option, None}
+use Rattle.std.specs.Prelude.{All, IfSome, if◌then◌else◌, nat_le, slice_index_or}
 use Rattle.std.specs.List.{find}
 use Rattle.std.specs.List.Sorted.{IsPermutation, IsNonDecreasingBy}
 use Rattle.std.specs.Option.{option_and_then}
@@ -15,6 +15,7 @@ use Rattle.reg_model.specs.declared.answer.Receipt.TheVariants.{Register}
 use Rattle.receipt_check.specs.Flaws.{since_of}
 use Rattle.receipt_check.specs.Search.{IsSought, HasOtherNumber}
 use Rattle.receipt_check.specs.declared.account.Told.{Told}
+use Rattle.receipt_check.specs.declared.last_moments.LastMoments.{LastMoments}
 use Rattle.receipt_check.specs.declared.least_lines.LeastLines.{LeastLines}
 use Rattle.receipt_check.specs.declared.present.Present.{Present}
 use Rattle.receipt_check.specs.declared.turns.Turn.{Turn}
@@ -63,29 +64,44 @@ pub record AreInTurn (told : List Told) (turns : List Turn) : Type 0 where
 
 -- ---- the present state
 
--- ten were registered last at the moment before this one, or where it is 0 they never were
-pub record IsLastTen (start : State) (history : List Update) (made ten : ℕ) : Type 0 where
-  pub past : ten ≤ made + 1
-  pub there : 0 < ten → 10 ≤ length (state_at start history (ten - 1)).registered
-  pub since : (k : ℕ) → ten ≤ k → k ≤ made → length (state_at start history k).registered < 10
+-- so many were registered last at the moment before this one, or where it is 0 they never were
+pub record IsLastWith (least : ℕ) (start : State) (history : List Update) (made last : ℕ) : Type 0
+  where
+    pub past : last ≤ made + 1
+    pub there : 0 < last → least ≤ length (state_at start history (last - 1)).registered
+    pub since : (k : ℕ) → last ≤ k → k ≤ made → length (state_at start history k).registered < least
+
+-- what is kept of it, where this moment is the present one
+abbrev pub last_with : LastMoments → ℕ → ℕ → ℕ
+last_with moments made least =
+    if (nat_le least moments.count) then (made + 1)
+    else slice_index_or moments.ends.items (least - 1) 0
 
 -- this is the registry after so many updates of the history
 pub record IsPresent (start : State) (history : List Update) (p : Present) : Type 0 where
   pub within : p.made ≤ length history
   pub state : ShowsState p.lists (state_at start history p.made)
-  pub ten : IsLastTen start history p.made p.ten
+  pub last : (least : ℕ)
+      → IsLastWith least start history p.made (last_with p.moments p.made least)
 
--- a tree that was full had ten members at some moment since
-abbrev pub HadTenOf : ℕ → ℕ → Receipt → Type 0
-HadTenOf ten since (Register m (inserted.Full stamp)) = since < ten
-HadTenOf ten since _ = Unit {0}
+-- of a tree that was full, the last moment with so many isn't before this one
+abbrev pub HadLast : ℕ → ℕ → Receipt → Type 0
+HadLast last since (Register m (inserted.Full stamp)) = since < last
+HadLast last since _ = Unit {0}
+
+-- a tree that was full had ten at some moment since, and two for each node that was in it
+pub record IsFilledNow (nodes : ℕ) (p : Present) (t : Told) : Type 0 where
+  pub ten : HadLast (last_with p.moments p.made 10) (since_of t) t.receipt
+  pub most : 2 ≤ nodes - 4 * t.callers
+      → HadLast (last_with p.moments p.made (2 * (nodes - 4 * t.callers))) (since_of t) t.receipt
 
 -- the receipt holds, where this is the state in which its answer was given
-abbrev pub HoldsNow : List Update → State → ℕ → Told → Type 0
-HoldsNow history s ten t =
+abbrev pub HoldsNow : List Update → State → ℕ → Present → Told → Type 0
+HoldsNow history s nodes p t =
     (moment t.receipt ≤ length history) × IsAtNumber history t.receipt × IsRight s t.receipt
-    × HadTenOf ten (since_of t) t.receipt
+    × IsFilledNow nodes p t
 
--- the update that was accepted can be made in this state, and removes the member that it names
+-- the update that was accepted can be made in this state, and removes the member that it names, or
+-- replaces its payload
 abbrev pub FitsNow : State → Receipt → Type 0
 FitsNow s r = IfSome (accepted r) (λ u. (Fits u s) × (IsRight s r))

@@ -27,7 +27,11 @@ pub fn first_wrong(
     let mut first = None;
     for turn in turns {
         present.go_on(history, turn.before)?;
-        first = lower(first, turn.row.line, present.holds(history, turn.row));
+        first = lower(
+            first,
+            turn.row.line,
+            present.holds(history, account.nodes, turn.row),
+        );
     }
     Ok(first)
 }

@@ -76,7 +76,8 @@ fn put(places: &mut Vec<Option<Update>>, receipt: &Receipt)
     }
 }
 
-/// The line of the first update that doesn't fit, or that removes another member than it names.
+/// The line of the first update that doesn't fit, or that removes another member than it names, or
+/// replaces another payload.
 pub fn first_misfit(
     alloc: Global,
     account: &Account,

@@ -12,6 +12,7 @@ mod answers;
 mod firsts;
 mod history;
 mod judge;
+mod last_moments;
 mod least_lines;
 mod lists;
 mod member_map;

@@ -1,11 +1,11 @@
 //! A registry's state.
 
 ghost use Rattle.std.specs.Prelude.{◌≡◌, ◌<◌, ◌≤◌, ◌↔◌, List, IsTrue, IfOk, OnOk, All, Contains};
-ghost use Rattle.std.specs.Prelude.{length};
+ghost use Rattle.std.specs.Prelude.{length, IsSomeAnd};
 ghost use Rattle.reg_model.specs.SpanData.{Overlaps};
 ghost use Rattle.reg_model.specs.State.{State, opening, IsFree, IsLowestOverlap, objects};
 ghost use Rattle.reg_model.specs.History.{Fits, after};
-ghost use Rattle.reg_model.specs.Receipt.{IsRight, IsRightRemoval, member_of};
+ghost use Rattle.reg_model.specs.Receipt.{IsRight, IsRightRemoval, IsRightReplacement, member_of};
 ghost use Rattle.reg_model.specs.Query.{query};
 ghost use Rattle.reg_model.specs.declared.span.Member.{Member};
 ghost use Rattle.reg_model.specs.declared.answer.Receipt.TheVariants as receipt;
@@ -13,7 +13,9 @@ ghost use Rattle.receipt_check.specs.Maps.{Reflects, ShowsState};
 
 use crate::member_map::MemberMap;
 use crate::members::is_same;
-use reg_model::{Found, Half, Inserted, Loading, Member, NoMemory, Receipt, Removed, Span, Update};
+use reg_model::{
+    Found, Half, Inserted, Loading, Member, NoMemory, Receipt, Removed, Replaced, Span, Update,
+};
 use std::alloc::Global;
 
 /// What is registered, what is loaded, what is there for good, and how many may be loaded.
@@ -46,6 +48,7 @@ impl Lists {
         match update {
             Update::Register { member } => return self.registered.push(member),
             Update::Deregister { base } => self.registered.remove(*base),
+            Update::Replace { member } => return self.registered.replace(member),
             Update::Load { member } => return self.loaded.push(member),
             Update::Unload { base } => self.loaded.remove(*base),
         }
@@ -66,6 +69,7 @@ impl Lists {
         match update {
             Update::Register { member } => self.registered.is_free(&member.span),
             Update::Deregister { base } => self.registered.with_base(*base).is_some(),
+            Update::Replace { member } => self.registered.with_span(&member.span).is_some(),
             Update::Load { member } => { self.is_free_of_objects(&member.span) && self.has_room() }
             Update::Unload { base } => self.loaded.with_base(*base).is_some(),
         }
@@ -103,6 +107,9 @@ impl Lists {
             Receipt::Register { member, answer } => self.is_right_insertion(member, answer),
             Receipt::Deregister { base, answer } => {
                 is_right_removal(&self.registered, *base, answer)
+            }
+            Receipt::Replace { member, answer } => {
+                is_right_replacement(&self.registered, member, answer)
             }
             Receipt::Load { member, answer } => self.is_right_load(member, answer),
             Receipt::Unload { base, answer } => is_right_removal(&self.loaded, *base, answer),
@@ -202,6 +209,28 @@ fn is_right_removal(members: &MemberMap, base: u64, answer: &Removed) -> bool
         Removed::Done { member, .. } => is_same(members.with_base(base), Some(*member)),
         Removed::NotFound { .. } => members.with_base(base).is_none(),
         Removed::Spent => false,
+    }
+}
+
+/// Whether the answer to a replacement is right of these members.
+fn is_right_replacement(members: &MemberMap, member: &Member, answer: &Replaced) -> bool
+    ensures { (list : List Member) → Reflects members.now list
+        → (IsTrue result ↔ IsRightReplacement member.now.span list answer.now) }
+{
+    match answer {
+        Replaced::Done { payload, .. } => has_payload(members.with_span(&member.span), *payload),
+        Replaced::NotFound { .. } => members.with_span(&member.span).is_none(),
+        Replaced::Spent => false,
+    }
+}
+
+/// Whether there is a member, and it has this payload.
+fn has_payload(member: Option<Member>, payload: u32) -> bool
+    ensures { IsTrue result ↔ IsSomeAnd member (λ m. m.payload ≡ payload) }
+{
+    match member {
+        Some(member) => member.payload == payload,
+        None => false,
     }
 }
 

@@ -1,19 +1,20 @@
 //! Members by their first addresses.
 
 ghost use Rattle.std.specs.Prelude.{◌≡◌, ℕ, ◌+◌, ◌++◌, [], ◌∷◌, ◌<◌, ◌≤◌, ◌↔◌, List, IsTrue, IfOk};
-ghost use Rattle.std.specs.Prelude.{OnOk, All, Contains, length, Some, None, is_some};
+ghost use Rattle.std.specs.Prelude.{OnOk, All, Contains, length, Some, None, is_some, IsSome};
 ghost use Rattle.std.specs.Prelude.{if◌then◌else◌};
 ghost use Rattle.std.specs.BTreeMap.{get, btree_map_len};
 ghost use Rattle.std.specs.Ordering.{nat_cmp};
-ghost use Rattle.reg_model.specs.SpanData.{IsSpan, Overlaps, contains};
-ghost use Rattle.reg_model.specs.State.{at_base, IsFree};
-ghost use Rattle.reg_model.specs.History.{without};
+ghost use Rattle.reg_model.specs.SpanData.{IsSpan, Overlaps, contains, is_same_span};
+ghost use Rattle.reg_model.specs.State.{at_base, at_span, IsFree};
+ghost use Rattle.reg_model.specs.History.{without, with_payload};
 ghost use Rattle.reg_model.specs.Query.{member_at};
 ghost use Rattle.reg_model.specs.declared.span.Member.{Member};
 ghost use Rattle.receipt_check.specs.Maps.{IsMapOf, IsGreatestUpTo, Reflects};
 
 use crate::members::{
-    all_begin_from, containing, is_free, is_listed, is_same, remove_base, with_base,
+    all_begin_from, containing, is_free, is_listed, is_same, remove_base, replace_in, with_base,
+    with_span,
 };
 use reg_model::{Member, NoMemory, Span};
 use std::alloc::Global;
@@ -80,6 +81,8 @@ impl MemberMap {
             → get nat_cmp self.new.apart base ≡ get nat_cmp self.old.apart base) }
         ensures many { OnOk result (get nat_cmp self.old.apart member.now.span.first ≡ None
             → btree_map_len self.new.apart ≡ btree_map_len self.old.apart + 1) }
+        ensures as_many { OnOk result (IsSome (get nat_cmp self.old.apart member.now.span.first)
+            → btree_map_len self.new.apart ≡ btree_map_len self.old.apart) }
         ensures rest { OnOk result (self.new.rest.items ≡ self.old.rest.items) }
         ensures span { OnOk result (IsSpan member.now.span) }
     {
@@ -107,6 +110,29 @@ impl MemberMap {
         ensures rest { self.new.rest.items ≡ self.old.rest.items }
     {
         self.apart.remove(&base);
+    }
+
+    /// Gives the members with this one's span its payload.
+    pub fn replace(&mut self, member: &Member) -> Result<(), NoMemory>
+        ensures { OnOk result ((list : List Member) → Reflects self.old list
+            → Reflects self.new (with_payload member.now list)) }
+    {
+        self.replace_apart(member)?;
+        replace_in(&mut self.rest, member);
+        Ok(())
+    }
+
+    /// The same in the map.
+    fn replace_apart(&mut self, member: &Member) -> Result<(), NoMemory>
+        ensures apart { OnOk result ((kept : List Member) → IsMapOf self.old.apart kept
+            → IsMapOf self.new.apart (with_payload member.now kept)) }
+        ensures rest { OnOk result (self.new.rest.items ≡ self.old.rest.items) }
+    {
+        if self.apart_with(&member.span).is_none() {
+            return Ok(());
+        }
+        self.keep(member)?;
+        Ok(())
     }
 
     pub fn len(&self) -> usize
@@ -137,6 +163,25 @@ impl MemberMap {
         ensures { (list : List Member) → Reflects self.now list → result ≡ at_base base list }
     {
         self.under(base).or(with_base(&self.rest, base))
+    }
+
+    /// The member with this whole span.
+    pub fn with_span(&self, span: &Span) -> Option<Member>
+        ensures { (list : List Member) → Reflects self.now list
+            → result ≡ at_span span.now list }
+    {
+        self.apart_with(span).or(with_span(&self.rest, span))
+    }
+
+    /// That of the map.
+    fn apart_with(&self, span: &Span) -> Option<Member>
+        ensures { (kept : List Member) → IsMapOf self.now.apart kept
+            → result ≡ at_span span.now kept }
+    {
+        match self.under(span.first()) {
+            Some(member) => if_spanning(member, span),
+            None => None,
+        }
     }
 
     /// What stands in the map under a first address.
@@ -214,6 +259,17 @@ fn if_containing(member: Member, pc: u64) -> Option<Member>
     ensures { result ≡ (if (contains member.span pc) then (Some member) else None) }
 {
     if member.span.contains(pc) {
+        Some(member)
+    } else {
+        None
+    }
+}
+
+/// The member, where this is its span.
+fn if_spanning(member: Member, span: &Span) -> Option<Member>
+    ensures { result ≡ (if (is_same_span member.span span.now) then (Some member) else None) }
+{
+    if member.span == *span {
         Some(member)
     } else {
         None

@@ -2,8 +2,8 @@
 
 ghost use Rattle.std.specs.Prelude.{◌≡◌, ◌≤◌, ◌↔◌, ◌==◌, IsTrue, All, Contains, not};
 ghost use Rattle.reg_model.specs.SpanData.{Overlaps};
-ghost use Rattle.reg_model.specs.State.{at_base, IsFree};
-ghost use Rattle.reg_model.specs.History.{without};
+ghost use Rattle.reg_model.specs.State.{at_base, at_span, IsFree};
+ghost use Rattle.reg_model.specs.History.{without, with_payload};
 ghost use Rattle.reg_model.specs.Query.{member_at};
 
 use reg_model::{Member, Span};
@@ -26,6 +26,18 @@ pub fn with_base(members: &[Member], base: u64) -> Option<Member>
 {
     for member in members {
         if member.span.first() == base {
+            return Some(*member);
+        }
+    }
+    None
+}
+
+/// The member with this whole span.
+pub fn with_span(members: &[Member], span: &Span) -> Option<Member>
+    ensures { result ≡ at_span span.now members.now }
+{
+    for member in members {
+        if member.span == *span {
             return Some(*member);
         }
     }
@@ -89,4 +101,15 @@ pub fn remove_base(members: &mut Vec<Member>, base: u64)
             ensures { result ≡ not (member.now.span.first == base) }
         { member.span.first() != base },
     );
+}
+
+/// Gives the members with this one's span its payload.
+pub fn replace_in(members: &mut [Member], member: &Member)
+    ensures { members.new ≡ with_payload member.now members.old }
+{
+    for listed in members.iter_mut() {
+        if listed.span == member.span {
+            *listed = *member;
+        }
+    }
 }

@@ -1,15 +1,18 @@
 //! The state of a registry that goes on with its history.
 
-ghost use Rattle.std.specs.Prelude.{◌≡◌, ℕ, ◌+◌, ◌^◌, ◌<◌, ◌≤◌, ◌↔◌, List, IsTrue, IfOk, OnOk, min};
+ghost use Rattle.std.specs.Prelude.{◌≡◌, ◌+◌, ◌-◌, ◌*◌, ◌^◌, ◌<◌, ◌≤◌, ◌↔◌, List, IsTrue, IfOk};
+ghost use Rattle.std.specs.Prelude.{OnOk, min};
 ghost use Rattle.std.specs.Prelude.{slice_get, Some, length};
 ghost use Rattle.reg_model.specs.State.{State, opening};
 ghost use Rattle.reg_model.specs.Receipt.{moment, made_before, IsAtNumber, Holds};
 ghost use Rattle.reg_model.specs.declared.answer.Update.{Update};
 ghost use Rattle.receipt_check.specs.Flaws.{since_of};
 ghost use Rattle.receipt_check.specs.Maps.{ShowsState};
-ghost use Rattle.receipt_check.specs.Sweep.{IsPresent, HadTenOf, HoldsNow, FitsNow};
+ghost use Rattle.receipt_check.specs.Sweep.{IsPresent, last_with, HadLast, IsFilledNow, HoldsNow};
+ghost use Rattle.receipt_check.specs.Sweep.{FitsNow};
 
 use crate::account::Told;
+use crate::last_moments::LastMoments;
 use crate::lists::Lists;
 use crate::receipts::{moment_of, update_in};
 use reg_model::{Inserted, Member, NoMemory, Receipt, Update};
@@ -20,8 +23,7 @@ use std::alloc::Global;
 pub struct Present {
     lists: Lists,
     made: usize,
-    /// One more than the last moment at which ten were registered, or 0.
-    ten: usize,
+    moments: LastMoments,
 }
 
 impl Present {
@@ -34,7 +36,7 @@ impl Present {
         Ok(Present {
             lists: Lists::opening(alloc, fixed, loads)?,
             made: 0,
-            ten: 0,
+            moments: LastMoments::new(alloc),
         })
     }
 
@@ -60,28 +62,26 @@ impl Present {
             → IsPresent start history self.old → IsPresent start history self.new) }
     {
         self.lists.make(update)?;
+        self.moments
+            .go_on(self.made, self.lists.registered_count())?;
         self.made += 1;
-        if self.lists.registered_count() < 10 {
-            return Ok(());
-        }
-        self.ten = self.made + 1;
         Ok(())
     }
 
     /// Whether the receipt holds, where this is the state in which its answer was given.
-    pub fn holds(&self, history: &[Update], row: &Told) -> bool
-        ensures { (start : State) (nodes : ℕ) → IsPresent start history.now self.now
+    pub fn holds(&self, history: &[Update], nodes: u32, row: &Told) -> bool
+        ensures { (start : State) → IsPresent start history.now self.now
             → self.now.made ≡ min (made_before row.now.receipt) (length history.now)
             → (IsTrue result ↔ Holds start history.now nodes row.now.callers (since_of row.now)
             row.now.receipt) }
     {
-        self.holds_now(history, row)
+        self.holds_now(history, nodes, row)
     }
 
     /// Whether it holds, by what there is now.
-    fn holds_now(&self, history: &[Update], row: &Told) -> bool
+    fn holds_now(&self, history: &[Update], nodes: u32, row: &Told) -> bool
         ensures { (s : State) → ShowsState self.now.lists s
-            → (IsTrue result ↔ HoldsNow history.now s self.now.ten row.now) }
+            → (IsTrue result ↔ HoldsNow history.now s nodes self.now row.now) }
     {
         if !stands(history, &row.receipt) {
             return false;
@@ -89,23 +89,43 @@ impl Present {
         if !self.lists.is_right(&row.receipt) {
             return false;
         }
-        self.had_ten(row.before.max(row.seen), &row.receipt)
+        self.is_filled(nodes, row)
     }
 
-    /// Whether a tree that was full had ten members at some moment since.
-    fn had_ten(&self, since: u64, receipt: &Receipt) -> bool
-        ensures { IsTrue result ↔ HadTenOf self.now.ten since receipt.now }
+    /// Whether a tree that was full had ten members at some moment since, and two for each node
+    /// that callers can't have had out.
+    fn is_filled(&self, nodes: u32, row: &Told) -> bool
+        ensures { IsTrue result ↔ IsFilledNow nodes self.now row.now }
+    {
+        let since = row.before.max(row.seen);
+        let within = within_tree(nodes, row.callers);
+        if !self.had(10, since, &row.receipt) {
+            return false;
+        }
+        if within < 2 {
+            return true;
+        }
+        self.had(2 * within, since, &row.receipt)
+    }
+
+    /// Whether a tree that was full had so many members at some moment since.
+    fn had(&self, least: u64, since: u64, receipt: &Receipt) -> bool
+        ensures { IsTrue result
+            ↔ HadLast (last_with self.now.moments self.now.made least) since receipt.now }
     {
         match receipt {
             Receipt::Register {
                 answer: Inserted::Full { .. },
                 ..
-            } => since < self.ten as u64,
+            } => self
+                .moments
+                .had_since(self.made, least as usize, since as usize),
             _ => true,
         }
     }
 
-    /// Whether the update that was accepted can be made now, and removes the member that it names.
+    /// Whether the update that was accepted can be made now, and removes the member that it names,
+    /// or replaces its payload.
     pub fn fits(&self, receipt: &Receipt) -> bool
         ensures { (s : State) → ShowsState self.now.lists s
             → (IsTrue result ↔ FitsNow s receipt.now) }
@@ -115,6 +135,13 @@ impl Present {
             Some(update) => self.lists.fits(&update) && self.lists.is_right(receipt),
         }
     }
+}
+
+/// How many nodes are in the tree, where each caller has as many out as it may.
+fn within_tree(nodes: u32, callers: u64) -> u64
+    ensures { result ≡ nodes - 4 * callers }
+{
+    (nodes as u64).saturating_sub(callers.saturating_mul(4))
 }
 
 /// Whether the receipt's moment is one of the history's, and an accepted update stands there.

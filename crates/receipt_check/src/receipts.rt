@@ -3,7 +3,7 @@
 ghost use Rattle.std.specs.Prelude.{◌≡◌};
 ghost use Rattle.reg_model.specs.Receipt.{moment, accepted};
 
-use reg_model::{Found, Inserted, Loading, Receipt, Removed, Update};
+use reg_model::{Found, Inserted, Loading, Receipt, Removed, Replaced, Update};
 
 /// The number of an accepted update, and the stamp of any other answer.
 pub fn moment_of(receipt: &Receipt) -> u32
@@ -15,6 +15,11 @@ pub fn moment_of(receipt: &Receipt) -> u32
             Inserted::Overlap { stamp, .. } => *stamp,
             Inserted::Full { stamp } => *stamp,
             Inserted::Spent => 0,
+        },
+        Receipt::Replace { answer, .. } => match answer {
+            Replaced::Done { number, .. } => *number,
+            Replaced::NotFound { stamp } => *stamp,
+            Replaced::Spent => 0,
         },
         Receipt::Load { answer, .. } => match answer {
             Loading::Done { number } => *number,
@@ -52,6 +57,10 @@ pub fn update_in(receipt: &Receipt) -> Option<Update>
             base,
             answer: Removed::Done { .. },
         } => Some(Update::Deregister { base: *base }),
+        Receipt::Replace {
+            member,
+            answer: Replaced::Done { .. },
+        } => Some(Update::Replace { member: *member }),
         Receipt::Load {
             member,
             answer: Loading::Done { .. },

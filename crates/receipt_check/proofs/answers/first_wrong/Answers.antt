@@ -1,8 +1,8 @@
-use Rattle.std.proofs.Common.{◌↔◌, List, length, min, IsTrue, ◌∙◌, ap, subst, arith}
+use Rattle.std.proofs.Common.{◌↔◌, ℕ, List, length, min, IsTrue, ◌∙◌, ap, subst, arith}
 use Rattle.std.proofs.lemmas.List.{length-map}
 use Rattle.reg_model.specs.Receipt.{Holds}
 use Rattle.reg_model.specs.declared.answer.Update.{Update}
-use Rattle.receipt_check.specs.Flaws.{HoldsAsTold, since_of}
+use Rattle.receipt_check.specs.Flaws.{AccountData, HoldsAsTold, since_of}
 use Rattle.receipt_check.specs.Sweep.{rows_of}
 use Rattle.receipt_check.proofs.Sought.{sought_more, sought_all, sought_moved}
 use Rattle.receipt_check.proofs.InTurn.{ahead_here, not_past, timed_here, row_here}
@@ -26,8 +26,9 @@ loop-turn-preserved c =
     let is = c.turn-item.is in
     let went = c.in_ok-go_on.ensures a.start c.loop-turn.invariant.present (ahead_here turns i turn within is c.loop-turn.present.made c.loop-turn.invariant.ahead) in
     let made = went.1 ∙ ap (λ before. min before (length history)) (timed_here turns i turn within is c.requires.turns.timed) in
-    let holds = c.holds.ensures a.start a.nodes went.0 made in
-    let told = subst (λ (h : List Update). IsTrue c.holds.result ↔ Holds a.start h a.nodes turn.row.now.callers (since_of turn.row.now) turn.row.now.receipt) c.requires.history holds in
+    let holds = c.holds.ensures a.start went.0 made in
+    let nodes = ap (λ (v : AccountData). v.nodes) c.account.view_is in
+    let told = subst (λ (h : List Update). IsTrue c.holds.result ↔ Holds a.start h a.nodes turn.row.now.callers (since_of turn.row.now) turn.row.now.receipt) c.requires.history (subst (λ (n : ℕ). IsTrue c.holds.result ↔ Holds a.start history n turn.row.now.callers (since_of turn.row.now) turn.row.now.receipt) nodes holds) in
     record {
       present = went.0;
       ahead = not_past turns i turn within is c.requires.turns.rising c.go_on.new.self.made (length history) went.1;

@@ -3,4 +3,4 @@ use Rattle.receipt_check.proofs.States.{present_first}
 use Rattle.receipt_check.proofs.present.Present.opening.Goals as goal
 
 pub returns-clause-present : goal.returns-clause-present
-returns-clause-present c = λ history. present_first _ history _ refl c.in_ok-opening.ensures
+returns-clause-present c = λ history. present_first _ history _ _ refl c.in_ok-opening.ensures c.new.ensures
