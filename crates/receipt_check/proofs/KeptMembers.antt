@@ -318,10 +318,6 @@ pub none_of : (o : Option Member) → (IsSome o → ⊥) → o ≡ None
 none_of None never = refl
 none_of (Some m) never = absurd (never refl)
 
-pub no_member : (o : Option Member) → is_some o ≡ false → o ≡ None
-no_member None none = refl
-no_member (Some m) none = absurd (false≢true (sym none))
-
 -- one test behind another
 pub and_then : (P Q : Type 0) (a b : Bool) → a ≡ true → (IsTrue a ↔ P) → (IsTrue b ↔ Q) → (IsTrue b ↔ (P × Q))
 and_then P Q a b is first second = (λ holds. (first.0 is, second.0 holds), λ both. second.1 both.1)

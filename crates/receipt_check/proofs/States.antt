@@ -5,7 +5,7 @@ use Rattle.std.proofs.lemmas.Bool.{cases_lt, leb-true, leb-false}
 use Rattle.std.proofs.lemmas.List.{take_min}
 use Rattle.reg_model.specs.State.{State}
 use Rattle.reg_model.specs.History.{after, state_after, state_at}
-use Rattle.reg_model.specs.Receipt.{moment, accepted, made_before, HadRegistered, IsFilled, Holds}
+use Rattle.reg_model.specs.Receipt.{moment, accepted, made_before, HadRegistered, WasFilled, Holds}
 use Rattle.reg_model.specs.declared.answer.Update.{Update}
 use Rattle.reg_model.specs.declared.answer.Inserted.TheVariants as inserted
 use Rattle.reg_model.specs.declared.answer.Receipt.{Receipt}
@@ -119,7 +119,7 @@ module _ (start : State) (history : List Update) where
     had_here (Unload base answer) here = (λ _. tt, λ _. tt)
     had_here (Query half pc found) here = (λ _. tt, λ _. tt)
 
-  filled_here : (nodes : ℕ) (p : Present) (t : Told) → IsPresent start history p → p.made ≡ made_before t.receipt → (IsFilledNow nodes p t ↔ IsFilled start history nodes t.callers (since_of t) t.receipt)
+  filled_here : (nodes : ℕ) (p : Present) (t : Told) → IsPresent start history p → p.made ≡ made_before t.receipt → (IsFilledNow nodes p t ↔ WasFilled start history nodes t.callers (since_of t) t.receipt)
   filled_here nodes p t present here =
       let had = λ (least : ℕ). had_here least p.made (last_with p.moments p.made least) (present.last least) (since_of t) t.receipt here in
       let most = 2 * (nodes - 4 * t.callers) in (

@@ -7,7 +7,7 @@ use Rattle.std.proofs.lemmas.List.{append-nil}
 use Rattle.std.proofs.lemmas.List.Sums.{sum_by-cons}
 use Rattle.reg_model.specs.State.{State}
 use Rattle.reg_model.specs.History.{Fits, after}
-use Rattle.reg_model.specs.Receipt.{moment, accepted, made, HadRegistered, IsFilled}
+use Rattle.reg_model.specs.Receipt.{moment, accepted, made, HadRegistered, WasFilled}
 use Rattle.reg_model.specs.Numbers.{has_number}
 use Rattle.reg_model.specs.PlainRegistryData.{PlainRegistryData, LeadsTo, Step}
 use Rattle.reg_model.specs.Chain.{Chain, HasRoom, PlainStep, all_made, HoldsAlways, IsBetween, Rises}
@@ -28,7 +28,7 @@ had_from least start history since (Load m answer) room = tt
 had_from least start history since (Unload base answer) room = tt
 had_from least start history since (Query half pc found) room = tt
 
-filled_from : (start : State) (history : List Update) (nodes callers since : ℕ) (r : Receipt) → HasRoom r → IsFilled start history nodes callers since r
+filled_from : (start : State) (history : List Update) (nodes callers since : ℕ) (r : Receipt) → HasRoom r → WasFilled start history nodes callers since r
 filled_from start history nodes callers since r room = record { ten = had_from 10 start history since r room; most = λ _. had_from (2 * (nodes - 4 * callers)) start history since r room }
 
 pub chain_leads : (start : State) (history : List Update) (a b : PlainRegistryData) (receipts : List Receipt) → LeadsTo start history a → Chain PlainStep a receipts b → LeadsTo start (history ++ all_made receipts) b

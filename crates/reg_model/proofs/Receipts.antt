@@ -6,7 +6,7 @@ use Rattle.std.proofs.lemmas.List.{append-nil}
 use Rattle.reg_model.proofs.Histories.{state_after-append, IsHistory-append, state_at-append, state_at-length, slice_get-append, slice_get-next}
 use Rattle.reg_model.specs.State.{State}
 use Rattle.reg_model.specs.History.{Fits, after, state_at}
-use Rattle.reg_model.specs.Receipt.{moment, accepted, made, made_before, IsRight, HadRegistered, IsFilled, Holds}
+use Rattle.reg_model.specs.Receipt.{moment, accepted, made, made_before, IsRight, HadRegistered, WasFilled, Holds}
 use Rattle.reg_model.specs.PlainRegistryData.{PlainRegistryData, LeadsTo, Step}
 use Rattle.reg_model.specs.declared.answer.Update.{Update}
 use Rattle.reg_model.specs.declared.answer.Receipt.{Receipt}
@@ -77,7 +77,7 @@ numbered_next history n m (Some u) is moment =
     (rw length-append (omega arith), (omega arith, ap (slice_get (history ++ u ∷ [])) last ∙ slice_get-next history u []))
 
 -- What a step of the registry for one thread answers holds in the history, which grows by what the step made.
-pub step_holds : (start : State) (history : List Update) (old new : PlainRegistryData) (nodes callers since : ℕ) (r : Receipt) → LeadsTo start history old → Step old r new → IsFilled start (history ++ made r) nodes callers since r → LeadsTo start (history ++ made r) new × Holds start (history ++ made r) nodes callers since r
+pub step_holds : (start : State) (history : List Update) (old new : PlainRegistryData) (nodes callers since : ℕ) (r : Receipt) → LeadsTo start history old → Step old r new → WasFilled start (history ++ made r) nodes callers since r → LeadsTo start (history ++ made r) new × Holds start (history ++ made r) nodes callers since r
 step_holds start history old new nodes callers since r leads step filled =
     let now = moment_is (accepted r) (moment r) old.updates (new ≡ old) (λ u. Fits u old.state) (λ u. new ≡ record { state = after u old.state; updates = old.updates + 1 }) step.changes in
     let next = numbered_next history (moment r) old.updates (accepted r) leads.updates now in (

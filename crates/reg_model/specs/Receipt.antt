@@ -1,6 +1,7 @@
 -- Receipts: what an answer says of a history.
-use Rattle.std.specs.Prelude.{◌≡◌, ℕ, ◌-◌, ◌*◌, ◌<◌, ◌≤◌, List, [], ◌∷◌, length, max, Option, Some, None}
-use Rattle.std.specs.Prelude.{IsNone, IsSomeAnd, slice_get, IfSome, MatchOption}
+use Rattle.std.specs.Prelude.{◌≡◌, ℕ, ◌-◌, ◌*◌, ◌<◌, ◌≤◌, List, [], ◌∷◌, length, max}
+use Rattle.std.specs.Prelude.{Option, Some, None, IsNone, IsSomeAnd, slice_get, IfSome}
+use Rattle.std.specs.Prelude.{MatchOption}
 use Rattle.std.specs.Option.{option_to_list}
 use Rattle.reg_model.specs.State.{State, objects, at_base, at_span, IsFree, IsLowestOverlap}
 use Rattle.reg_model.specs.SpanData.{SpanData}
@@ -109,7 +110,7 @@ HadRegistered least start history since _ = Unit {0}
 
 -- A tree that is full has two leaves or a full one. All nodes but those that callers may have out
 -- are in it, each for two members at least.
-pub record IsFilled (start : State) (history : List Update) (nodes callers since : ℕ)
+pub record WasFilled (start : State) (history : List Update) (nodes callers since : ℕ)
     (r : Receipt) : Type 0 where
   pub ten : HadRegistered 10 start history since r
   pub most : 2 ≤ nodes - 4 * callers
@@ -127,7 +128,7 @@ pub record Holds (start : State) (history : List Update) (nodes callers since : 
   pub within : moment r ≤ length history
   pub numbered : IsAtNumber history r
   pub right : IsRight (state_at start history (made_before r)) r
-  pub filled : IsFilled start history nodes callers since r
+  pub filled : WasFilled start history nodes callers since r
 
 -- each receipt of a list holds
 abbrev pub AllHold : State → List Update → ℕ → ℕ → ℕ → List Receipt → Type 0

@@ -6,7 +6,7 @@ ghost use Rattle.reg_model.specs.SpanData.{contains};
 ghost use Rattle.reg_model.specs.State.{State, AreDisjoint, IsLawful};
 ghost use Rattle.reg_model.specs.History.{IsHistory, state_after};
 ghost use Rattle.reg_model.specs.Query.{member_at};
-ghost use Rattle.reg_model.specs.Receipt.{Holds, IsAtNumber, IsFilled, made};
+ghost use Rattle.reg_model.specs.Receipt.{Holds, IsAtNumber, WasFilled, made};
 ghost use Rattle.reg_model.specs.Numbers.{AreNumbered, history_of};
 ghost use Rattle.reg_model.specs.PlainRegistryData.{PlainRegistryData, LeadsTo, Step};
 ghost use Rattle.reg_model.specs.Chain.{Chain, PlainStep, HoldsAlways, Rises, all_made};
@@ -20,7 +20,7 @@ pub fn answers_hold()
     ensures { (start : State) (history : List Update) (old new : PlainRegistryData)
         (nodes callers since : ℕ) (r : Receipt)
         → LeadsTo start history old → Step old r new
-        → IsFilled start (history ++ made r) nodes callers since r
+        → WasFilled start (history ++ made r) nodes callers since r
         → LeadsTo start (history ++ made r) new
         × Holds start (history ++ made r) nodes callers since r }
 {}

@@ -264,8 +264,8 @@ pub fn take()
         → IsChangeOf f live leaf (leaf ∷ []) [] g (Some (Deregister base)) (leaf ∷ []) }
 {}
 
-/// A leaf whose entry gives way to a member with the same whole span exchanges exactly these two. No
-/// count and no fence changes, so the tree stays lawful in any leaf.
+/// A leaf whose entry gives way to a member with the same whole span exchanges exactly these two.
+/// No count and no fence changes, so the tree stays lawful in any leaf.
 pub fn replace()
     ensures { (f : Contents) (live : ℕ → Bool) (leaf : ℕ) (member : Member) (g : Contents)
         → IsLawfulTree f live → IsReplace f live leaf member g

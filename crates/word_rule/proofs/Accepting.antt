@@ -7,7 +7,7 @@ use lib.ListN.{get_elem?}
 use Rattle.reg_model.specs.State.{State, at_base, at_span}
 use Rattle.reg_model.specs.History.{Fits, after, state_after}
 use Rattle.reg_model.specs.PlainRegistryData.{Step}
-use Rattle.reg_model.specs.Receipt.{moment, accepted, made, Holds, IsFilled}
+use Rattle.reg_model.specs.Receipt.{moment, accepted, made, Holds, WasFilled}
 use Rattle.reg_model.specs.declared.answer.Update.{Update}
 use Rattle.reg_model.specs.declared.answer.Update.TheVariants as update
 use Rattle.reg_model.specs.declared.answer.Inserted.TheVariants as inserted
@@ -45,7 +45,7 @@ pub record Accepts (u : Update) (s : State) (n : ℕ) (r : Receipt) : Type 0 whe
   pub number : moment r ≡ n + 1
   pub makes : made r ≡ u ∷ []
   pub one_step : Step (record { state = s; updates = n }) r (record { state = after u s; updates = n + 1 })
-  pub no_full : (st : State) (history : List Update) (nodes callers since : ℕ) → IsFilled st history nodes callers since r
+  pub no_full : (st : State) (history : List Update) (nodes callers since : ℕ) → WasFilled st history nodes callers since r
 
 some_and : {A : Type 0} (P : A → Type 0) (o : Option A) (a : A) → o ≡ Some a → P a → IsSomeAnd o P
 some_and P None a e p = absurd (none-some a e)

@@ -33,9 +33,9 @@ use Rattle.word_rule.specs.Copies.{ListsAll, ListsMembers, CopySightHolds, IsBeh
 use Rattle.word_rule.specs.Observations.{AreInside, SightHolds, WasFull, ObservationsHold, HadMembers, IsFullCount, last_moment}
 use Rattle.word_rule.specs.TableInvariant.{TableInvariant}
 use Rattle.word_rule.specs.Clock.{IsSeen, ClockTells, MayAsk, AreAsked}
-use Rattle.word_rule.specs.TreeRefusals.{Appends, AppendsRefusal, IsFilledSince, WereMade}
+use Rattle.word_rule.specs.TreeRefusals.{Appends, AppendsRefusal, WasFilledSince, WereMade}
 use Rattle.reg_model.specs.declared.answer.Update.TheVariants as update
-use Rattle.reg_model.specs.Receipt.{IsFilled, IsRight}
+use Rattle.reg_model.specs.Receipt.{WasFilled, IsRight}
 use Rattle.word_rule.specs.Steps.{IsRefusalOf, MayRefuse, Refuses}
 use Rattle.word_rule.specs.declared.log.LoaderHolding.{LoaderHolding}
 use Rattle.word_rule.proofs.CopyStores.{loader_held}
@@ -154,14 +154,14 @@ module _ (law : LeafLaw) (t : Terms) (slots id : ℕ) (me : Seated) (live : is_g
     }
 
     -- what a receipt tells of fullness, in its own terms
-    filled_so : (x : Receipt) → IsFilled (start t) r.memory.history t.nodes (total (λ v. v.made) s.views + 1) (last_moment me.0.receipts.since me.0.receipts.own) x → IsFilledSince me.0 me.0.terms r.memory.history x
-    filled_so x h = subst (λ k. IsFilledSince me.0 k r.memory.history x) (sym terms) (total (λ v. v.made) s.views + 1, (were_made, h))
+    filled_so : (x : Receipt) → WasFilled (start t) r.memory.history t.nodes (total (λ v. v.made) s.views + 1) (last_moment me.0.receipts.since me.0.receipts.own) x → WasFilledSince me.0 me.0.terms r.memory.history x
+    filled_so x h = subst (λ k. WasFilledSince me.0 k r.memory.history x) (sym terms) (total (λ v. v.made) s.views + 1, (were_made, h))
 
     appended : (x : Receipt) → IsRight (state_after (start me.0.terms) r.memory.history) x → HoldsNow t r.memory.history (total (λ v. v.made) s.views + 1) (last_moment me.0.receipts.since me.0.receipts.own) x → (y : Receipt) → x ≡ y → Appends y me.0 (after_clock (get_or s.words 0 0) r.memory.history (x ∷ []) me.0)
     appended x right now y same = record {
       own = ap (λ z. me.0.receipts.own ++ z ∷ []) same;
       right = subst (IsRight (state_after (start me.0.terms) r.memory.history)) same right;
-      filled = subst (IsFilledSince me.0 me.0.terms r.memory.history) same (filled_so x now.holds.filled);
+      filled = subst (WasFilledSince me.0 me.0.terms r.memory.history) same (filled_so x now.holds.filled);
     }
 
     pub asked : (b : Ask) → MayAsk t b me.0 → (rs : List Receipt) × (AreAsked b (get_or s.words 0 0) me.0.sights.copies (record me.0 { past = r.memory.history }) rs × (Told t r.memory.history (total (λ v. v.made) s.views + 1) (own_list me.0.receipts) rs × AppendsRefusal b (get_or s.words 0 0) me.0 (after_clock (get_or s.words 0 0) r.memory.history rs me.0)))

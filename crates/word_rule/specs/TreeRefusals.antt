@@ -4,7 +4,7 @@ use Rattle.std.specs.Prelude.{◌≡◌, ℕ, ◌+◌, ◌≤◌, ◌⊎◌, fal
 use Rattle.std.specs.Prelude.{◌++◌, length, flat_map, max, Contains}
 use Rattle.std.specs.List.{AllByRecursion}
 use Rattle.reg_model.specs.History.{state_after}
-use Rattle.reg_model.specs.Receipt.{IsFilled, IsRight}
+use Rattle.reg_model.specs.Receipt.{WasFilled, IsRight}
 use Rattle.reg_model.specs.State.{IsFree, IsLowestOverlap, at_base, at_span}
 use Rattle.reg_model.specs.declared.span.Member.{Member}
 use Rattle.reg_model.specs.declared.answer.Inserted.TheVariants as inserted
@@ -111,15 +111,15 @@ pub record WereMade (v : Log) (callers : ℕ) : Type 0 where
 -- Where the receipt is a Full, as many members were registered as the nodes and the callers that
 -- were ever made tell, in what is seen now: at some moment since the last receipt of its caller's
 -- log, and since that was split off.
-abbrev pub IsFilledSince : Log → Terms → List Update → Receipt → Type 0
-IsFilledSince v t past r = (callers : ℕ) × (WereMade v callers
-    × IsFilled (start t) past t.nodes callers (last_moment v.receipts.since v.receipts.own) r)
+abbrev pub WasFilledSince : Log → Terms → List Update → Receipt → Type 0
+WasFilledSince v t past r = (callers : ℕ) × (WereMade v callers
+    × WasFilled (start t) past t.nodes callers (last_moment v.receipts.since v.receipts.own) r)
 
 -- One receipt more, which is right in the state after all that is now seen.
 pub record Appends (r : Receipt) (v w : Log) : Type 0 where
   pub own : w.receipts.own ≡ v.receipts.own ++ r ∷ []
   pub right : IsRight (state_after (start w.terms) w.past) r
-  pub filled : IsFilledSince v w.terms w.past r
+  pub filled : WasFilledSince v w.terms w.past r
 
 -- Which receipt a load of the clock appends that is asked for the refusal of an update of the tree:
 -- the one that the held leaves show, with the clock's number of updates as its stamp.
