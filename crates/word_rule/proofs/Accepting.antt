@@ -165,14 +165,12 @@ module _ (t : Terms) (m : Memory) (views : List Log) (history : List Update) (c 
           terms = λ _. log.terms (ap is_gone caller);
           begins = ([], append-nil (history ++ u ∷ []));
           receipts = receipts callers (omega (arith, is_c));
-          lineage = log.lineage;
           idle = busy v w caller;
         })
         (λ j z _ there. let log = subst (λ k. LogHolds t history k z) (sym is_c) (c.each j z there) in record {
           terms = log.terms;
           begins = prefix_all z.past history (u ∷ []) log.begins;
           receipts = log.receipts;
-          lineage = log.lineage;
           idle = log.idle;
         })
 

@@ -53,7 +53,7 @@ last_number n h = rw (le-leb 1 n h, le-leb n n (omega arith)) refl
 
 module _ (t : Terms) (m : Memory) (views : List Log) (history : List Update) (r : CallersHold t m views history) (id : ℕ) (v : Log) (at : get_elem? views id ≡ some v) (alone : IsAlone v.lineage) where
   nameless_others : (j : ℕ) (u : Log) → j ≢ id → get_elem? views j ≡ some u → is_nameless u.role ≡ true
-  nameless_others = others_nameless views (λ j u e. (r.each j u e).lineage) r.lineages id v at alone
+  nameless_others = others_nameless views r.lineages id v at alone
 
   dones_all : (n : ℕ) → total (dones_in n) views ≡ dones_in n v
   dones_all n = all_of_total (dones_in n) views id v at (λ j u far there. (r.lineages.nameless j u there (nameless_others j u far there)).0 n)
@@ -95,7 +95,7 @@ settles_loads t slots id me s r deep at small =
       keeps,
       tt,
       rw (same_words, same_views) r,
-      (refl, (let a = part_of_total (λ u. u.budget.allowance) s.views id me.0 at in let o = r.memory.callers.room in let b = (r.memory.callers.each id me.0 at).begins in let l = sym (length-append me.0.past b.0) ∙ ap length b.1 in omega (arith, a, o, l)), (let a = part_of_total (λ u. u.budget.credit) s.views id me.0 at in let o = r.memory.callers.counted in omega (arith, a, o)), λ stands alone. whole t (memory_of t s.words) s.views r.memory.history r.memory.callers id me.0 at alone stands, (r.memory.callers.each id me.0 at).receipts.heard),
+      (refl, (let a = part_of_total (λ u. u.budget.allowance) s.views id me.0 at in let o = r.memory.callers.room in let b = (r.memory.callers.each id me.0 at).begins in let l = sym (length-append me.0.past b.0) ∙ ap length b.1 in omega (arith, a, o, l)), (let a = part_of_total (λ u. u.budget.credit) s.views id me.0 at in let o = r.memory.callers.counted in omega (arith, a, o)), (let a = part_of_total (λ u. u.lineage.share) s.views id me.0 at in let o = r.memory.callers.lineages.whole in omega (arith, a, o)), λ stands alone. whole t (memory_of t s.words) s.views r.memory.history r.memory.callers id me.0 at alone stands, (r.memory.callers.each id me.0 at).receipts.heard),
     )
 
 first_word : (words : List ℕ) (n : ℕ) → get_elem? words 0 ≡ some n → get_or words 0 0 ≡ n

@@ -79,7 +79,6 @@ module _ (t : Terms) (words : List ℕ) (views : List Log) (r : TableInvariant t
         terms = mine.terms;
         begins = mine.begins;
         receipts = record { since = mine.receipts.since; own = told_record t v.past v.past c (own_list v.receipts) rs own_past mine.receipts.since (subst (λ k. Told t v.past k (own_list v.receipts) rs) (sym is_c) told) mine.receipts.own; joined = mine.receipts.joined; heard = mine.receipts.heard };
-        lineage = mine.lineage;
         idle = idle_stays v w refl refl mine.idle;
       })
       (λ j u _ there. subst (λ k. LogHolds t r.memory.history k u) (sym is_c) (r.memory.callers.each j u there))

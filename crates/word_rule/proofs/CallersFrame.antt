@@ -1,5 +1,5 @@
 -- What is said of callers stays over a step that changes one log and not what it has seen or received.
-use Rattle.std.proofs.Common.{◌≡◌, ℕ, ◌+◌, ◌<◌, ◌≤◌, List, [], ◌∷◌, ◌++◌, set, sym, refl, ap, ◌∙◌, subst, arith, ⊎_elim, ◌≢◌, ◌%◌, Option, Some, None, IfSome, Bool, false, true}
+use Rattle.std.proofs.Common.{◌≡◌, ℕ, ◌+◌, ◌<◌, ◌≤◌, List, set, sym, refl, ap, ◌∙◌, subst, arith, ⊎_elim, ◌≢◌, ◌%◌, Option, Some, None, IfSome, Bool, false, true}
 use mathlib.Core.Option.{some, some-injective}
 use lib.ListN.{get_elem?}
 use Rattle.atomic_table.proofs.Lists.{set_here, set_else}
@@ -11,7 +11,6 @@ use Rattle.word_rule.specs.declared.log.Terms.{Terms}
 use Rattle.word_rule.specs.Memory.{Memory, counters}
 use Rattle.word_rule.specs.Places.{spare, upper}
 use Rattle.word_rule.specs.Copies.{IsBehind}
-use Rattle.word_rule.specs.Names.{name_count}
 use Rattle.word_rule.specs.Logs.{is_gone, is_nameless, weight}
 use Rattle.word_rule.specs.Callers.{total, CallersHold, LogHolds, LineagesHold, IsIdle, AtLoader, LoaderLock, NoneStored, dones, dones_in}
 use Rattle.word_rule.proofs.Facts.{total_set, total_same, after_step, within, decided}
@@ -56,20 +55,15 @@ none_before views id v w at mine clean j u there = ⊎_elim
     (λ (is : j ≡ id). subst (λ k. IfSome k.loader (λ h. h.stored ≡ false)) (some-injective v u (sym at ∙ (ap (get_elem? views) (sym is) ∙ there))) (mine (clean id w (set_here views id w (within views id v at)))))
     (λ (is : j ≢ id). clean j u (set_else views id j w is ∙ there)) (decided j id)
 
--- how logs were forked stays where one keeps its role, its names and its count of callers
+-- how logs were forked stays where one keeps its role, its share and its count of callers
 module _ (views : List Log) (lineages : LineagesHold views) (id : ℕ) (v w : Log) (at : get_elem? views id ≡ some v) (role : w.role ≡ v.role) (lineage : w.lineage ≡ v.lineage) (gone : is_nameless w.role ≡ true → ((n : ℕ) → dones_in n w ≡ 0) × (w.made ≡ 0)) where
   had_role : {b : Bool} → is_nameless w.role ≡ b → is_nameless v.role ≡ b
   had_role s = sym (ap is_nameless role) ∙ s
 
   pub lineages_over : LineagesHold (set views id w)
   lineages_over = record {
-    gathered = λ x. rw (total_same (λ u. name_count x u.lineage.gathered) views id v w at (ap (λ k. name_count x k.gathered) lineage), total_same (λ u. name_count x u.lineage.given) views id v w at (ap (λ k. name_count x k.given) lineage)) (lineages.gathered x);
-    given = λ x. rw (total_same (λ u. name_count x u.lineage.given) views id v w at (ap (λ k. name_count x k.given) lineage)) (lineages.given x);
-    named = after_step (λ _ u. is_nameless u.role ≡ false → 0 < name_count u.lineage.name u.lineage.gathered) views id w (λ s. rw lineage (lineages.named id v at (had_role s))) (λ j u _ e. lineages.named j u e);
-    unused = after_step (λ _ u. is_nameless u.role ≡ false → (n : ℕ) → u.lineage.forks ≤ n → total (λ z. name_count (u.lineage.name ++ n ∷ []) z.lineage.given) (set views id w) ≡ 0) views id w
-        (λ s n b. subst (λ k. total (λ z. name_count (k.name ++ n ∷ []) z.lineage.given) (set views id w) ≡ 0) (sym lineage)
-        (total_same (λ z. name_count (v.lineage.name ++ n ∷ []) z.lineage.given) views id v w at (ap (λ k. name_count (v.lineage.name ++ n ∷ []) k.given) lineage) ∙ lineages.unused id v at (had_role s) n (subst (λ k. k.forks ≤ n) lineage b)))
-        (λ j u _ e s n b. rw (total_same (λ z. name_count (u.lineage.name ++ n ∷ []) z.lineage.given) views id v w at (ap (λ k. name_count (u.lineage.name ++ n ∷ []) k.given) lineage)) (lineages.unused j u e s n b));
+    whole = total_same (λ u. u.lineage.share) views id v w at (ap (λ k. k.share) lineage) ∙ lineages.whole;
+    named = after_step (λ _ u. is_nameless u.role ≡ false → 0 < u.lineage.share) views id w (λ s. subst (λ k. 0 < k.share) (sym lineage) (lineages.named id v at (had_role s))) (λ j u _ e. lineages.named j u e);
     nameless = after_step (λ _ u. is_nameless u.role ≡ true → ((n : ℕ) → dones_in n u ≡ 0) × (u.made ≡ 0)) views id w gone (λ j u _ e. lineages.nameless j u e);
   }
 
@@ -85,7 +79,6 @@ module _ (t : Terms) (m : Memory) (views : List Log) (history : List Update) (r 
     terms = λ s. like.terms ∙ h.terms (was_gone s);
     begins = rw like.past h.begins;
     receipts = rw (like.past, like.receipts) h.receipts;
-    lineage = rw like.lineage h.lineage;
     idle = idle;
   }
 

@@ -204,7 +204,6 @@ module _ (law : LeafLaw) (t : Terms) (slots id : ℕ) (me : Seated) (live : is_g
           terms = λ _. terms;
           begins = ([], append-nil r.memory.history);
           receipts = record { since = since; own = told_record t me.0.past r.memory.history c (own_list me.0.receipts) receipts log.begins since (subst (λ k. Told t r.memory.history k (own_list me.0.receipts) receipts) (sym is_c) told) mine.receipts.own; joined = records_later t me.0.past r.memory.history c c mine.begins (omega arith) me.0.receipts.joined mine.receipts.joined; heard = prefix_both me.0.receipts.heard me.0.past r.memory.history mine.receipts.heard mine.begins };
-          lineage = mine.lineage;
           idle = idle_stays me.0 w refl refl mine.idle;
         })
         (λ j v _ there. subst (λ k. LogHolds t r.memory.history k v) (sym is_c) (r.memory.callers.each j v there))

@@ -1,5 +1,5 @@
--- A reader comes: it has seen a beginning of the history, holds nothing and has no name. Nothing else changes.
-use Rattle.std.proofs.Common.{◌≡◌, ℕ, ◌+◌, ◌<◌, ◌≤◌, List, [], ◌∷◌, ◌++◌, append-nil, length, set, sym, refl, ap, ◌∙◌, subst, arith, Option, Some, None, false, true, true≢false}
+-- A reader comes: it has seen a beginning of the history, holds nothing and has no share. Nothing else changes.
+use Rattle.std.proofs.Common.{◌≡◌, ℕ, ◌+◌, ◌<◌, List, [], ◌∷◌, ◌++◌, append-nil, length, set, sym, refl, ap, ◌∙◌, subst, arith, Option, Some, None, false, true, true≢false}
 use mathlib.Core.Option.{some}
 use mathlib.Core.List.{IsPrefix}
 use lib.ListN.{get_elem?}
@@ -11,7 +11,6 @@ use Rattle.word_rule.specs.declared.log.Log.{Log}
 use Rattle.word_rule.specs.declared.log.Terms.{Terms}
 use Rattle.word_rule.specs.Memory.{Memory, memory_of}
 use Rattle.word_rule.specs.Places.{lower}
-use Rattle.word_rule.specs.Names.{name_count}
 use Rattle.word_rule.specs.Logs.{is_gone, is_nameless, weight, reader_log, reader_of}
 use Rattle.word_rule.specs.Callers.{total, CallersHold, IsAlone, LogHolds, LineagesHold, AtLoader, LoaderLock, dones_in}
 use Rattle.word_rule.specs.Nodes.{NodesHold, HoldingsHold, HeldBy}
@@ -44,11 +43,8 @@ module _ (t : Terms) (words : List ℕ) (views : List Log) (r : TableInvariant t
 
   lineages : LineagesHold both
   lineages = let k = r.memory.callers.lineages in record {
-    gathered = λ x. let m = sums (λ v. name_count x v.lineage.gathered) refl in let g = sums (λ v. name_count x v.lineage.given) refl in let o = k.gathered x in omega (arith, m, g, o);
-    given = λ x. let g = sums (λ v. name_count x v.lineage.given) refl in let o = k.given x in omega (arith, g, o);
-    named = behind (λ _ u. is_nameless u.role ≡ false → 0 < name_count u.lineage.name u.lineage.gathered) views one (λ j u e. k.named j u e) (λ _ s. absurd (true≢false s));
-    unused = behind (λ _ u. is_nameless u.role ≡ false → (n : ℕ) → u.lineage.forks ≤ n → total (λ z. name_count (u.lineage.name ++ n ∷ []) z.lineage.given) both ≡ 0) views one
-        (λ j u e s n late. sums (λ z. name_count (u.lineage.name ++ n ∷ []) z.lineage.given) refl ∙ k.unused j u e s n late) (λ _ s. absurd (true≢false s));
+    whole = sums (λ v. v.lineage.share) refl ∙ k.whole;
+    named = behind (λ _ u. is_nameless u.role ≡ false → 0 < u.lineage.share) views one (λ j u e. k.named j u e) (λ _ s. absurd (true≢false s));
     nameless = behind (λ _ u. is_nameless u.role ≡ true → ((n : ℕ) → dones_in n u ≡ 0) × (u.made ≡ 0)) views one (λ j u e. k.nameless j u e) (λ _ _. ((λ n. refl), refl));
   }
 
@@ -64,7 +60,7 @@ module _ (t : Terms) (words : List ℕ) (views : List Log) (r : TableInvariant t
     numbers = λ n. sums (dones_in n) refl ∙ c.numbers n;
     each = subst (λ k. (j : ℕ) (u : Log) → get_elem? both j ≡ some u → LogHolds t r.memory.history (k + 1) u) (sym (sums (λ v. v.made) refl))
         (behind (λ _ u. LogHolds t r.memory.history (total (λ v. v.made) views + 1) u) views one (λ j u e. c.each j u e)
-        (λ _. record { terms = λ _. refl; begins = begins; receipts = record { since = omega arith; own = (tt, tt); joined = tt; heard = (past, refl) }; lineage = record { balanced = λ x. refl; given_by = λ x h. absurd (omega arith) }; idle = λ _. record { held = refl; out = refl; loader = refl } }));
+        (λ _. record { terms = λ _. refl; begins = begins; receipts = record { since = omega arith; own = (tt, tt); joined = tt; heard = (past, refl) }; idle = λ _. record { held = refl; out = refl; loader = refl } }));
     weights = (let a = sums (λ v. weight v.role) refl in let b = sums (λ v. v.made) refl in let o = c.weights in omega (arith, a, b, o));
     loader = lock_kept (memory_of t words).loader c.holder c.loader;
     at_loader = behind (λ j u. AtLoader (memory_of t words) r.memory.callers.holder j u.loader) views one (λ j u e. c.at_loader j u e) (λ _. tt);
@@ -96,7 +92,7 @@ module _ (t : Terms) (words : List ℕ) (views : List Log) (r : TableInvariant t
       observations = subst (λ k. (j : ℕ) (u : Log) → get_elem? both j ≡ some u → ObservationsHold t (memory_of t words) r.memory.history (k + 1) r.memory.shadow u) (sym (sums (λ v. v.made) refl))
           (behind (λ _ u. ObservationsHold t (memory_of t words) r.memory.history (total (λ v. v.made) views + 1) r.memory.shadow u) views one (λ j u e. r.memory.observations j u e) (λ _. record { sights = tt; copies = tt; full = tt; earlier = tt }));
     };
-    alone = behind (λ _ u. IsAlone u.lineage → IsStill words u) views one (λ j u e. r.alone j u e) (λ _ a. absurd (let f = a.first in omega (arith, f)));
+    alone = behind (λ _ u. IsAlone u.lineage → IsStill words u) views one (λ j u e. r.alone j u e) (λ _ a. absurd (let f = a.whole in omega (arith, f)));
   }
 
 -- a reader is made beside one that stays as it was: a caller, a note or a reader

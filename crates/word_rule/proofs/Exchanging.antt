@@ -22,8 +22,7 @@ use Rattle.word_rule.specs.Held.{held_of, settled_shape, settled_in, now_in, is_
 use Rattle.word_rule.specs.Exchange.{is_fresh, exchanged_in, reached_in, is_reached, node_of, out_after, IsLawfulExchange}
 use Rattle.word_rule.specs.Callers.{total}
 use Rattle.word_rule.specs.Nodes.{Shadow, NodesHold, HoldsNode, IsPlaced}
-use Rattle.word_rule.proofs.Names.{once_small}
-use Rattle.word_rule.proofs.Facts.{part_of_total}
+use Rattle.word_rule.proofs.Facts.{once_small, part_of_total}
 use Rattle.word_rule.proofs.Each.{held_is}
 use Rattle.word_rule.proofs.NodeLoads.{ltb_true}
 

@@ -55,7 +55,7 @@ module _ (t : Terms) (words : List ℕ) (views : List Log) (r : TableInvariant t
     wide = wide ∙ r.wide;
     memory = subst (λ k. MemoryHolds t k (set views id w)) (sym is) memory;
     alone = after_step (λ _ u. IsAlone u.lineage → IsStill words' u) views id w still
-        (λ j u far there alone. absurd (none_alone views (λ k z e. (r.memory.callers.each k z e).lineage) r.memory.callers.lineages id j v u at stands there far alone));
+        (λ j u far there alone. absurd (none_alone views r.memory.callers.lineages id j v u at stands there far alone));
   }
 
   -- a step that changes the loader's version word, or none, and neither holdings nor the history

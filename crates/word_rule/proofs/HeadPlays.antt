@@ -22,8 +22,7 @@ use Rattle.word_rule.specs.Nodes.{Shadow, HoldsNode, HoldingsHold, IsChain}
 use Rattle.word_rule.specs.TableInvariant.{TableInvariant}
 use Rattle.word_rule.specs.Plays.{Seated, FindsHead, pops, pushes}
 use prog.Atomic.{either}
-use Rattle.word_rule.proofs.Names.{once_small}
-use Rattle.word_rule.proofs.Facts.{total_set, part_of_total, after_step}
+use Rattle.word_rule.proofs.Facts.{once_small, total_set, part_of_total, after_step}
 use Rattle.word_rule.proofs.Each.{all_map}
 use Rattle.word_rule.proofs.Memories.{by_same, set_head}
 use Rattle.word_rule.proofs.HeadLoads.{EntriesLaw, head_within, looked}

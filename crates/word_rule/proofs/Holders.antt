@@ -13,8 +13,7 @@ use Rattle.word_rule.specs.Memory.{NodeWords}
 use Rattle.word_rule.specs.Held.{held_of}
 use Rattle.word_rule.specs.Nodes.{Shadow, NodesHold, HoldsNode, IsPlaced}
 use Rattle.word_rule.specs.NodeTells.{KnowsTree, IsHeldNode, IsLiveNode, OutTells}
-use Rattle.word_rule.proofs.Names.{once_small}
-use Rattle.word_rule.proofs.Facts.{part_of_total}
+use Rattle.word_rule.proofs.Facts.{once_small, part_of_total}
 use Rattle.word_rule.proofs.Each.{all_map}
 use Rattle.word_rule.proofs.Standing.{held_by}
 use Rattle.word_rule.proofs.NodeLoads.{ltb_true}

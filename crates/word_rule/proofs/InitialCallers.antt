@@ -5,13 +5,11 @@ use lib.ListN.{get_elem?, length-replicate, get_or-append}
 use borrow.Author.Tests.{le-leb, lt-leb}
 use Rattle.word_rule.specs.declared.log.Log.{Log}
 use Rattle.word_rule.specs.declared.log.Terms.{Terms}
-use Rattle.word_rule.specs.Names.{name_count}
 use Rattle.word_rule.specs.Places.{word_count, copy_words, initial_node, initial_nodes, initial_words}
 use Rattle.word_rule.specs.Memory.{memory_of, node_counters, copy_of}
 use Rattle.word_rule.proofs.Memories.{load_version_at}
 use Rattle.word_rule.specs.Logs.{first_log, is_nameless}
-use Rattle.word_rule.specs.Callers.{dones_in, total, CallersHold, LogHolds, AreTerms, AtLoader, number_of}
-use Rattle.word_rule.proofs.Names.{new_lineage_holds}
+use Rattle.word_rule.specs.Callers.{dones_in, CallersHold, LogHolds, AreTerms, AtLoader, number_of}
 use Rattle.word_rule.specs.Copies.{IsBehind}
 
 initial_node_length : (nodes n : ℕ) → length (initial_node nodes n) ≡ 36
@@ -67,17 +65,15 @@ callers_begin t terms copies = record {
   members = tt;
   room = omega arith;
   numbers = λ n. no_numbers n;
-  each = only (λ _ v. LogHolds t [] 1 v) (first_log t) (record { terms = λ _. refl; begins = ([], refl); receipts = record { since = omega arith; own = (tt, tt); joined = tt; heard = ([], refl) }; lineage = new_lineage_holds []; idle = λ zero_weight. absurd (omega (arith, zero_weight)) });
+  each = only (λ _ v. LogHolds t [] 1 v) (first_log t) (record { terms = λ _. refl; begins = ([], refl); receipts = record { since = omega arith; own = (tt, tt); joined = tt; heard = ([], refl) }; idle = λ zero_weight. absurd (omega (arith, zero_weight)) });
   weights = omega arith;
   loader = refl;
   at_loader = only (λ j v. AtLoader (memory_of t (initial_words t)) None j v.loader) (first_log t) tt;
   spare_copy = λ _. copies;
   counted = (let c = initial_counters t t.nodes (omega arith) in rw c (omega arith));
   lineages = record {
-    gathered = λ x. omega arith;
-    given = λ x. omega arith;
-    named = only (λ _ v. is_nameless v.role ≡ false → 0 < name_count v.lineage.name v.lineage.gathered) (first_log t) (λ _. omega arith);
-    unused = only (λ _ v. is_nameless v.role ≡ false → (n : ℕ) → v.lineage.forks ≤ n → total (λ w. name_count (v.lineage.name ++ n ∷ []) w.lineage.given) (first_log t ∷ []) ≡ 0) (first_log t) (λ _ n _. refl);
+    whole = refl;
+    named = only (λ _ v. is_nameless v.role ≡ false → 0 < v.lineage.share) (first_log t) (λ _. omega arith);
     nameless = only (λ _ v. is_nameless v.role ≡ true → ((n : ℕ) → dones_in n v ≡ 0) × (v.made ≡ 0)) (first_log t) (λ s. absurd (true≢false (sym s)));
   };
 }

@@ -1,5 +1,5 @@
 -- Callers and notes that come and go keep the rule.
-use Rattle.std.proofs.Common.{◌≡◌, ◌≢◌, ℕ, ◌+◌, ◌*◌, ◌<◌, ◌≤◌, List, [], ◌∷◌, ◌++◌, length, length-append, set, sym, refl, ap, ◌∙◌, subst, ⊎_elim, arith, append-nil, append_assoc, nat_lt, if◌then◌else◌, lt_of_not-le, le_of_lt, Option, Some, None, false, true, true≢false, max, IfSome}
+use Rattle.std.proofs.Common.{◌≡◌, ◌≢◌, ℕ, ◌+◌, ◌-◌, ◌*◌, ◌<◌, ◌≤◌, List, [], ◌∷◌, ◌++◌, length, set, sym, refl, ap, ◌∙◌, subst, ⊎_elim, arith, append-nil, append_assoc, nat_lt, if◌then◌else◌, lt_of_not-le, le_of_lt, Option, Some, None, false, true, true≢false, max, IfSome}
 use Rattle.std.specs.List.{AllByRecursion, count_by}
 use Rattle.std.proofs.lemmas.List.Sums.{sum_by-cons, sum_by-append}
 use Rattle.word_rule.specs.declared.log.ReceiptList.{ReceiptList}
@@ -22,21 +22,20 @@ use Rattle.word_rule.specs.declared.log.Budget.{Budget}
 use Rattle.word_rule.specs.declared.log.Receipts.{Receipts}
 use Rattle.word_rule.specs.declared.log.Log.{Log}
 use Rattle.word_rule.specs.declared.log.Terms.{Terms}
-use Rattle.tree_shape.specs.Numbers.{once}
-use Rattle.word_rule.specs.Names.{name_count, is_same, child_name, after_fork, joined_lineage}
+use Rattle.word_rule.specs.Shares.{after_fork, joined_lineage, part_of}
 use Rattle.word_rule.specs.Logs.{is_nameless, weight, turns, child_log, after_split, split_off, after_note, note_of, after_join, after_learn, spent_log, longer, shorter, budget_given, own_list}
-use Rattle.word_rule.specs.Callers.{total, CallersHold, IsIdle, IsAlone, LogHolds, LineageHolds, LineagesHold, AtLoader, LoaderLock, IsRecord, ReceiptsHold, dones, dones_of_all, dones_in, start}
+use Rattle.word_rule.specs.Callers.{total, CallersHold, IsIdle, IsAlone, LogHolds, LineagesHold, AtLoader, LoaderLock, IsRecord, ReceiptsHold, dones, dones_of_all, dones_in, start}
 use Rattle.reg_model.specs.Numbers.{has_number}
 use Rattle.word_rule.specs.CallerInvariant.{IsNote}
 use Rattle.word_rule.proofs.CallersFrame.{none_before}
 use Rattle.word_rule.proofs.Facts.{total_set, total_snoc, total_set_two, after_step, within, decided, behind}
-use Rattle.word_rule.proofs.Names.{same_or, once_same, once_other, once_small, count_append, new_lineage_holds, fork_holds, join_holds}
+use Rattle.word_rule.proofs.Shares.{part_less, part_some, part_within}
 use Rattle.word_rule.specs.Memory.{Memory, memory_of}
 use Rattle.word_rule.specs.Nodes.{Shadow}
 use Rattle.word_rule.specs.Copies.{CopySightHolds}
 use Rattle.word_rule.specs.Observations.{SightHolds, WasFull, ObservationsHold}
 use Rattle.word_rule.specs.TableInvariant.{TableInvariant, IsStill}
-use Rattle.word_rule.proofs.Lineages.{snoc_parts, one_place, unused_childless, none_alone, not_gone}
+use Rattle.word_rule.proofs.Lineages.{none_alone, not_gone}
 use Rattle.word_rule.proofs.SeatNodes.{nodes_fork, nodes_join}
 use Rattle.word_rule.proofs.ObservationsFrame.{no_more, longer_length, observations_over, observations_same}
 use Rattle.word_rule.proofs.Frames.{still_after_turn}
@@ -74,11 +73,10 @@ log_later t history callers later v grown h = record {
   terms = h.terms;
   begins = h.begins;
   receipts = receipts_later t v.past v.past callers later (own_prefix v.past) grown v.receipts h.receipts;
-  lineage = h.lineage;
   idle = h.idle;
 }
 
--- What stays of one that forks off another: all but its budget, its count of callers and its names.
+-- What stays of one that forks off another: all but its budget, its count of callers and its share.
 pub record Forks (v w : Log) : Type 0 where
   pub terms : w.terms ≡ v.terms
   pub role : w.role ≡ v.role
@@ -86,6 +84,7 @@ pub record Forks (v w : Log) : Type 0 where
   pub receipts : w.receipts ≡ v.receipts
   pub loader : w.loader ≡ v.loader
   pub lineage : w.lineage ≡ after_fork v.lineage
+  pub enough : 2 ≤ v.lineage.share
 
 module _ (t : Terms) (m : Memory) (views : List Log) (history : List Update) (r : CallersHold t m views history) (id : ℕ) (v w : Log) (role : Role) (budget : Budget) (at : get_elem? views id ≡ some v) (stands : is_nameless v.role ≡ false) (lives : is_nameless role ≡ false) (forks : Forks v w) (idle : weight w.role ≡ 0 → IsIdle w) where
   abbrev child : Log
@@ -98,43 +97,11 @@ module _ (t : Terms) (m : Memory) (views : List Log) (history : List Update) (r 
   sums : (f : Log → ℕ) → f w + f child ≡ f v → total f both ≡ total f views
   sums f e = let s = total_set f views id v w at in let n = total_snoc f (set views id w) child in omega (arith, s, n, e)
 
-  given_sum : (x : List ℕ) → total (λ u. name_count x u.lineage.given) both ≡ total (λ u. name_count x u.lineage.given) views + once (is_same (child_name v.lineage) x)
-  given_sum x =
-      let s = total_set (λ u. name_count x u.lineage.given) views id v w at in let n = total_snoc (λ u. name_count x u.lineage.given) (set views id w) child in
-      let b : name_count x w.lineage.given ≡ name_count x v.lineage.given + name_count x (child_name v.lineage ∷ []) = ap (λ k. name_count x k.given) forks.lineage ∙ count_append x v.lineage.given (child_name v.lineage ∷ []) in omega (arith, s, n, b)
-
-  gathered_sum : (x : List ℕ) → total (λ u. name_count x u.lineage.gathered) both ≡ total (λ u. name_count x u.lineage.gathered) views + once (is_same (child_name v.lineage) x)
-  gathered_sum x =
-      let s = total_set (λ u. name_count x u.lineage.gathered) views id v w at in let n = total_snoc (λ u. name_count x u.lineage.gathered) (set views id w) child in
-      let b : name_count x w.lineage.gathered ≡ name_count x v.lineage.gathered = ap (λ k. name_count x k.gathered) forks.lineage in omega (arith, s, n, b)
-
-  kin_each : (j : ℕ) (u : Log) → get_elem? views j ≡ some u → LineageHolds u.lineage
-  kin_each j u e = (r.each j u e).lineage
-
-  own_name : 0 < name_count v.lineage.name v.lineage.gathered
-  own_name = r.lineages.named id v at stands
-
-  -- a name that is yet to be given is another than the child's
-  other_name : (q : List ℕ) (n : ℕ) → q ++ n ∷ [] ≢ child_name v.lineage → total (λ u. name_count (q ++ n ∷ []) u.lineage.given) views ≡ 0 → total (λ u. name_count (q ++ n ∷ []) u.lineage.given) both ≡ 0
-  other_name q n ne none = let g = given_sum (q ++ n ∷ []) in let o = once_other (child_name v.lineage) (q ++ n ∷ []) (λ e. ne (sym e)) in omega (arith, g, o, none)
-
   pub lineages_fork : LineagesHold both
-  lineages_fork = record {
-    gathered = λ x. let m = gathered_sum x in let g = given_sum x in let o = r.lineages.gathered x in omega (arith, m, g, o);
-    given = λ x. ⊎_elim
-        (λ (e : child_name v.lineage ≡ x). let g = given_sum x in let n = subst (λ y. total (λ u. name_count y u.lineage.given) views ≡ 0) e (r.lineages.unused id v at stands v.lineage.forks (omega arith)) in let o = once_small (is_same (child_name v.lineage) x) in omega (arith, g, n, o))
-        (λ (e : is_same (child_name v.lineage) x ≡ false). let g = given_sum x in let z : once (is_same (child_name v.lineage) x) ≡ 0 = rw e refl in let o = r.lineages.given x in omega (arith, g, z, o)) (same_or (child_name v.lineage) x);
-    named = behind (λ _ u. is_nameless u.role ≡ false → 0 < name_count u.lineage.name u.lineage.gathered) (set views id w) child
-        (after_step (λ _ u. is_nameless u.role ≡ false → 0 < name_count u.lineage.name u.lineage.gathered) views id w (λ s. subst (λ k. 0 < name_count k.name k.gathered) (sym forks.lineage) own_name) (λ j u _ e. r.lineages.named j u e))
-        (λ _ s. let o = once_same (child_name v.lineage) in omega (arith, o));
-    unused = behind (λ _ u. is_nameless u.role ≡ false → (n : ℕ) → u.lineage.forks ≤ n → total (λ z. name_count (u.lineage.name ++ n ∷ []) z.lineage.given) both ≡ 0) (set views id w) child
-        (after_step (λ _ u. is_nameless u.role ≡ false → (n : ℕ) → u.lineage.forks ≤ n → total (λ z. name_count (u.lineage.name ++ n ∷ []) z.lineage.given) both ≡ 0) views id w
-        (λ s. subst (λ k. (n : ℕ) → k.forks ≤ n → total (λ z. name_count (k.name ++ n ∷ []) z.lineage.given) both ≡ 0) (sym forks.lineage)
-        (λ n late. other_name v.lineage.name n (λ e. let p = snoc_parts v.lineage.name v.lineage.name n v.lineage.forks e in let q = p.1 in omega (arith, q, late)) (r.lineages.unused id v at stands n (omega (arith, late)))))
-        (λ j u ne e s n late. other_name u.lineage.name n
-        (λ h. let p = snoc_parts u.lineage.name v.lineage.name n v.lineage.forks h in ne (one_place views kin_each r.lineages v.lineage.name id j v u at e own_name (subst (λ y. 0 < name_count y u.lineage.gathered) p.0 (r.lineages.named j u e s))))
-        (r.lineages.unused j u e s n late)))
-        (λ _ s n late. other_name (child_name v.lineage) n (λ e. let l = length-append (child_name v.lineage) (n ∷ []) in let z : length (child_name v.lineage ++ n ∷ []) ≡ length (child_name v.lineage) = ap length e in omega (arith, l, z)) (unused_childless views kin_each r.lineages id v at stands n));
+  lineages_fork = let kept : w.lineage.share ≡ v.lineage.share - part_of v.lineage.share = ap (λ k. k.share) forks.lineage in record {
+    whole = (let s = sums (λ u. u.lineage.share) (let p = part_within v.lineage.share in omega (arith, kept, p)) in let o = r.lineages.whole in omega (arith, s, o));
+    named = behind (λ _ u. is_nameless u.role ≡ false → 0 < u.lineage.share) (set views id w) child
+        (after_step (λ _ u. is_nameless u.role ≡ false → 0 < u.lineage.share) views id w (λ _. let l = part_less v.lineage.share forks.enough in omega (arith, kept, l)) (λ j u _ e. r.lineages.named j u e)) (λ _ _. part_some v.lineage.share forks.enough);
     nameless = behind (λ _ u. is_nameless u.role ≡ true → ((n : ℕ) → dones_in n u ≡ 0) × (u.made ≡ 0)) (set views id w) child
         (after_step (λ _ u. is_nameless u.role ≡ true → ((n : ℕ) → dones_in n u ≡ 0) × (u.made ≡ 0)) views id w (λ s. absurd (true≢false (sym s ∙ (ap is_nameless forks.role ∙ stands)))) (λ j u _ e. r.lineages.nameless j u e)) (λ _ s. absurd (true≢false (sym s ∙ lives)));
   }
@@ -164,10 +131,9 @@ module _ (t : Terms) (m : Memory) (views : List Log) (history : List Update) (r 
           terms = λ s. forks.terms ∙ h.terms (not_gone v.role stands);
           begins = subst (λ p. IsPrefix p history) (sym forks.past) h.begins;
           receipts = subst (λ p. ReceiptsHold t p (total (λ y. y.made) both + 1) w.receipts) (sym forks.past) (subst (ReceiptsHold t v.past (total (λ y. y.made) both + 1)) (sym forks.receipts) h.receipts);
-          lineage = subst LineageHolds (sym forks.lineage) (fork_holds v.lineage own_name h.lineage);
           idle = idle;
         })) (λ j u _ e. log_later t history _ (total (λ y. y.made) both + 1) u (more_made made) (r.each j u e)))
-        (λ _. record { terms = λ _. (r.each id v at).terms (not_gone v.role stands); begins = (r.each id v at).begins; receipts = record { since = omega arith; own = (tt, tt); joined = tt; heard = (v.past, refl) }; lineage = new_lineage_holds (child_name v.lineage); idle = λ _. record { held = refl; out = refl; loader = refl } });
+        (λ _. record { terms = λ _. (r.each id v at).terms (not_gone v.role stands); begins = (r.each id v at).begins; receipts = record { since = omega arith; own = (tt, tt); joined = tt; heard = (v.past, refl) }; idle = λ _. record { held = refl; out = refl; loader = refl } });
     loader = loader_fork r.holder r.loader;
     at_loader = behind (λ j u. AtLoader m r.holder j u.loader) (set views id w) child
         (after_step (λ j u. AtLoader m r.holder j u.loader) views id w (subst (AtLoader m r.holder id) (sym forks.loader) (r.at_loader id v at)) (λ j u _ e. r.at_loader j u e)) (λ _. tt);
@@ -250,26 +216,14 @@ module _ (t : Terms) (m : Memory) (views : List Log) (history : List Update) (r 
   made_is : total (λ x. x.made) after ≡ total (λ x. x.made) views
   made_is = sums_join (λ x. x.made) (let m = gains.made in omega (arith, m))
 
-  given_is : (x : List ℕ) → total (λ z. name_count x z.lineage.given) after ≡ total (λ z. name_count x z.lineage.given) views
-  given_is x = sums_join (λ z. name_count x z.lineage.given) (let e : name_count x b.lineage.given ≡ name_count x v.lineage.given + name_count x u.lineage.given = ap (λ k. name_count x k.given) gains.lineage ∙ count_append x v.lineage.given u.lineage.given in omega (arith, e))
-
-  gathered_is : (x : List ℕ) → total (λ z. name_count x z.lineage.gathered) after ≡ total (λ z. name_count x z.lineage.gathered) views
-  gathered_is x = sums_join (λ z. name_count x z.lineage.gathered) (let e : name_count x b.lineage.gathered ≡ name_count x v.lineage.gathered + name_count x u.lineage.gathered = ap (λ k. name_count x k.gathered) gains.lineage ∙ count_append x v.lineage.gathered u.lineage.gathered in omega (arith, e))
-
   everywhere : (P : ℕ → Log → Type 0) → P other spent_log → P id b → ((j : ℕ) (x : Log) → j ≢ other → j ≢ id → get_elem? views j ≡ some x → P j x) → (j : ℕ) (x : Log) → get_elem? after j ≡ some x → P j x
   everywhere P gone mine rest = after_step P one other spent_log gone
       (λ j x far e. ⊎_elim (λ (h : (j ≡ id) × (b ≡ x)). subst (λ (z : ℕ × Log). P z.0 z.1) (λ i. (sym h.0 i, h.1 i)) mine) (λ (h : (j ≢ id) × (get_elem? views j ≡ some x)). rest j x far h.0 h.1) (at_set views id j b x e))
 
   lineages_join : LineagesHold after
-  lineages_join = record {
-    gathered = λ x. let m = gathered_is x in let g = given_is x in let o = r.lineages.gathered x in omega (arith, m, g, o);
-    given = λ x. let g = given_is x in let o = r.lineages.given x in omega (arith, g, o);
-    named = everywhere (λ _ x. is_nameless x.role ≡ false → 0 < name_count x.lineage.name x.lineage.gathered) (λ s. absurd (true≢false s))
-        (λ _. let h = r.lineages.named id v at stands in let m = count_append v.lineage.name v.lineage.gathered u.lineage.gathered in subst (λ k. 0 < name_count k.name k.gathered) (sym gains.lineage) (omega (arith, h, m)))
-        (λ j x _ _ e. r.lineages.named j x e);
-    unused = everywhere (λ _ x. is_nameless x.role ≡ false → (n : ℕ) → x.lineage.forks ≤ n → total (λ z. name_count (x.lineage.name ++ n ∷ []) z.lineage.given) after ≡ 0) (λ s. absurd (true≢false s))
-        (λ _. subst (λ k. (n : ℕ) → k.forks ≤ n → total (λ z. name_count (k.name ++ n ∷ []) z.lineage.given) after ≡ 0) (sym gains.lineage) (λ n late. given_is (v.lineage.name ++ n ∷ []) ∙ r.lineages.unused id v at stands n late))
-        (λ j x _ _ e s n late. given_is (x.lineage.name ++ n ∷ []) ∙ r.lineages.unused j x e s n late);
+  lineages_join = let share : b.lineage.share ≡ v.lineage.share + u.lineage.share = ap (λ k. k.share) gains.lineage in record {
+    whole = (let s = sums_join (λ x. x.lineage.share) (omega (arith, share)) in let o = r.lineages.whole in omega (arith, s, o));
+    named = everywhere (λ _ x. is_nameless x.role ≡ false → 0 < x.lineage.share) (λ s. absurd (true≢false s)) (λ _. let h = r.lineages.named id v at stands in omega (arith, share, h)) (λ j x _ _ e. r.lineages.named j x e);
     nameless = everywhere (λ _ x. is_nameless x.role ≡ true → ((n : ℕ) → dones_in n x ≡ 0) × (x.made ≡ 0)) (λ _. ((λ n. refl), refl)) (λ s. absurd (true≢false (sym s ∙ (ap is_nameless gains.role ∙ stands)))) (λ j x _ _ e. r.lineages.nameless j x e);
   }
 
@@ -306,7 +260,7 @@ module _ (t : Terms) (m : Memory) (views : List Log) (history : List Update) (r 
     room = (let s = sums_join (λ x. x.budget.allowance) (let a = gains.allowance in omega (arith, a)) in let o = r.room in omega (arith, s, o));
     numbers = λ n. sums_join (dones_in n) (let e : dones_in n b ≡ dones n record { since = v.receipts.since; own = v.receipts.own; joined = v.receipts.joined ++ lists; heard = b.receipts.heard } = (λ i. dones n record { since = (gains.own i).since; own = (gains.own i).list; joined = gains.joined i; heard = b.receipts.heard }) in let a = dones_append n v.receipts.joined lists in let c = gains.counts n in omega (arith, e, a, c)) ∙ r.numbers n;
     each = everywhere (λ _ x. LogHolds t history count x)
-        (record { terms = λ s. absurd (true≢false s); begins = (history, refl); receipts = record { since = omega arith; own = (tt, tt); joined = tt; heard = ([], refl) }; lineage = record { balanced = λ x. refl; given_by = λ x h. absurd (omega arith) }; idle = λ _. record { held = refl; out = refl; loader = refl } })
+        (record { terms = λ s. absurd (true≢false s); begins = (history, refl); receipts = record { since = omega arith; own = (tt, tt); joined = tt; heard = ([], refl) }; idle = λ _. record { held = refl; out = refl; loader = refl } })
         (let h = r.each id v at in let i = r.each other u was_there in record {
           terms = λ s. gains.terms ∙ h.terms (not_gone v.role stands);
           begins = subst (λ p. IsPrefix p history) (sym gains.past) lengthened.2;
@@ -318,7 +272,6 @@ module _ (t : Terms) (m : Memory) (views : List Log) (history : List Update) (r 
                 (gained (record_later t u.past (longer v.past u.past) _ count lengthened.1 as_many (own_list u.receipts) i.receipts.own, records_later t u.past (longer v.past u.past) _ count lengthened.1 as_many u.receipts.joined i.receipts.joined)));
             heard = subst (λ p. IsPrefix p (longer v.past u.past)) (sym gains.heard) (shorter_begins v.past u.past lengthened.0 lengthened.1);
           };
-          lineage = subst LineageHolds (sym gains.lineage) (join_holds v.lineage u.lineage h.lineage i.lineage);
           idle = idle;
         })
         (λ j x _ _ e. log_later t history _ count x as_many (r.each j x e));
@@ -358,7 +311,7 @@ module _ (t : Terms) (id : ℕ) (v : Log) (caller : v.role ≡ role.Caller) wher
     still = still_after_turn s.words v w meets.turn meets.loads (r.memory.observations id v at).earlier
 
     others : (j : ℕ) (u : Log) → j ≢ id → get_elem? s.views j ≡ some u → IsAlone u.lineage → IsStill s.words u
-    others j u far there alone = absurd (none_alone s.views (λ k z e. (r.memory.callers.each k z e).lineage) r.memory.callers.lineages id j v u at stands there far alone)
+    others j u far there alone = absurd (none_alone s.views r.memory.callers.lineages id j v u at stands there far alone)
 
   -- one that has observed nothing
   fresh : (m : Memory) (history : List Update) (callers : ℕ) (shadow : Shadow) (u : Log) → u.sights ≡ record { nodes = []; copies = None } → u.trace.loads ≡ [] → ObservationsHold t m history callers shadow u
@@ -390,14 +343,14 @@ module _ (t : Terms) (id : ℕ) (v : Log) (caller : v.role ≡ role.Caller) wher
       }
 
   pub splits : (left give : ℕ) → give ≤ left → left ≤ v.budget.allowance → CALL_CREDIT * left ≤ v.budget.credit
-      → Splits (λ (s : State (Unit {0}) Log). TableInvariant t s.words s.views) id v (after_split left give v) (split_off left give v)
-  splits left give enough allowed credited s r at = forked_table s r (after_split left give v) role.Caller (budget_given left give v.budget) refl at
-      (record { terms = refl; role = refl; past = refl; receipts = refl; loader = refl; lineage = refl }) (record { holdings = refl; sights = refl; own = refl; loads = refl; turn = omega arith })
-      (omega arith) (omega (arith, enough, allowed)) (omega (arith, enough, credited))
+      → 2 ≤ v.lineage.share → Splits (λ (s : State (Unit {0}) Log). TableInvariant t s.words s.views) id v (after_split left give v) (split_off left give v)
+  splits left give enough allowed credited rest s r at = forked_table s r (after_split left give v) role.Caller (budget_given left give v.budget) refl at
+      (record { terms = refl; role = refl; past = refl; receipts = refl; loader = refl; lineage = refl; enough = rest }) (record { holdings = refl; sights = refl; own = refl; loads = refl; turn = omega arith })
+      (omega arith) (omega (arith, enough, allowed)) (let p = part_within (v.budget.credit - CALL_CREDIT * left) in omega (arith, enough, credited, p))
 
-  pub notes : Splits (λ (s : State (Unit {0}) Log). TableInvariant t s.words s.views) id v (after_note v) (note_of v)
-  notes s r at = forked_table s r (after_note v) role.Note (record { allowance = 0; credit = 0 }) refl at
-      (record { terms = refl; role = refl; past = refl; receipts = refl; loader = refl; lineage = refl }) (record { holdings = refl; sights = refl; own = refl; loads = refl; turn = omega arith })
+  pub notes : 2 ≤ v.lineage.share → Splits (λ (s : State (Unit {0}) Log). TableInvariant t s.words s.views) id v (after_note v) (note_of v)
+  notes rest s r at = forked_table s r (after_note v) role.Note (record { allowance = 0; credit = 0 }) refl at
+      (record { terms = refl; role = refl; past = refl; receipts = refl; loader = refl; lineage = refl; enough = rest }) (record { holdings = refl; sights = refl; own = refl; loads = refl; turn = omega arith })
       (omega arith) (omega arith) (omega arith)
 
   joined_table : (s : State (Unit {0}) Log) (r : TableInvariant t s.words s.views) (other : ℕ) (u b : Log) (lists : List ReceiptList) → get_elem? s.views id ≡ some v → (ne : other ≢ id) → get_elem? (set s.views id b) other ≡ some u

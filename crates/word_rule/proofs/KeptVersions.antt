@@ -3,7 +3,6 @@ use Rattle.std.proofs.Common.{◌≡◌, ℕ, ◌+◌, ◌-◌, ◌*◌, ◌<◌
 use Rattle.reg_model.specs.declared.answer.Update.{Update}
 use Rattle.word_rule.specs.Commits.{AfterCommit}
 use Rattle.word_rule.specs.declared.log.Log.{Log}
-use Rattle.word_rule.specs.declared.lineage.Names.{Names}
 use Rattle.word_rule.specs.CallerInvariant.{IsCaller}
 use Rattle.word_rule.specs.Exchange.{settle}
 use Rattle.word_rule.specs.Logs.{after_spending}
@@ -12,8 +11,8 @@ use Rattle.word_rule.proofs.NodeReleases.{settle_is}
 use Rattle.word_rule.specs.Plays.{Seated}
 
 -- a caller that let go of a node
-pub caller_released : (left spare seen : ℕ) (names : Names) (me me' : Seated) (n : ℕ) → me'.0 ≡ after_node_release_same n me.0 → me'.1 ≡ me.1 → IsCaller left spare seen names me → IsCaller left spare seen names me'
-caller_released left spare seen names me me' n is same c = subst (λ (v : Log). IsCaller left spare seen names (v, me'.1)) (sym is) (record {
+pub caller_released : (left spare seen share : ℕ) (me me' : Seated) (n : ℕ) → me'.0 ≡ after_node_release_same n me.0 → me'.1 ≡ me.1 → IsCaller left spare seen share me → IsCaller left spare seen share me'
+caller_released left spare seen share me me' n is same c = subst (λ (v : Log). IsCaller left spare seen share (v, me'.1)) (sym is) (record {
   bare = same ∙ c.bare;
   role = c.role;
   seen_all = c.seen_all;
@@ -21,15 +20,15 @@ caller_released left spare seen names me me' n is same c = subst (λ (v : Log). 
   most = c.most;
   credit = c.credit;
   counted = c.counted;
-  names_are = c.names_are;
+  shared = c.shared;
 })
 
 -- a caller that let go of a node with the next version
-pub caller_let_go : (left spare seen : ℕ) (names : Names) (me me' : Seated) (n : ℕ) → me'.0 ≡ after_node_release n me.0 → me'.1 ≡ me.1 → 64 * left < me.0.budget.credit → IsCaller left spare seen names me → IsCaller left (spare - 1) seen names me'
-caller_let_go left spare seen names me me' n is bare some_credit c =
+pub caller_let_go : (left spare seen share : ℕ) (me me' : Seated) (n : ℕ) → me'.0 ≡ after_node_release n me.0 → me'.1 ≡ me.1 → 64 * left < me.0.budget.credit → IsCaller left spare seen share me → IsCaller left (spare - 1) seen share me'
+caller_let_go left spare seen share me me' n is bare some_credit c =
     let u : Log = record me.0 { holdings = (settle None me.0).holdings } in
     let same : me'.0 ≡ record (after_node_release_same n u) { budget = after_spending u.budget } = is ∙ ap (λ (z : Log). record (after_node_release_same n z) { budget = after_spending z.budget }) (settle_is None me.0) in
-    subst (λ (z : Log). IsCaller left (spare - 1) seen names (z, me'.1)) (sym same) (record {
+    subst (λ (z : Log). IsCaller left (spare - 1) seen share (z, me'.1)) (sym same) (record {
       bare = bare ∙ c.bare;
       role = c.role;
       seen_all = c.seen_all;
@@ -37,15 +36,15 @@ caller_let_go left spare seen names me me' n is bare some_credit c =
       most = c.most;
       credit = (let e = c.credit in omega (arith, some_credit, e));
       counted = (let f = c.counted in omega (arith, f));
-      names_are = c.names_are;
+      shared = c.shared;
     })
 
 -- a caller that stored in a node
-pub caller_stored : (left spare seen : ℕ) (names : Names) (me me' : Seated) (n at value : ℕ) → me'.0 ≡ after_node_store n at value me.0 → me'.1 ≡ me.1 → IsCaller left spare seen names me → IsCaller left spare seen names me'
-caller_stored left spare seen names me me' n at value is bare c =
-    subst (λ (z : Log). IsCaller left spare seen names (z, me'.1)) (sym is) (go (frees n at value me.0))
+pub caller_stored : (left spare seen share : ℕ) (me me' : Seated) (n at value : ℕ) → me'.0 ≡ after_node_store n at value me.0 → me'.1 ≡ me.1 → IsCaller left spare seen share me → IsCaller left spare seen share me'
+caller_stored left spare seen share me me' n at value is bare c =
+    subst (λ (z : Log). IsCaller left spare seen share (z, me'.1)) (sym is) (go (frees n at value me.0))
   where
-    stored : IsCaller left spare seen names (stored_log n at value me.0, me'.1)
+    stored : IsCaller left spare seen share (stored_log n at value me.0, me'.1)
     stored = record {
       bare = bare ∙ c.bare;
       role = c.role;
@@ -54,12 +53,12 @@ caller_stored left spare seen names me me' n at value is bare c =
       most = c.most;
       credit = c.credit;
       counted = c.counted;
-      names_are = c.names_are;
+      shared = c.shared;
     }
 
-    go : (b : Bool) → IsCaller left spare seen names ((if b then settle None (stored_log n at value me.0) else stored_log n at value me.0), me'.1)
+    go : (b : Bool) → IsCaller left spare seen share ((if b then settle None (stored_log n at value me.0) else stored_log n at value me.0), me'.1)
     go false = stored
-    go true = subst (λ (z : Log). IsCaller left spare seen names (z, me'.1)) (sym (settle_is None (stored_log n at value me.0))) (record {
+    go true = subst (λ (z : Log). IsCaller left spare seen share (z, me'.1)) (sym (settle_is None (stored_log n at value me.0))) (record {
       bare = bare ∙ c.bare;
       role = c.role;
       seen_all = c.seen_all;
@@ -67,14 +66,14 @@ caller_stored left spare seen names me me' n at value is bare c =
       most = c.most;
       credit = c.credit;
       counted = c.counted;
-      names_are = c.names_are;
+      shared = c.shared;
     })
 
 -- a caller that committed an update
-pub caller_committed : (left spare seen seen' : ℕ) (names : Names) (me me' : Seated) (u : Update) (found : ℕ) → AfterCommit u found me.0 me'.0 → me'.1 ≡ me.1 → left < me.0.budget.allowance → seen' ≡ found % 4294967296 + 1 → IsCaller left spare seen names me → IsCaller left spare seen' names me'
-caller_committed left spare seen seen' names me me' u found (before, r, (tells, done, is)) bare some_due now c =
+pub caller_committed : (left spare seen seen' share : ℕ) (me me' : Seated) (u : Update) (found : ℕ) → AfterCommit u found me.0 me'.0 → me'.1 ≡ me.1 → left < me.0.budget.allowance → seen' ≡ found % 4294967296 + 1 → IsCaller left spare seen share me → IsCaller left spare seen' share me'
+caller_committed left spare seen seen' share me me' u found (before, r, (tells, done, is)) bare some_due now c =
     let same : me'.0 ≡ after_update u before r (record me.0 { holdings = (settle (Some u) me.0).holdings }) = is ∙ ap (after_update u before r) (settle_is (Some u) me.0) in
-    subst (λ (z : Log). IsCaller left spare seen' names (z, me'.1)) (sym same) (record {
+    subst (λ (z : Log). IsCaller left spare seen' share (z, me'.1)) (sym same) (record {
       bare = bare ∙ c.bare;
       role = c.role;
       seen_all = (let n = tells.number in let l = length-append before (u ∷ []) in omega (arith, now, n, l));
@@ -82,5 +81,5 @@ caller_committed left spare seen seen' names me me' u found (before, r, (tells, 
       most = c.most;
       credit = c.credit;
       counted = c.counted;
-      names_are = c.names_are;
+      shared = c.shared;
     })

@@ -1,7 +1,7 @@
 pub mod Facts
 pub mod Each
 pub mod Members
-pub mod Names
+pub mod Shares
 pub mod Memories
 pub mod Spells
 pub mod Standing

@@ -34,7 +34,6 @@ use Rattle.word_rule.specs.TableInvariant.{TableInvariant}
 use Rattle.word_rule.specs.Plays.{Seated, loads_copy}
 use Rattle.word_rule.proofs.Each.{all_map, all_with}
 use Rattle.word_rule.proofs.Members.{ascending_fit}
-use Rattle.word_rule.proofs.Names.{once_small}
 use Rattle.word_rule.proofs.Tallies.{tally_all, tally_ones}
 use Rattle.word_rule.proofs.Memories.{load_content_at, load_copy_at}
 use Rattle.word_rule.proofs.Spells.{reads_full}
@@ -42,6 +41,7 @@ use Rattle.word_rule.proofs.CallersFrame.{idle_stays}
 use Rattle.word_rule.proofs.ObservationsFrame.{observations_own, longer_length}
 use Rattle.word_rule.proofs.Frames.{Sit, still_after_load}
 use Rattle.word_rule.proofs.Quiet.{quiet}
+use Rattle.word_rule.proofs.Facts.{once_small}
 
 pub leb_true : (a b : ℕ) → nat_le a b ≡ true → a ≤ b
 leb_true a b h = go (dec_le a b)

@@ -24,8 +24,7 @@ use Rattle.word_rule.specs.Nodes.{Shadow, NodesHold, HoldsNode, HoldingsHold, Is
 use Rattle.word_rule.specs.Observations.{SightHolds}
 use Rattle.word_rule.specs.TableInvariant.{TableInvariant}
 use Rattle.word_rule.specs.Plays.{Seated, stores_node}
-use Rattle.word_rule.proofs.Names.{once_small}
-use Rattle.word_rule.proofs.Facts.{total_same, part_of_total, after_step, set_twice, within}
+use Rattle.word_rule.proofs.Facts.{once_small, total_same, part_of_total, after_step, set_twice, within}
 use Rattle.word_rule.proofs.Each.{all_both, all_map, some_with}
 use Rattle.word_rule.proofs.Memories.{set_content}
 use Rattle.word_rule.proofs.Standing.{locked_is_odd, held_by}

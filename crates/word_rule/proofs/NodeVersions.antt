@@ -362,7 +362,7 @@ module _ (t : Terms) (words : List ℕ) (views : List Log) (r : TableInvariant t
       absurd (⊎_elim
       (λ (is : j ≡ id). nothing b.0 (ap (λ (u : Log). u.holdings.held) (some-injective b.0 v (sym b.1.0 ∙ (ap (get_elem? views) is ∙ here))) ∙ none_held) b.1.1)
       (λ (far : j ≢ id).
-      let gone = others_nameless views (λ k z q. (r.memory.callers.each k z q).lineage) r.memory.callers.lineages id v here alone j b.0 far b.1.0 in
+      let gone = others_nameless views r.memory.callers.lineages id v here alone j b.0 far b.1.0 in
       nothing b.0 ((r.memory.callers.each j b.0 b.1.0).idle (weightless b.0.role gone)).held b.1.1)
       (decided j id))
     where

@@ -38,7 +38,7 @@ use Rattle.word_rule.specs.Callers.{start}
 use Rattle.word_rule.specs.Nodes.{Shadow, IsPlaced, HoldsNode, NodesHold}
 use Rattle.word_rule.specs.Observations.{AreInside, FoundHighest, HadMembers, IsFullCount, WasFull, last_moment}
 use Rattle.word_rule.specs.Steps.{IsRefusalOf}
-use Rattle.word_rule.specs.TreeRefusals.{IsInOne, HoldsLeaves, ShowsOverlap, ShowsNone, ShowsNoSpan, ShowsFull, FoundNoneFree, HadNoRoom, WereMade, entries_in_leaves}
+use Rattle.word_rule.specs.TreeRefusals.{IsInOne, HoldsLeaves, ShowsOverlap, ShowsNone, ShowsNoSpan, ShowsFull, FoundNoneFree, HadNoRoom, entries_in_leaves}
 use Rattle.word_rule.proofs.Each.{all_behind, all_map, all_with, held_is}
 use Rattle.word_rule.proofs.Listings.{contains_find, find_contains}
 use Rattle.word_rule.proofs.Refusals.{HoldsNow, right_now}

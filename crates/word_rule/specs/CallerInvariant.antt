@@ -2,19 +2,10 @@
 use Rattle.std.specs.Prelude.{◌≡◌, ℕ, ◌+◌, ◌*◌, ◌≤◌, [], length, None}
 use Rattle.word_rule.specs.declared.log.Role.TheVariants as role
 use Rattle.word_rule.specs.declared.log.Log.{Log}
-use Rattle.word_rule.specs.declared.log.Lineage.{Lineage}
-use Rattle.word_rule.specs.declared.lineage.Names.{Names}
 use Rattle.word_rule.specs.Places.{ALLOWANCE, CALL_CREDIT, CREDIT}
 use Rattle.word_rule.specs.Plays.{Seated}
 
--- the names that are kept plainly are those of the log
-pub record AreNamesOf (names : Names) (l : Lineage) : Type 0 where
-  pub name : names.name ≡ l.name
-  pub forks : names.forks ≡ l.forks
-  pub missing : names.missing.items ≡ l.missing
-  pub unmatched : names.unmatched.items ≡ l.unmatched
-
-pub record IsCaller (left spare seen : ℕ) (names : Names) (me : Seated) : Type 0 where
+pub record IsCaller (left spare seen share : ℕ) (me : Seated) : Type 0 where
   pub bare : me.1 ≡ []
   pub role : me.0.role ≡ role.Caller
   pub seen_all : seen ≡ length me.0.past
@@ -22,9 +13,9 @@ pub record IsCaller (left spare seen : ℕ) (names : Names) (me : Seated) : Type
   pub most : left ≤ ALLOWANCE
   pub credit : me.0.budget.credit ≡ CALL_CREDIT * left + spare
   pub counted : me.0.budget.credit ≤ CREDIT
-  pub names_are : AreNamesOf names me.0.lineage
+  pub shared : share ≡ me.0.lineage.share
 
--- A note's log has what its maker had seen, and names; it may do nothing and has done nothing.
+-- A note's log has what its maker had seen, and a share; it may do nothing and has done nothing.
 pub record IsNote (u : Log) : Type 0 where
   pub role : u.role ≡ role.Note
   pub loader : u.loader ≡ None
@@ -37,10 +28,10 @@ pub record IsNote (u : Log) : Type 0 where
   pub made : u.made ≡ 0
 
 -- the same of a note
-pub record KeepsNote (seen : ℕ) (names : Names) (me : Seated) : Type 0 where
+pub record KeepsNote (seen share : ℕ) (me : Seated) : Type 0 where
   pub bare : me.1 ≡ []
   pub seen_all : seen ≡ length me.0.past
-  pub names_are : AreNamesOf names me.0.lineage
+  pub shared : share ≡ me.0.lineage.share
   pub note : IsNote me.0
 
 -- what a reader keeps plainly: how much it has seen

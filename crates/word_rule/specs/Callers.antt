@@ -1,6 +1,6 @@
 -- What holds of the shared words and of all callers' logs between any two steps: the callers and
 -- the loader's lock.
-use Rattle.std.specs.Prelude.{◌≡◌, ℕ, ◌+◌, ◌<◌, ◌≤◌, ◌%◌, ◌⊎◌, Bool, List, [], ◌∷◌, ◌++◌, length}
+use Rattle.std.specs.Prelude.{◌≡◌, ℕ, ◌+◌, ◌<◌, ◌≤◌, ◌%◌, ◌⊎◌, Bool, List, [], ◌∷◌, length}
 use Rattle.std.specs.Prelude.{◌&&◌, nat_le, ◌^◌, Option, Some, None, IfSome, true, false}
 use Rattle.std.specs.List.{AllByRecursion, sum_by, count_by}
 use mathlib.Core.Option.{some}
@@ -24,10 +24,10 @@ use Rattle.word_rule.specs.declared.log.Lineage.{Lineage}
 use Rattle.word_rule.specs.declared.log.LoaderHolding.{LoaderHolding}
 use Rattle.word_rule.specs.declared.log.Log.{Log}
 use Rattle.word_rule.specs.Copies.{IsBehind}
-use Rattle.word_rule.specs.Names.{name_count, is_same}
 use Rattle.word_rule.specs.Logs.{is_gone, is_nameless, own_list, weight}
 use Rattle.word_rule.specs.Memory.{Memory, counters}
 use Rattle.word_rule.specs.Places.{ALLOWANCE, CREDIT, lower, upper, spare}
+use Rattle.word_rule.specs.Shares.{WHOLE}
 
 -- a number of each log, added up
 abbrev pub total : (Log → ℕ) → List Log → ℕ
@@ -100,19 +100,9 @@ pub record ReceiptsHold (t : Terms) (history : List Update) (callers : ℕ)
   pub joined : AllByRecursion (IsRecord t history callers) r.joined
   pub heard : IsPrefix r.heard history
 
--- Of any name, what was gathered and what was given stand against each other, but for what is
--- unmatched and what is missing. Each name given is that of a child of one that was gathered.
-pub record LineageHolds (l : Lineage) : Type 0 where
-  pub balanced : (x : List ℕ)
-      → name_count x l.unmatched + name_count x l.given
-      ≡ name_count x l.missing + name_count x l.gathered
-  pub given_by : (x : List ℕ) → 0 < name_count x l.given → (p : List ℕ) × (n : ℕ)
-      × ((x ≡ p ++ n ∷ []) × (0 < name_count p l.gathered))
-
--- The first caller's name was gathered, and no name is missing.
+-- It has the whole of all shares.
 pub record IsAlone (l : Lineage) : Type 0 where
-  pub first : 0 < name_count [] l.unmatched
-  pub all : l.missing ≡ []
+  pub whole : l.share ≡ WHOLE
 
 -- it holds no lock, and has no node out
 pub record IsIdle (v : Log) : Type 0 where
@@ -128,7 +118,6 @@ pub record LogHolds (t : Terms) (history : List Update) (callers : ℕ) (v : Log
   pub begins : IsPrefix v.past history
   -- each of its receipts holds in what it has seen
   pub receipts : ReceiptsHold t v.past callers v.receipts
-  pub lineage : LineageHolds v.lineage
   -- one that is no caller's holds no lock and has no node out
   pub idle : weight v.role ≡ 0 → IsIdle v
 
@@ -170,19 +159,11 @@ NoneStored views = (id : ℕ) (v : Log) → get_elem? views id ≡ some v
 
 -- How the logs were forked from one another.
 pub record LineagesHold (views : List Log) : Type 0 where
-  -- each name given was gathered by one log at most; but the first caller's was given by none
-  pub gathered : (x : List ℕ)
-      → total (λ v. name_count x v.lineage.gathered) views ≡ total
-      (λ v. name_count x v.lineage.given) views + once (is_same [] x)
-  pub given : (x : List ℕ) → total (λ v. name_count x v.lineage.given) views ≤ 1
-  -- a log that has a name gathered it
+  pub whole : total (λ v. v.lineage.share) views ≡ WHOLE
+  -- one that is waited for has a share
   pub named : (id : ℕ) (v : Log) → get_elem? views id ≡ some v → is_nameless v.role ≡ false
-      → 0 < name_count v.lineage.name v.lineage.gathered
-  -- and has not given the names that it is yet to give; nor has another
-  pub unused : (id : ℕ) (v : Log) → get_elem? views id ≡ some v → is_nameless v.role ≡ false
-      → (n : ℕ) → v.lineage.forks ≤ n
-      → total (λ w. name_count (v.lineage.name ++ n ∷ []) w.lineage.given) views ≡ 0
-  -- one without a name has accepted no update and made no caller
+      → 0 < v.lineage.share
+  -- one that isn't has accepted no update and made no caller
   pub nameless : (id : ℕ) (v : Log) → get_elem? views id ≡ some v → is_nameless v.role ≡ true
       → ((n : ℕ) → dones_in n v ≡ 0) × (v.made ≡ 0)
 

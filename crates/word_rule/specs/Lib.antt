@@ -1,4 +1,4 @@
-pub mod Names
+pub mod Shares
 pub mod Places
 pub mod Memory
 pub mod Logs

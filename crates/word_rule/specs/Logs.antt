@@ -1,6 +1,6 @@
 -- What each step makes of its caller's log: loads, the loader's lock, and callers and notes that
 -- come and go.
-use Rattle.std.specs.Prelude.{◌≡◌, ℕ, ◌+◌, ◌-◌, ◌*◌, ◌/◌, Bool, List, [], ◌∷◌, ◌++◌, length, Some}
+use Rattle.std.specs.Prelude.{◌≡◌, ℕ, ◌+◌, ◌-◌, ◌*◌, Bool, List, [], ◌∷◌, ◌++◌, length, Some}
 use Rattle.std.specs.Prelude.{None, nat_lt, false, true, if◌then◌else◌}
 use Rattle.reg_model.specs.declared.answer.Update.{Update}
 use Rattle.word_rule.specs.declared.log.Terms.{Terms}
@@ -14,11 +14,10 @@ use Rattle.word_rule.specs.declared.log.Receipts.{Receipts}
 use Rattle.word_rule.specs.declared.log.Trace.{Trace}
 use Rattle.word_rule.specs.declared.log.Lineage.{Lineage}
 use Rattle.word_rule.specs.declared.log.Log.{Log}
-use Rattle.word_rule.specs.Names.{new_lineage, child_name, after_fork, joined_lineage}
+use Rattle.word_rule.specs.Shares.{part_of, whole_lineage, after_fork, forked_lineage, joined_lineage}
 use Rattle.word_rule.specs.Places.{ALLOWANCE, CREDIT, CALL_CREDIT, copy_words}
 
--- whether a log has no name of its own: a reader has none, nor has what was joined or learnt into
--- another
+-- whether nobody waits for a log: for a reader's, and for what was joined or learnt into another
 abbrev pub is_nameless : Role → Bool
 is_nameless role.Caller = false
 is_nameless role.Note = false
@@ -120,21 +119,20 @@ abbrev pub first_log : Terms → Log
 first_log t = new_log t role.Caller [] record {
   allowance = ALLOWANCE;
   credit = CREDIT;
-} (new_lineage [])
+} whole_lineage
 
 -- What a caller that is split off or a note begins with: what its maker has seen, so much to do,
--- and a name.
+-- and a share.
 abbrev pub child_log : Role → Budget → Log → Log
-child_log role budget v = new_log v.terms role v.past budget (new_lineage (child_name v.lineage))
+child_log role budget v = new_log v.terms role v.past budget (forked_lineage v.lineage)
 
 -- what one that makes no update may do
 abbrev pub no_budget : Budget
 no_budget = record { allowance = 0; credit = 0 }
 
--- the names of one that has none
+-- the share of one that nobody waits for
 abbrev pub no_lineage : Lineage
-no_lineage =
-    record { name = []; forks = 0; missing = []; unmatched = []; gathered = []; given = [] }
+no_lineage = record { share = 0 }
 
 -- what is left of a log that was joined or learnt into another
 abbrev pub spent_log : Log
@@ -151,9 +149,9 @@ abbrev pub reader_of : Log → Log
 reader_of v = reader_log v.terms v.past
 
 -- The releases that a split gives away with so many of the `left` update calls: those of the calls,
--- and half of the surplus, rounded down.
+-- and a part of the surplus.
 abbrev pub credit_given : ℕ → ℕ → ℕ → ℕ
-credit_given credit left give = CALL_CREDIT * give + (credit - CALL_CREDIT * left) / 2
+credit_given credit left give = CALL_CREDIT * give + part_of (credit - CALL_CREDIT * left)
 
 abbrev pub budget_given : ℕ → ℕ → Budget → Budget
 budget_given left give b = record { allowance = give; credit = credit_given b.credit left give }

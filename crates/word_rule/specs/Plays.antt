@@ -9,6 +9,7 @@ use Rattle.word_rule.specs.declared.log.Log.{Log}
 use Rattle.word_rule.specs.declared.log.LoaderHolding.{LoaderHolding}
 use Rattle.word_rule.specs.declared.log.Ask.{Ask}
 use Rattle.word_rule.specs.Places.{ALLOWANCE, CREDIT, lower, node_place}
+use Rattle.word_rule.specs.Shares.{WHOLE}
 use Rattle.word_rule.specs.Sights.{after_node_begin, after_node_version, after_node_load}
 use Rattle.word_rule.specs.Sights.{after_copy_load}
 use Rattle.word_rule.specs.Steps.{after_node_lock, after_head_load, after_copy_store, AfterPublish}
@@ -72,12 +73,13 @@ abbrev pub releases_same : Stepped → Seated → ℕ → Seated → Type 0
 releases_same st me found me' = (me' ≡ (after_loader_release_same me.0, me.1)) × WasLocked me found
 
 -- What a caller into which another was joined is told by a load of the clock: how many updates it
--- may still make beside those that it has seen, and how many releases; where it is alone, that its
--- log has all that was ever done; and that what it has seen begins with what it heard.
+-- may still make beside those that it has seen, how many releases, and how large its share may be;
+-- where it is alone, that its log has all that was ever done; and that what it has seen begins with
+-- what it heard.
 abbrev pub confirms : Stepped → Seated → ℕ → Seated → Type 0
 confirms st me found me' =
     (me' ≡ me) × (length me.0.past + me.0.budget.allowance ≤ ALLOWANCE)
-    × (me.0.budget.credit ≤ CREDIT)
+    × (me.0.budget.credit ≤ CREDIT) × (me.0.lineage.share ≤ WHOLE)
     × (is_nameless me.0.role ≡ false → IsAlone me.0.lineage → IsWhole me.0)
     × IsPrefix me.0.receipts.heard me.0.past
 

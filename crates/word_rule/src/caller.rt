@@ -4,8 +4,8 @@ ghost use Rattle.word_rule.specs.CallerData.{due, surplus};
 ghost use Rattle.word_rule.specs.Callers.{IsAlone};
 ghost use Rattle.word_rule.specs.Places.{CALL_CREDIT};
 
-use crate::lineage::Names;
 use crate::log::Log;
+use crate::share::Share;
 use atomic_table::Seat;
 use std::marker::Model;
 
@@ -20,7 +20,7 @@ pub struct Caller {
     /// The releases that it may make beside those of the update calls that are left.
     pub(crate) spare: u64,
     pub(crate) seen: u32,
-    pub(crate) names: Names,
+    pub(crate) share: Share,
 }
 
 impl Model for Caller {
@@ -32,7 +32,7 @@ impl Model for Caller {
 
     ghost view = { λ c. record { table = c.seat.table_id; left = c.left; log = c.seat.me.0 } };
 
-    ghost invariant = { λ c. IsCaller c.left c.spare c.seen c.names c.seat.me };
+    ghost invariant = { λ c. IsCaller c.left c.spare c.seen c.share c.seat.me };
 }
 
 /// What a caller had seen, to be told to another.
@@ -40,7 +40,7 @@ impl Model for Caller {
 pub struct Note {
     pub(crate) seat: Seat<(), Log>,
     pub(crate) seen: u32,
-    pub(crate) names: Names,
+    pub(crate) share: Share,
 }
 
 impl Model for Note {
@@ -52,7 +52,7 @@ impl Model for Note {
 
     ghost view = { λ n. record { table = n.seat.table_id; log = n.seat.me.0 } };
 
-    ghost invariant = { λ n. KeepsNote n.seen n.names n.seat.me };
+    ghost invariant = { λ n. KeepsNote n.seen n.share n.seat.me };
 }
 
 impl Note {
@@ -99,7 +99,7 @@ impl Caller {
     pub fn alone(&self) -> bool
         ensures { IsTrue result ↔ IsAlone self.now.log.lineage }
     {
-        self.names.is_alone()
+        self.share.is_whole()
     }
 
     /// Begins an update call, where one is left.

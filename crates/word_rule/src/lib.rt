@@ -11,9 +11,9 @@
 //! each word stands.
 //!
 //! A caller splits off others and makes notes for them; a caller may join another, or learn a note.
-//! Each has a name, its maker's with a number, by which a caller knows whether it is alone
-//! (`lineage`). A `Reader` only loads: it has no name, so nobody waits for it, and it may be made
-//! and dropped at any time. A `Looker` is either.
+//! Each has a share, a part of its maker's, and who has the whole knows that it is alone (`share`).
+//! A `Reader` only loads: it has no share, so nobody waits for it, and it may be made and dropped
+//! at any time. A `Looker` is either.
 //!
 //! Who writes which word, under which lock, and why it is safe to read it without one:
 //!
@@ -42,7 +42,6 @@ pub mod exchange;
 mod head;
 mod initial;
 mod lifecycle;
-mod lineage;
 mod log;
 mod looker;
 mod nodes;
@@ -50,6 +49,7 @@ pub mod places;
 mod readers;
 mod rule;
 mod seats;
+mod share;
 mod words;
 
 pub use caller::{Caller, Note};

@@ -9,9 +9,9 @@ ghost use Rattle.word_rule.specs.Callers.{IsAlone, IsWhole};
 
 use crate::caller::Caller;
 use crate::initial::initial_words;
-use crate::lineage::{Name, Names};
 use crate::places::LOWER;
 use crate::rule::Made;
+use crate::share::Share;
 use crate::words::Words;
 use atomic_table::Table;
 use reg_model::{Member, NoMemory};
@@ -46,7 +46,6 @@ impl Words {
             ≡ record { table = made.0.table; left = ALLOWANCE; log = first_log made.0.terms }) }
     {
         let words = initial_words(alloc, nodes, loads)?;
-        let names = Names::new(alloc, Name::first(alloc))?;
         let made = Made {
             nodes,
             loads,
@@ -60,16 +59,15 @@ impl Words {
             left: ALLOWANCE,
             spare: SPARE,
             seen: 0,
-            names,
+            share: Share::whole(),
         };
         Ok((Words { table, made }, me))
     }
 
-    /// Takes the words apart, by the first caller alone, and answers how many updates were
+    /// Takes the words apart, by one that is alone, and answers how many updates were
     /// accepted.
     pub fn close(self, me: Caller) -> u32
         requires table { me.table ≡ self.table }
-        requires first { me.log.lineage.name ≡ [] }
         requires alone { IsAlone me.log.lineage }
         requires idle { (me.log.loader ≡ None) × (me.log.holdings.held ≡ [])
             × (me.log.holdings.out ≡ []) }
@@ -82,7 +80,7 @@ impl Words {
             left: _,
             spare: _,
             seen: _,
-            names: _,
+            share: _,
         } = me;
         let closed = table.close_with(seat);
         let clock = closed.word(0);

@@ -154,20 +154,11 @@ pub struct Sights {
     pub copies: Option<CopySight>,
 }
 
-/// How callers and notes were forked from one another. A name is a list of numbers.
+/// How callers and notes were forked from one another.
 pub struct Lineage {
-    pub name: LinkedList<u64>,
-    /// How many callers and notes it forked off itself.
-    pub forks: u64,
-    /// Names given, of which no bearer was gathered.
-    pub missing: LinkedList<LinkedList<u64>>,
-    /// Names gathered that it didn't give: its own first of all.
-    pub unmatched: LinkedList<LinkedList<u64>>,
-    /// All names gathered: its own, and those of what was joined or learnt into it, directly or
-    /// through others.
-    pub gathered: LinkedList<LinkedList<u64>>,
-    /// All names that these gave.
-    pub given: LinkedList<LinkedList<u64>>,
+    /// What it has of the whole that the first caller had, of which each that is forked off is
+    /// given a part, and which comes back with what is joined or learnt.
+    pub share: u128,
 }
 
 /// What a caller has seen and done.

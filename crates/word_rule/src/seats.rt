@@ -6,11 +6,13 @@ ghost use Rattle.word_rule.specs.Places.{ALLOWANCE, CALL_CREDIT, CREDIT};
 ghost use Rattle.word_rule.specs.Logs.{is_nameless, after_split, split_off, after_note, note_of};
 ghost use Rattle.word_rule.specs.Logs.{after_join, after_learn};
 ghost use Rattle.word_rule.specs.Callers.{IsAlone, IsWhole};
+ghost use Rattle.word_rule.specs.Shares.{WHOLE};
 
 use crate::caller::{Caller, Note};
 use crate::clock::CLOCK_WORD;
 use crate::log::{Log, Role};
 use crate::rule::{Confirms, Giving, Joins, Learns, Notes, Splits};
+use crate::share::small_part;
 use crate::words::Words;
 use atomic_table::Seat;
 use reg_model::NoMemory;
@@ -24,6 +26,7 @@ impl Words {
         requires caller { seat.old.me.0.role ≡ Role.Caller }
         requires room { (give ≤ left) × (left ≤ seat.old.me.0.budget.allowance)
             × (CALL_CREDIT * left ≤ seat.old.me.0.budget.credit) }
+        requires share { 2 ≤ seat.old.me.0.lineage.share }
         ensures old { (seat.new.table_id ≡ seat.old.table_id) × (seat.new.id ≡ seat.old.id)
             × (seat.new.me ≡ (after_split left give seat.old.me.0, seat.old.me.1)) }
         ensures new { (result.table_id ≡ seat.old.table_id)
@@ -51,19 +54,21 @@ impl Words {
               left = me.old.left - give;
               log = after_split me.old.left give me.old.log;
             }) }
+        ensures apart { OnOk result (me.new.log.lineage.share < WHOLE) }
         ensures err { OnErr result (me.new ≡ me.old) }
     {
-        let names = me.names.fork(alloc)?;
+        let _ = alloc;
+        let share = me.share.split()?;
         let seat = self.split_seat::<Brand>(&mut me.seat, me.left, give);
         me.left -= give;
-        let half = me.spare / 2;
-        me.spare -= half;
+        let spare = small_part(me.spare);
+        me.spare -= spare;
         Ok(Caller {
             seat,
             left: give,
-            spare: half,
+            spare,
             seen: me.seen,
-            names,
+            share,
         })
     }
 
@@ -73,12 +78,14 @@ impl Words {
         ensures note { IfOk result
             (λ note. note ≡ record { table = me.old.table; log = note_of me.old.log }) }
         ensures me { OnOk result (me.new ≡ record me.old { log = after_note me.old.log }) }
+        ensures apart { OnOk result (me.new.log.lineage.share < WHOLE) }
         ensures err { OnErr result (me.new ≡ me.old) }
     {
-        let names = me.names.fork(alloc)?;
+        let _ = alloc;
+        let share = me.share.split()?;
         let seen = me.seen;
         let seat = self.table.shared.split_seat::<Notes>(&mut me.seat);
-        Ok(Note { seat, seen, names })
+        Ok(Note { seat, seen, share })
     }
 
     // A load of the clock, which stores nothing in the log.
@@ -89,6 +96,7 @@ impl Words {
         ensures allowance { length seat.old.me.0.past + seat.old.me.0.budget.allowance
             ≤ ALLOWANCE }
         ensures credit { seat.old.me.0.budget.credit ≤ CREDIT }
+        ensures share { seat.old.me.0.lineage.share ≤ WHOLE }
         ensures whole { is_nameless seat.old.me.0.role ≡ false → IsAlone seat.old.me.0.lineage
             → IsWhole seat.old.me.0 }
         ensures heard { IsPrefix seat.old.me.0.receipts.heard seat.old.me.0.past }
@@ -133,22 +141,14 @@ impl Words {
             left,
             spare,
             seen,
-            names,
+            share,
         } = other;
-        if let Err(names) = me.names.join(names) {
-            return Err(Caller {
-                seat,
-                left,
-                spare,
-                seen,
-                names,
-            });
-        }
         self.table.shared.join_seat::<Joins>(&mut me.seat, seat);
         self.confirm_seat(&mut me.seat);
         me.left += left;
         me.spare += spare;
         me.seen = me.seen.max(seen);
+        me.share.join(share);
         Ok(())
     }
 
@@ -167,19 +167,13 @@ impl Words {
         let Note {
             seat,
             seen: noted,
-            names,
+            share: given,
         } = note;
-        if let Err(names) = me.names.join(names) {
-            return Err(Note {
-                seat,
-                seen: noted,
-                names,
-            });
-        }
         let mine = &mut me.seat;
         self.table.shared.join_seat::<Learns>(mine, seat);
         self.confirm_seat(mine);
         me.seen = me.seen.max(noted);
+        me.share.join(given);
         Ok(())
     }
 }

@@ -3,30 +3,6 @@ use Rattle.word_rule.specs.Logs.{is_nameless}
 use Rattle.word_rule.proofs.Joins.{joins}
 use Rattle.word_rule.proofs.words.Words.join.Goals as goal
 
-pub invariant_of-result : goal.invariant_of-result
-invariant_of-result c = let i = c.other.invariant in record {
-  bare = i.bare;
-  role = i.role;
-  seen_all = i.seen_all;
-  allowed = i.allowed;
-  most = i.most;
-  credit = i.credit;
-  counted = i.counted;
-  names_are = (c.in-Err.ensures.err _ _ c.me.invariant.names_are i.names_are).1;
-}
-
-pub invariant_of-me : goal.invariant_of-me
-invariant_of-me c = let i = c.me.invariant in record {
-  bare = i.bare;
-  role = i.role;
-  seen_all = i.seen_all;
-  allowed = i.allowed;
-  most = i.most;
-  credit = i.credit;
-  counted = i.counted;
-  names_are = (c.in-Err.ensures.err _ _ i.names_are c.other.invariant.names_are).0;
-}
-
 pub join_seat-requires : goal.join_seat-requires
 join_seat-requires c = (
   ap (λ k. k.table) c.me.view_is ∙ (c.requires.table ∙ sym (ap (λ k. k.table) c.self.view_is)),
