@@ -34,6 +34,9 @@ returns-clause-few g c = few_loads c.args.words.now.terms c.args.pc (g.L.Looker.
 pub returns-clause-terms : goal.returns-clause-terms
 returns-clause-terms g c = c.leaf.ensures.terms (g.L.Looker.known c.args.me.now) (omega (arith, c.loop-visit-test.false)) c.loop-visit.invariant.way
 
+pub returns-clause-alone : goal.returns-clause-alone
+returns-clause-alone g c = λ alone none_held. c.leaf.ensures.alone (g.L.Looker.known c.args.me.now) (omega (arith, c.loop-visit-test.false)) c.loop-visit.invariant.way alone
+
 pub returns-in_err-visit-2-clause-tries : goal.returns-in_err-visit-2-clause-tries
 returns-in_err-visit-2-clause-tries g c =
     let p = err_from_is_err_and c.from_residual-in_err-visit-2.result c.from_residual-in_err-visit-2.ensures.1 in
