@@ -1,18 +1,9 @@
 -- Callers that are split off and joined, one after another.
-use Rattle.std.proofs.Common.{◌≡◌, ℕ, ◌+◌, ◌-◌, ◌<◌, ◌≤◌, List, [], ◌∷◌, ◌++◌, length, length-append, drop, get_or, sum, sym, ap, ◌∙◌, arith, append_assoc, append-nil}
+use Rattle.std.proofs.Common.{◌≡◌, ℕ, ◌+◌, ◌-◌, ◌<◌, ◌≤◌, List, [], ◌∷◌, ◌++◌, length, drop, get_or, sum, sym, ap, ◌∙◌, arith, append_assoc, append-nil}
 use Rattle.std.proofs.lemmas.List.{drop_all, drop_more}
 use Rattle.std.proofs.lemmas.List.Sums.{sum_by-drop_more}
 use Rattle.word_rule.specs.CallerData.{CallerData}
-use Rattle.word_rule.specs.Callers.{IsAlone}
-use Rattle.word_rule.specs.Logs.{after_split}
-use Rattle.word_rule.specs.Names.{child_name}
-use Rattle.word_rule.specs.declared.log.Log.{Log}
 use Rattle.registry_core.specs.Rounds.{after_one_split, one_split_off, after_splits, all_split_off}
-
--- one that has just split off another isn't alone
-pub split_leaves : (left give : ℕ) (v : Log) → IsAlone (after_split left give v).lineage → ⊥
-split_leaves left give v alone =
-    let n = length-append v.lineage.missing (child_name v.lineage ∷ []) in let e = ap length alone.all in absurd (omega (arith, n, e))
 
 -- one more of the numbers
 pub callers_more : (gives : List ℕ) (i : ℕ) (k : CallerData) (callers all : List CallerData) → i < length gives → callers ++ all_split_off (drop i gives) k ≡ all

@@ -11,12 +11,10 @@ use Rattle.reg_model.specs.declared.answer.Update.{Update}
 use Rattle.word_rule.specs.CallerData.{CallerData, WordsData}
 use Rattle.word_rule.specs.Callers.{IsAlone, IsIdle, IsRecord}
 use Rattle.word_rule.specs.Logs.{longer, own_list}
-use Rattle.word_rule.specs.Names.{child_name, has_name, joined_names, new_lineage, without_name}
-use Rattle.word_rule.specs.declared.log.Lineage.{Lineage}
 use Rattle.word_rule.specs.declared.log.ReceiptList.{ReceiptList}
 use Rattle.word_rule.specs.declared.log.Receipts.{Receipts}
 use Rattle.word_rule.specs.declared.log.Terms.{Terms}
-use Rattle.word_rule.proofs.Names.{count_cons, has_from_count, once_same, same_refl}
+use Rattle.word_rule.proofs.Shares.{part_within}
 use Rattle.registry_core.specs.Calls.{Answered}
 use Rattle.registry_core.specs.Rounds.{AreAnswered, IsAfterRound, IsBetweenRounds, IsSplitOff, IsWholeWhereAlone, after_joins, after_one_join, after_one_split, after_splits, all_split_off, joined_lists, lists_since, one_split_off}
 use Rattle.registry_core.proofs.Counting.{count_both, whole_counted}
@@ -24,21 +22,22 @@ use Rattle.word_rule.proofs.Each.{all_append, all_behind, all_map}
 
 -- ---- splitting off
 
-abbrev name_of : CallerData → List ℕ
-name_of c = c.log.lineage.name
+-- the shares of some callers together
+abbrev shares : List CallerData → ℕ
+shares [] = 0
+shares (c ∷ callers) = c.log.lineage.share + shares callers
 
--- what stays of a caller that split off others with these names
-record Forked (k m : CallerData) (names : List (List ℕ)) (n : ℕ) : Type 0 where
+-- what stays of a caller that split off others with so much of its share
+record Forked (k m : CallerData) (given : ℕ) (n : ℕ) : Type 0 where
   table : m.table ≡ k.table
   terms : m.log.terms ≡ k.log.terms
   past : m.log.past ≡ k.log.past
   receipts : m.log.receipts ≡ k.log.receipts
   idle : IsIdle k.log → IsIdle m.log
   made : m.log.made ≡ k.log.made + n
-  unmatched : m.log.lineage.unmatched ≡ k.log.lineage.unmatched
-  missing : m.log.lineage.missing ≡ k.log.lineage.missing ++ names
+  share : m.log.lineage.share + given ≡ k.log.lineage.share
 
-forked : (gives : List ℕ) (k : CallerData) → Forked k (after_splits gives k) (map name_of (all_split_off gives k)) (length gives)
+forked : (gives : List ℕ) (k : CallerData) → Forked k (after_splits gives k) (shares (all_split_off gives k)) (length gives)
 forked [] k = record {
   table = refl;
   terms = refl;
@@ -46,12 +45,11 @@ forked [] k = record {
   receipts = refl;
   idle = λ i. i;
   made = omega arith;
-  unmatched = refl;
-  missing = sym (append-nil k.log.lineage.missing);
+  share = omega arith;
 }
 forked (give ∷ gives) k =
     let r = forked gives (after_one_split give k) in
-    let m = r.made in
+    let m = r.made in let s = r.share in let p = part_within k.log.lineage.share in
     record {
       table = r.table;
       terms = r.terms;
@@ -59,8 +57,7 @@ forked (give ∷ gives) k =
       receipts = r.receipts;
       idle = λ i. r.idle (record { held = i.held; out = i.out; loader = i.loader });
       made = omega (arith, m);
-      unmatched = r.unmatched;
-      missing = r.missing ∙ append_assoc k.log.lineage.missing (child_name k.log.lineage ∷ []) (map name_of (all_split_off gives (after_one_split give k)));
+      share = omega (arith, s, p);
     }
 
 one_new : (give : ℕ) (k : CallerData) → IsSplitOff k give (one_split_off give k)
@@ -72,7 +69,6 @@ one_new give k = record {
   receipts = refl;
   idle = record { held = refl; out = refl; loader = refl };
   made = refl;
-  lineage = refl;
 }
 
 zip_weaker : {A B : Type 0} (P R : A → B → Type 0) → ((a : A) (b : B) → P a b → R a b) → (xs : List A) (ys : List B) → AllZip P xs ys → AllZip R xs ys
@@ -93,7 +89,6 @@ all_new (give ∷ gives) k = (
     receipts = s.receipts;
     idle = s.idle;
     made = s.made;
-    lineage = s.lineage;
   }) gives (all_split_off gives (after_one_split give k)) (all_new gives (after_one_split give k)),
 )
 
@@ -142,14 +137,6 @@ may_all_join k gives lists after a =
 
 -- ---- joining
 
--- the one whose name is the first that is missing
-joined_first : (l : Lineage) (x : List ℕ) (rest : List (List ℕ)) → l.missing ≡ x ∷ rest → joined_names l (new_lineage x) ≡ (rest, l.unmatched)
-joined_first l x rest is =
-    let there : has_name x (x ∷ rest) ≡ true = has_from_count x (x ∷ rest) (let c = count_cons x x rest in let o = once_same x in omega (arith, c, o)) in
-    let gone : without_name x (x ∷ rest) ≡ rest = ap (λ b. if b then rest else (x ∷ without_name x rest)) (same_refl x) in
-    ap (λ missing. if has_name x missing then (without_name x missing, l.unmatched) else (missing, l.unmatched ++ x ∷ [])) is
-    ∙ (ap (λ b. if b then (without_name x (x ∷ rest), l.unmatched) else (x ∷ rest, l.unmatched ++ x ∷ [])) there ∙ ap (λ names. (names, l.unmatched)) gone)
-
 longer_begins : (a b c : List Update) → IsPrefix a b → IsPrefix a c → IsPrefix a (longer b c)
 longer_begins a b c p q = go (nat_lt (length b) (length c))
   where
@@ -157,8 +144,8 @@ longer_begins a b c p q = go (nat_lt (length b) (length c))
     go true = q
     go false = p
 
--- what callers that were joined in order make of one that knows their names
-record Gathered (past : List Update) (m n : CallerData) (lists : List (List Receipt)) : Type 0 where
+-- what callers that were joined in order make of one, with so much of shares
+record Gathered (past : List Update) (m n : CallerData) (given : ℕ) (lists : List (List Receipt)) : Type 0 where
   table : n.table ≡ m.table
   terms : n.log.terms ≡ m.log.terms
   begins : IsPrefix past n.log.past
@@ -166,11 +153,10 @@ record Gathered (past : List Update) (m n : CallerData) (lists : List (List Rece
   joined : n.log.receipts.joined ≡ m.log.receipts.joined ++ lists_since (length past) lists
   idle : IsIdle m.log → IsIdle n.log
   made : n.log.made ≡ m.log.made
-  unmatched : n.log.lineage.unmatched ≡ m.log.lineage.unmatched
-  missing : n.log.lineage.missing ≡ []
+  share : n.log.lineage.share ≡ m.log.lineage.share + given
 
-gathered : (k : CallerData) (lists : List (List Receipt)) (before after : List CallerData) (m : CallerData) → AllByRecursion (IsNew k) before → AreAnswered lists before after → m.log.lineage.missing ≡ map name_of before → IsPrefix k.log.past m.log.past → Gathered k.log.past m (after_joins after m) lists
-gathered k [] [] [] m new a missing begins = record {
+gathered : (k : CallerData) (lists : List (List Receipt)) (before after : List CallerData) (m : CallerData) → AllByRecursion (IsNew k) before → AreAnswered lists before after → IsPrefix k.log.past m.log.past → Gathered k.log.past m (after_joins after m) (shares before) lists
+gathered k [] [] [] m new a begins = record {
   table = refl;
   terms = refl;
   begins = begins;
@@ -178,17 +164,15 @@ gathered k [] [] [] m new a missing begins = record {
   joined = sym (append-nil m.log.receipts.joined);
   idle = λ i. i;
   made = refl;
-  unmatched = refl;
-  missing = missing;
+  share = omega arith;
 }
-gathered k (rs ∷ lists) (c ∷ before) (d ∷ after) m new a missing begins =
+gathered k (rs ∷ lists) (c ∷ before) (d ∷ after) m new a begins =
     let n = new.0.1 in
-    let lineage : d.log.lineage ≡ new_lineage (name_of c) = a.0.lineage ∙ n.lineage in
-    let names : joined_names m.log.lineage d.log.lineage ≡ (map name_of before, m.log.lineage.unmatched) = ap (joined_names m.log.lineage) lineage ∙ joined_first m.log.lineage (name_of c) (map name_of before) missing in
+    let kept : d.log.lineage.share ≡ c.log.lineage.share = ap (λ l. l.share) a.0.lineage in
     let receipts : d.log.receipts ≡ record { since = length k.log.past; own = rs; joined = []; heard = [] } = a.0.own ∙ ap (λ (r : Receipts). record r { own = r.own ++ rs }) n.receipts in
     let seen : IsPrefix k.log.past d.log.past = subst (λ z. IsPrefix z d.log.past) n.past a.0.begins in
-    let r = gathered k lists before after (after_one_join d m) new.1 a.1 (ap (λ p. p.0) names) (longer_begins k.log.past m.log.past d.log.past begins seen) in
-    let made = r.made in let none = a.0.made ∙ n.made in
+    let r = gathered k lists before after (after_one_join d m) new.1 a.1 (longer_begins k.log.past m.log.past d.log.past begins seen) in
+    let made = r.made in let none = a.0.made ∙ n.made in let share = r.share in
     record {
       table = r.table;
       terms = r.terms;
@@ -197,13 +181,12 @@ gathered k (rs ∷ lists) (c ∷ before) (d ∷ after) m new a missing begins =
       joined = r.joined ∙ (ap (λ (z : Receipts). (m.log.receipts.joined ++ own_list z ∷ z.joined) ++ lists_since (length k.log.past) lists) receipts ∙ append_assoc m.log.receipts.joined (lists_since (length k.log.past) (rs ∷ [])) (lists_since (length k.log.past) lists));
       idle = λ i. r.idle (record { held = i.held; out = i.out; loader = i.loader });
       made = omega (arith, made, none);
-      unmatched = r.unmatched ∙ ap (λ p. p.1) names;
-      missing = r.missing;
+      share = omega (arith, share, kept);
     }
-gathered k [] [] (d ∷ after) m new a missing begins = absurd a
-gathered k [] (c ∷ before) after m new a missing begins = absurd a
-gathered k (rs ∷ lists) [] after m new a missing begins = absurd a
-gathered k (rs ∷ lists) (c ∷ before) [] m new a missing begins = absurd a
+gathered k [] [] (d ∷ after) m new a begins = absurd a
+gathered k [] (c ∷ before) after m new a begins = absurd a
+gathered k (rs ∷ lists) [] after m new a begins = absurd a
+gathered k (rs ∷ lists) (c ∷ before) [] m new a begins = absurd a
 
 -- ---- the receipts of a round
 
@@ -265,8 +248,8 @@ after_round k gives lists after b a whole =
     let n : CallerData = after_joins after m in
     let f = forked gives k in
     let new = each_new k gives before (all_new gives k) in
-    let g = gathered k lists before after m new a (f.missing ∙ ap (λ missing. missing ++ map name_of before) b.alone.all) (subst (IsPrefix k.log.past) (sym f.past) ([], append-nil k.log.past)) in
-    let alone : IsAlone n.log.lineage = record { first = rw (g.unmatched ∙ f.unmatched) b.alone.first; all = g.missing } in
+    let g = gathered k lists before after m new a (subst (IsPrefix k.log.past) (sym f.past) ([], append-nil k.log.past)) in
+    let alone : IsAlone n.log.lineage = record { whole = (let kept = f.share in let back = g.share in let all = b.alone.whole in omega (arith, kept, back, all)) } in
     let terms : n.log.terms ≡ k.log.terms = g.terms ∙ f.terms in
     let listed : List ReceiptList = lists_since (length k.log.past) lists in
     let joined : n.log.receipts.joined ≡ k.log.receipts.joined ++ listed = g.joined ∙ ap (λ (r : Receipts). r.joined ++ listed) f.receipts in

@@ -7,7 +7,6 @@ use Rattle.reg_model.specs.declared.answer.Receipt.{Receipt}
 use Rattle.word_rule.specs.CallerData.{CallerData}
 use Rattle.word_rule.specs.Callers.{IsAlone, IsIdle, IsRecord, IsWhole}
 use Rattle.word_rule.specs.Logs.{after_join, after_split, split_off}
-use Rattle.word_rule.specs.Names.{new_lineage}
 use Rattle.word_rule.specs.declared.log.Log.{Log}
 use Rattle.word_rule.specs.declared.log.ReceiptList.{ReceiptList}
 use Rattle.word_rule.specs.declared.log.Receipts.{Receipts}
@@ -76,7 +75,6 @@ pub record IsSplitOff (k : CallerData) (give : ℕ) (c : CallerData) : Type 0 wh
       ≡ record { since = length k.log.past; own = []; joined = []; heard = [] }
   pub idle : IsIdle c.log
   pub made : c.log.made ≡ 0
-  pub lineage : c.log.lineage ≡ new_lineage c.log.lineage.name
 
 -- Each caller's calls were answered with the receipts of its place.
 abbrev pub AreAnswered : List (List Receipt) → List CallerData → List CallerData → Type 0

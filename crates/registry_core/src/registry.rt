@@ -339,11 +339,10 @@ impl Registry {
         }
     }
 
-    /// Takes the registry apart, by the first caller alone, and answers how many updates were
+    /// Takes the registry apart, by a caller that is alone, and answers how many updates were
     /// accepted. They are a history, and the caller's log has each of its numbers once.
     pub fn close(self, me: Caller) -> u32
         requires table { me.table ≡ self.table }
-        requires first { me.log.lineage.name ≡ [] }
         requires alone { IsAlone me.log.lineage }
         requires idle { IsIdle me.log }
         ensures number { result ≡ length me.log.past }

@@ -1,8 +1,8 @@
 use Rattle.std.proofs.Common.{◌≡◌, All, arith, ℕ, ◌+◌, ◌≤◌, List, [], ◌∷◌, ◌++◌, drop, get_or, sum, subst, sym, ap, ◌∙◌}
 use Rattle.word_rule.specs.CallerData.{CallerData}
-use Rattle.word_rule.specs.Callers.{IsAlone, IsIdle}
+use Rattle.word_rule.specs.Callers.{IsIdle}
 use Rattle.registry_core.specs.Rounds.{after_splits, all_split_off, one_split_off}
-use Rattle.registry_core.proofs.Meetings.{callers_all, callers_more, room_more, split_leaves, splits_more}
+use Rattle.registry_core.proofs.Meetings.{callers_all, callers_more, room_more, splits_more}
 use Rattle.registry_core.proofs.Rounding.{new_may_join}
 use Rattle.registry_core.proofs.registry.Registry.split_each.Goals as goal
 
@@ -18,7 +18,7 @@ loop-give-preserved c =
           ∙ (ap (λ (new : CallerData). (c.loop-give.callers.items ++ one_split_off (get_or gives i 0) k ∷ []) ++ all_split_off more new) me
           ∙ callers_more gives i k c.loop-give.callers.items _ within l.callers);
       me = ap (after_splits more) me ∙ splits_more gives i k _ within l.me;
-      whole = λ before alone. absurd (split_leaves k.left (get_or gives i 0) k.log (subst (λ (new : CallerData). IsAlone new.log.lineage) me alone));
+      whole = λ before alone. absurd (let all = alone.whole in let less = c.in_ok-caller.ensures.apart in omega (arith, all, less));
       table = ap (λ (new : CallerData). new.table) me ∙ l.table;
       room = subst (λ (new : CallerData). sum more ≤ new.left) (sym me) (room_more gives i k.left within l.room);
     }
