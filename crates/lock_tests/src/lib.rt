@@ -4,6 +4,8 @@
 #[cfg(test)]
 mod locks;
 #[cfg(test)]
+mod shares;
+#[cfg(test)]
 mod sights;
 #[cfg(test)]
 mod single_steps;
