@@ -1,6 +1,6 @@
 //! A registry with two callers, and what one is answered.
 
-ghost use Rattle.std.specs.Prelude.{◌≡◌, ◌<◌, ◌≤◌, [], IfSome, None};
+ghost use Rattle.std.specs.Prelude.{◌≡◌, ◌<◌, ◌≤◌, IfSome, None};
 ghost use Rattle.word_rule.specs.CallerData.{surplus};
 ghost use Rattle.word_rule.specs.Callers.{IsIdle};
 
@@ -33,7 +33,6 @@ pub(crate) fn two_callers(alloc: Global, calls: u32) -> Option<(Registry, Caller
     ensures tables { IfSome result (λ made. (made.1.table ≡ made.0.table)
         × (made.2.table ≡ made.0.table)) }
     ensures idle { IfSome result (λ made. IsIdle made.1.log × IsIdle made.2.log) }
-    ensures first { IfSome result (λ made. made.1.log.lineage.name ≡ []) }
     ensures spare { IfSome result (λ made. 0 < surplus made.1) }
 {
     let (registry, mut first) = Registry::new(alloc, 4, 1, 1, Vec::new(alloc)).ok()?;
@@ -64,7 +63,6 @@ pub(crate) fn loads<R: Wait>(
     requires payload { 0 < registry.now.terms.payloads }
     ensures table { me.new.table ≡ me.old.table }
     ensures idle { IsIdle me.new.log }
-    ensures name { me.new.log.lineage ≡ me.old.log.lineage }
 {
     let Some(member) = range(base) else {
         return false;
@@ -101,7 +99,6 @@ pub(crate) fn registers<R: Wait>(
     requires payload { 0 < registry.now.terms.payloads }
     ensures table { me.new.table ≡ me.old.table }
     ensures idle { IsIdle me.new.log }
-    ensures name { me.new.log.lineage ≡ me.old.log.lineage }
 {
     let Some(member) = range(base) else {
         return false;
@@ -137,7 +134,6 @@ pub(crate) fn is_nowhere<R: Wait>(
     requires idle { IsIdle me.old.log }
     ensures table { me.new.table ≡ me.old.table }
     ensures idle { IsIdle me.new.log }
-    ensures name { me.new.log.lineage ≡ me.old.log.lineage }
 {
     let nowhere = Place {
         registered: Found::Miss { stamp },

@@ -1,5 +1,5 @@
-//! Callers and notes where memory is refused once: what was refused is done at the next try.
-//! `rt try --test --fail-alloc N` refuses an allocation; else each first try is the only one.
+//! A registry where memory is refused once: it is made at the next try, and none of its callers and
+//! notes takes any. `rt try --test --fail-alloc N` refuses an allocation.
 
 ghost use Rattle.std.specs.Prelude.{◌≡◌, ◌-◌, ◌≤◌, IfSome};
 ghost use Rattle.word_rule.specs.Logs.{after_split, first_log, split_off};
@@ -49,10 +49,7 @@ fn split_from(registry: &Registry, alloc: Global, me: &mut Caller) -> Option<Cal
       log = after_split me.old.left 1 me.old.log;
     }) }
 {
-    match registry.words().split(alloc, me, 1) {
-        Ok(other) => Some(other),
-        Err(_) => registry.words().split(alloc, me, 1).ok(),
-    }
+    registry.words().split(alloc, me, 1).ok()
 }
 
 fn noted(registry: &Registry, alloc: Global, me: &mut Caller) -> Option<Note>
@@ -60,10 +57,7 @@ fn noted(registry: &Registry, alloc: Global, me: &mut Caller) -> Option<Note>
     ensures note { IfSome result (λ note. note.table ≡ me.old.table) }
     ensures me { me.new.table ≡ me.old.table }
 {
-    match registry.words().note(alloc, me) {
-        Ok(note) => Some(note),
-        Err(_) => registry.words().note(alloc, me).ok(),
-    }
+    registry.words().note(alloc, me).ok()
 }
 
 // Whether a note is learnt.
@@ -72,10 +66,7 @@ fn learns(registry: &Registry, alloc: Global, me: &mut Caller, note: Note) -> bo
     requires note { note.table ≡ registry.now.table }
     ensures { me.new.table ≡ me.old.table }
 {
-    match registry.words().learn(alloc, me, note) {
-        Ok(()) => true,
-        Err(kept) => matches!(registry.words().learn(alloc, me, kept), Ok(())),
-    }
+    registry.words().learn(alloc, me, note).is_ok()
 }
 
 // Whether one learns by a note what another has seen.
@@ -91,7 +82,6 @@ fn tells(registry: &Registry, alloc: Global, me: &mut Caller, other: &mut Caller
     }
 }
 
-// The fourth note is the first for which a learner's lists have no room.
 #[test]
 fn notes_are_learnt_though_memory_is_refused_once(rt: HostRuntime) -> Result<(), Fail> {
     let alloc = rt.alloc();
@@ -103,11 +93,7 @@ fn notes_are_learnt_though_memory_is_refused_once(rt: HostRuntime) -> Result<(),
     };
     assert!(rt; registry.load(&rt, &mut a, one) == Loading::Done { number: 1 });
     assert!(rt; b.seen() == 0);
-    let told = tells(&registry, alloc, &mut a, &mut b)
-        && tells(&registry, alloc, &mut a, &mut b)
-        && tells(&registry, alloc, &mut a, &mut b)
-        && tells(&registry, alloc, &mut a, &mut b)
-        && tells(&registry, alloc, &mut a, &mut b);
+    let told = tells(&registry, alloc, &mut a, &mut b) && tells(&registry, alloc, &mut a, &mut b);
     assert!(rt; told && b.seen() == 1 && b.left() == 1 && !b.alone());
     Ok(())
 }

@@ -27,7 +27,6 @@ fn loads_and_tells<R: Wait>(
     requires payload { 0 < registry.now.terms.payloads }
     ensures tables { (first.new.table ≡ first.old.table) × (other.new.table ≡ other.old.table) }
     ensures idle { IsIdle first.new.log × IsIdle other.new.log }
-    ensures name { first.new.log.lineage.name ≡ first.old.log.lineage.name }
 {
     if !loads(rt, registry, first, 0x1000, Loading::Done { number: 1 }) {
         return false;
