@@ -1,6 +1,7 @@
 /* registry_threads THREADS AT_ONCE HAND_OVERS: so many threads, of which so many run at once, each
- * with a reader of its own and one lookup; then a client is split off and joined so often. Prints
- * what of the heap is in use before and after, and what a turn takes. */
+ * with a reader of its own and one lookup; then so often a client is split off, takes in the one that
+ * it was split off, and goes on in its place. Prints what of the heap is in use before and after, and
+ * what a turn takes. */
 #include "registry_c.h"
 #include <malloc.h>
 #include <pthread.h>
@@ -51,9 +52,10 @@ static void run_threads(uint32_t at_once) {
 }
 
 static void hand_over(void) {
-  registry_client other;
+  registry_client other = {0}, back = {0};
   if (registry_c_split(client, 0, &other, &client) != REGISTRY_SPLIT) exit(6);
-  if (registry_c_join(client, other, &client, &other) != REGISTRY_JOINED) exit(7);
+  if (registry_c_join(other, client, &other, &back) != REGISTRY_JOINED) exit(7);
+  client = other;
 }
 
 static void tell(const char *what, size_t before, double began, uint32_t turns) {

@@ -48,10 +48,13 @@
  * lookup's first step and its last. To a client that is alone no lookup is AGAIN.
  *
  * What a client costs. A thousand bytes, whatever the registry's nodes; half of that are its last
- * eight hits in either half (registry_c_find_cached). Join one that isn't needed any more. One
- * that is closed and not joined takes its update calls with it and leaves its name behind, a few
- * words with the client that it was split off from; and no other client is alone from then on,
- * however many are joined.
+ * eight hits in either half (registry_c_find_cached). Join one that isn't needed any more, into any
+ * other: a chain of hand-overs, each of which joins the old client into the new one, takes nothing.
+ * One that is closed and not joined takes its update calls with it, and leaves nothing behind; but
+ * no other client is alone from then on, however many are joined. A client may split off millions
+ * that are never joined; but of clients that were split off one another and not joined few should
+ * stand in a row: from the 17th on one may be SPENT after tries that were BUSY, and after the 32nd
+ * a split is told as want of memory.
  *
  * Readers. A reader looks up as a client does, and owes nothing: no client waits for it, it counts
  * in no bound, and a client that is alone stays so beside readers. It may be dropped at any time,
