@@ -221,6 +221,7 @@ module _ (count : ℕ) (s : ScriptData) (is : IsImageCount count) (g : IsGenerat
 
   pub runnable : IsRunnable s
   runnable = record {
+    version = (omega (arith, g.version), omega (arith, g.version));
     nodes = (omega (arith, g.nodes), omega (arith, g.nodes));
     loads = (omega (arith, g.loads), omega (arith, g.loads));
     images = (omega (arith, images_length, is.1), subst (All IsSpan) (sym g.images) (spans_are count is));

@@ -6,7 +6,7 @@ use Rattle.std.proofs.lemmas.List.{length-map}
 use Rattle.std.proofs.lemmas.List.Sums.{sum_by-cons, sum_by-le-sum_by}
 use Rattle.unwind_step.specs.Backtrace.{hit_of}
 use Rattle.event_script.specs.declared.journal.Answer.{Answer}
-use Rattle.event_script.specs.declared.journal.Answer.TheVariants.{Register, Deregister, Load, Unload, Find, Unwind}
+use Rattle.event_script.specs.declared.journal.Answer.TheVariants.{Register, Deregister, Replace, Load, Unload, Find, Unwind}
 use Rattle.script_generator.specs.Summaries.{counted_in, counted_total, thread_total, IsCountable}
 use Rattle.script_generator.specs.declared.summing.Summary.{Summary}
 use Rattle.script_generator.specs.declared.counting.Counted.{Counted}
@@ -42,6 +42,7 @@ pub hit_once : (a : Answer) → counted_in Hits a ≤ 1
 hit_once (Find pc place) = (once (is_some (hit_of place))).0
 hit_once (Register image answer) = omega arith
 hit_once (Deregister base answer) = omega arith
+hit_once (Replace image answer) = omega arith
 hit_once (Load image answer) = omega arith
 hit_once (Unload base answer) = omega arith
 hit_once (Unwind snapshot trace) = omega arith
@@ -50,6 +51,7 @@ pub miss_once : (a : Answer) → counted_in Misses a ≤ 1
 miss_once (Find pc place) = (once (is_some (hit_of place))).1
 miss_once (Register image answer) = omega arith
 miss_once (Deregister base answer) = omega arith
+miss_once (Replace image answer) = omega arith
 miss_once (Load image answer) = omega arith
 miss_once (Unload base answer) = omega arith
 miss_once (Unwind snapshot trace) = omega arith

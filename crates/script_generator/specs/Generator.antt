@@ -9,7 +9,7 @@ use Rattle.event_script.specs.ScriptData.{ScriptData, SnapshotData}
 use Rattle.event_script.specs.declared.script.Event.{Event}
 use Rattle.event_script.specs.declared.script.Event.TheVariants.{Register, Deregister, Load, Unload}
 use Rattle.event_script.specs.declared.script.Event.TheVariants.{Find, Unwind}
-use Rattle.event_script.specs.declared.limits.TheConstants.{MOST_LOADS}
+use Rattle.event_script.specs.declared.limits.TheConstants.{FIRST_VERSION, MOST_LOADS}
 use Rattle.script_generator.specs.declared.generating.TheConstants.{NODES}
 use Rattle.script_generator.specs.declared.images.TheConstants.{MOST_COUNT, THREADS}
 use Rattle.script_generator.specs.declared.events.Phase.{Phase}
@@ -106,6 +106,7 @@ generated_events count thread =
 -- ---- the script
 
 pub record IsGenerated (count : ℕ) (script : ScriptData) : Type 0 where
+  pub version : script.version ≡ FIRST_VERSION
   pub nodes : script.nodes ≡ NODES
   pub loads : script.loads ≡ MOST_LOADS
   pub images : script.images ≡ generated_images (images_up count)

@@ -7,7 +7,7 @@ ghost use Rattle.script_generator.specs.Generator.{generator_threads};
 use crate::events::{thread_of, upwards};
 use crate::images::{THREADS, images_of, sections_of};
 use crate::stacks::stacks_of;
-use event_script::{MOST_LOADS, Round, Script};
+use event_script::{FIRST_VERSION, MOST_LOADS, Round, Script};
 use reg_model::NoMemory;
 use std::alloc::Global;
 
@@ -26,6 +26,7 @@ pub fn generate(alloc: Global, count: u32) -> Result<Script, NoMemory>
     let mut rounds = Vec::with_capacity(alloc, 1)?;
     rounds.push(round_of(alloc, count)?)?;
     Ok(Script {
+        version: FIRST_VERSION,
         nodes: NODES,
         loads: MOST_LOADS,
         images,

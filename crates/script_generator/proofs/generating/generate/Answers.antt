@@ -17,6 +17,7 @@ invariant_of-result c =
     let images = c.in_ok-images.ensures ∙ ap generated_images (c.deref.ensures.value ∙ c.in_ok-order.ensures) in
     runnable c.args.count _ c.requires
     (record {
+      version = refl;
       nodes = refl;
       loads = refl;
       images = images;
