@@ -8,7 +8,7 @@ from typing import NamedTuple, Optional
 
 REGISTERED = "registered"
 LOADED = "loaded"
-UPDATES = ("register", "deregister", "load", "unload")
+UPDATES = ("register", "deregister", "replace", "load", "unload")
 REFUSALS = ("overlap", "absent", "full")
 
 

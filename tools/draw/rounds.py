@@ -84,7 +84,7 @@ def mark(entry, x, y):
                 f'stroke="{colour}">{title}</circle>')
     half = LOADED if entry.word in ("load", "unload") else REGISTERED
     colour = COLOURS[half] if entry.number is not None else REFUSED
-    fill = colour if entry.number and entry.word in ("register", "load") else "#ffffff"
+    fill = colour if entry.number and entry.word in ("register", "replace", "load") else "#ffffff"
     kind = "done" if entry.number is not None else "refused"
     return (f'<rect class="{kind}" x="{x - MARK}" y="{y - MARK}" width="{2 * MARK}" '
             f'height="{2 * MARK}" fill="{fill}" stroke="{colour}" stroke-width="2">{title}</rect>')
@@ -94,7 +94,7 @@ def bringers(entries):
     """For each half and image the numbers of the updates that brought it, ascending."""
     brought = {}
     for entry in sorted((e for e in entries if e.number), key=lambda e: e.number):
-        half = {"register": REGISTERED, "load": LOADED}.get(entry.word)
+        half = {"register": REGISTERED, "replace": REGISTERED, "load": LOADED}.get(entry.word)
         if half:
             brought.setdefault((half, int(entry.operand)), []).append(entry)
     return brought

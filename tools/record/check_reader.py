@@ -124,7 +124,7 @@ def journal_trials(directory):
         if ending != ".script" or any(os.path.exists(case + end) for end in (".status", ".words")):
             continue
         script, wanted = text_of(case + ".script"), text_of(case + ".out")
-        if script.startswith("frames 1\n") and not FULL.search(wanted):
+        if script.startswith(("frames 1\n", "frames 2\n")) and not FULL.search(wanted):
             yield file_name, wanted, journal(read_script(script))
 
 

@@ -49,12 +49,13 @@ class Snapshot:
 
 
 class Script:
-    """A script: its loads, images, fixed images' numbers, snapshots, and rounds of threads.
+    """A script: its version, loads, images, fixed images' numbers, snapshots, rounds of threads.
 
     A thread is a list of events, and an event a pair of its word and its number.
     """
 
     def __init__(self):
+        self.version = 0
         self.loads = 0
         self.images = []
         self.fixed = []
@@ -119,8 +120,8 @@ def read_memory(script, fields):
 
 
 EVENTS = {
-    "register": decimal, "deregister": address, "load": decimal, "unload": address,
-    "find": address, "unwind": decimal,
+    "register": decimal, "deregister": address, "replace": decimal, "load": decimal,
+    "unload": address, "find": address, "unwind": decimal,
 }
 
 
@@ -139,6 +140,7 @@ def read_line(script, word, fields):
     elif word == "thread":
         script.rounds[-1].append([])
     else:
+        expect(word != "replace" or script.version == 2, "word")
         script.rounds[-1][-1].append((word, EVENTS[word](fields[0])))
 
 
@@ -154,6 +156,9 @@ def read_script(text):
             if number <= 3:
                 expect(word == ("frames", "nodes", "loads")[number - 1], "word")
                 script.loads = decimal(fields[0])
+                if number == 1:
+                    script.version = script.loads
+                    expect(script.version in (1, 2), "limit")
             else:
                 read_line(script, word, fields)
         except Refusal as refusal:

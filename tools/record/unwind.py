@@ -55,6 +55,17 @@ class Registry:
         self.updates += 1
         return f"{word} {number} done {self.updates}"
 
+    def exchange(self, word, number):
+        """The answer to `replace`: an image of the same span comes in another's place."""
+        images, members = self.script.images, self.lists["registered"]
+        span = images[number].base, images[number].size
+        for place, other in enumerate(members):
+            if (images[other].base, images[other].size) == span:
+                members[place] = number
+                self.updates += 1
+                return f"{word} {number} done {self.updates} image {other}"
+        return f"{word} {number} absent at {self.updates}"
+
     def take(self, word, half, base):
         """The answer to `deregister` or `unload`."""
         for number in self.lists[half]:
@@ -166,6 +177,8 @@ def answer(script, registry, word, number):
     half = "registered" if word in ("register", "deregister") else "loaded"
     if word in ("register", "load"):
         return [registry.add(word, half, number)]
+    if word == "replace":
+        return [registry.exchange(word, number)]
     if word in ("deregister", "unload"):
         return [registry.take(word, half, number)]
     if word == "find":
