@@ -29,6 +29,8 @@ mod printing;
 #[cfg(test)]
 mod raising;
 #[cfg(test)]
+mod replacements;
+#[cfg(test)]
 mod scripts;
 #[cfg(test)]
 mod shared_finder;
