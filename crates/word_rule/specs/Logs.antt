@@ -14,7 +14,8 @@ use Rattle.word_rule.specs.declared.log.Receipts.{Receipts}
 use Rattle.word_rule.specs.declared.log.Trace.{Trace}
 use Rattle.word_rule.specs.declared.log.Lineage.{Lineage}
 use Rattle.word_rule.specs.declared.log.Log.{Log}
-use Rattle.word_rule.specs.Shares.{part_of, whole_lineage, after_fork, forked_lineage, joined_lineage}
+use Rattle.word_rule.specs.Shares.{part_of, whole_lineage, after_fork, forked_lineage}
+use Rattle.word_rule.specs.Shares.{joined_lineage}
 use Rattle.word_rule.specs.Places.{ALLOWANCE, CREDIT, CALL_CREDIT, copy_words}
 
 -- whether nobody waits for a log: for a reader's, and for what was joined or learnt into another
