@@ -155,7 +155,7 @@ kept_steps k k1 kept = go kept.same
 -- one part after another, to the end
 pub ends_after : (t : Terms) (m : Member) (answer : Inserted) (a b c : ℕ) (k l n : CallerData) → a + b ≤ c → Spends a k l → EndsInsertion t m answer b l n → EndsInsertion t m answer c k n
 ends_after t m answer a b c k l n sum s e = record {
-  right = right_after t m answer k l n s.past s.receipts e.right;
+  right = right_after t m answer k l n s.past s.receipts s.made s.lineage e.right;
   call = spends_after a b c (receipt.Register m answer ∷ []) (taken_by answer) k l n sum s e.call;
   nothing = e.nothing;
 }

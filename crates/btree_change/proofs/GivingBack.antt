@@ -258,6 +258,7 @@ highest t root pc k k1 k2 count level h top load1 tells1 load2 tells2 =
           stores = [];
           stored = sym (append-nil k.log.trace.stores);
           unstored = refl;
+          still = refl;
           shut = inr (
             ap (λ n. node_place n + 2) h.is_root,
             sym level_word ∙ (sym (reads h.lock.words root.content h.here.spells).level ∙ top),

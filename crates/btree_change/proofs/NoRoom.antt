@@ -31,6 +31,7 @@ more_loads base receipts loads more r = record {
   stores = r.stores;
   stored = r.stored;
   unstored = r.unstored;
+  still = r.still;
   shut = r.shut;
 }
 
@@ -52,6 +53,7 @@ earlier_loads base receipts earlier loads r = record {
   stores = r.stores;
   stored = r.stored;
   unstored = r.unstored;
+  still = r.still;
   shut = r.shut;
 }
 

@@ -29,7 +29,7 @@ stands_still t m stand k k1 same steps s =
 
 pub refused_after : (t : Terms) (m : Member) (answer : Inserted) (k k1 k2 : CallerData) → k1.log.holdings ≡ k.log.holdings → StepsOnNodes k k1 → RefusesMember t m answer k1 k2 → RefusesMember t m answer k k2
 refused_after t m answer k k1 k2 same steps r = record {
-  right = right_after t m answer k k1 k2 steps.past steps.receipts r.right;
+  right = right_after t m answer k k1 k2 steps.past steps.receipts steps.made steps.lineage r.right;
   none_taken = r.none_taken;
   call = record {
     table = r.call.table ∙ steps.table;

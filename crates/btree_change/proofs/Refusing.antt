@@ -5,9 +5,7 @@ use Rattle.std.specs.List.{AllByRecursion}
 use mathlib.Core.List.{IsPrefix}
 use Rattle.reg_model.specs.History.{state_after}
 use Rattle.reg_model.specs.State.{IsFree, IsLowestOverlap}
-use Rattle.reg_model.specs.Receipt.{HadTenMembers}
 use Rattle.reg_model.specs.declared.answer.Receipt.{Receipt}
-use Rattle.word_rule.specs.Observations.{last_moment}
 use Rattle.reg_model.specs.declared.answer.Receipt.TheVariants as receipt
 use Rattle.reg_model.specs.declared.answer.Inserted.TheVariants as inserted
 use Rattle.reg_model.specs.declared.answer.Update.{Update}
@@ -21,7 +19,7 @@ use Rattle.word_rule.specs.Callers.{IsMemberOf, start}
 use Rattle.word_rule.specs.Clock.{AfterClock}
 use Rattle.word_rule.specs.Held.{held_of, is_marked, settled_in, settled_shape}
 use Rattle.word_rule.specs.Logs.{load_of}
-use Rattle.word_rule.specs.TreeRefusals.{Appends, AppendsRefusal, HadNoRoom, HoldsLeaves, ShowsFull, ShowsOverlap, entries_in_leaves}
+use Rattle.word_rule.specs.TreeRefusals.{Appends, AppendsRefusal, HadNoRoom, HoldsLeaves, WasFilledSince, ShowsFull, ShowsOverlap, entries_in_leaves}
 use Rattle.word_rule.specs.declared.log.Ask.TheVariants as ask
 use Rattle.word_rule.specs.declared.log.Holding.{Holding}
 use Rattle.word_rule.specs.declared.log.Log.{Log}
@@ -87,7 +85,7 @@ module _ (t : Terms) (m : Member) (k k' : CallerData) (clock : ℕ) where
   pub refused_full : AfterClock t (ask.Refused (update.Register m)) clock k.log k'.log → Appends (receipt.Register m (inserted.Full (clock % 4294967296))) k.log k'.log → k' ≡ record k { log = k'.log } → RefusesMember t m (inserted.Full (clock % 4294967296)) k k'
   refused_full after appended rest =
       let seen = seen_so t (update.Register m) clock k.log k'.log after in record {
-        right = (seen.0, seen.1, subst (λ z. IsFree m.span (state_after (start z) k'.log.past).registered) seen.2 appended.right, subst (λ z. HadTenMembers (start z) k'.log.past (last_moment k.log.receipts.since k.log.receipts.own) (receipt.Register m (inserted.Full (clock % 4294967296)))) seen.2 appended.filled);
+        right = (seen.0, seen.1, subst (λ z. IsFree m.span (state_after (start z) k'.log.past).registered) seen.2 appended.right, subst (λ z. WasFilledSince k.log z k'.log.past (receipt.Register m (inserted.Full (clock % 4294967296)))) seen.2 appended.filled);
         none_taken = refl;
         call = refuses_so t (update.Register m) (receipt.Register m (inserted.Full (clock % 4294967296))) clock k k' after appended rest;
       }

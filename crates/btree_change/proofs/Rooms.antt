@@ -112,6 +112,7 @@ module _ (t : Terms) (full : Held) (pc : ℕ) (k k1 : CallerData) (found : ℕ) 
             stores = [];
             stored = sym (append-nil k.log.trace.stores);
             unstored = refl;
+            still = refl;
             shut = inl (refl, refl, none_or_one h.out);
           };
         },

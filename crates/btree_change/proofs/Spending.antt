@@ -3,15 +3,18 @@ use Rattle.std.proofs.Common.{◌≡◌, ℕ, ◌+◌, ◌≤◌, ◌<◌, List,
 use mathlib.Core.List.{IsPrefix}
 use Rattle.reg_model.specs.declared.answer.Inserted.{Inserted}
 use Rattle.reg_model.specs.declared.answer.Inserted.TheVariants as inserted
-use Rattle.reg_model.specs.Receipt.{HadTenMembers}
+use Rattle.reg_model.specs.Receipt.{WasFilled}
 use Rattle.reg_model.specs.declared.answer.Receipt.{Receipt}
 use Rattle.reg_model.specs.declared.answer.Receipt.TheVariants as receipt
 use Rattle.word_rule.specs.Observations.{last_moment}
+use Rattle.reg_model.specs.declared.answer.Update.{Update}
 use Rattle.reg_model.specs.declared.span.Member.{Member}
 use Rattle.word_rule.specs.CallerData.{CallerData, due, surplus}
 use Rattle.reg_model.specs.History.{state_after}
 use Rattle.reg_model.specs.State.{IsFree, IsLowestOverlap}
-use Rattle.word_rule.specs.Callers.{start}
+use Rattle.word_rule.specs.Callers.{IsAlone, start}
+use Rattle.word_rule.specs.TreeRefusals.{WasFilledSince}
+use Rattle.word_rule.specs.declared.log.Log.{Log}
 use Rattle.word_rule.specs.declared.log.Receipts.{Receipts}
 use Rattle.word_rule.specs.declared.log.Terms.{Terms}
 use Rattle.btree_change.specs.Insertion.{IsRightInsertion}
@@ -154,15 +157,28 @@ pub surplus_steps : (a : ℕ) (k l : CallerData) (need : ℕ) → Spends a k l �
 surplus_steps a k l need s enough =
     let e = s.left in let c = s.credit in omega (arith, e, c, enough)
 
+-- A Full tells the same of steps before, which leave the receipts and the callers.
+filled_before : (t : Terms) (past : List Update) (v w : Log) (r : Receipt) → w.receipts ≡ v.receipts → w.made ≡ v.made → w.lineage ≡ v.lineage → WasFilledSince w t past r → WasFilledSince v t past r
+filled_before t past v w r receipts made lineage (callers, (were, filled)) = (
+  callers,
+  (
+    record {
+      least = (let least = were.least in omega (arith, made, least));
+      alone = λ alone. were.alone (subst IsAlone (sym lineage) alone) ∙ ap (λ k. k + 1) made;
+    },
+    subst (λ (x : Receipts). WasFilled (start t) past t.nodes callers (last_moment x.since x.own) r) receipts filled,
+  ),
+)
+
 -- An answer is right also for one that took steps before, and after more steps.
-pub right_after : (t : Terms) (m : Member) (answer : Inserted) (k l n : CallerData) → l.log.past ≡ k.log.past → l.log.receipts ≡ k.log.receipts → IsRightInsertion t m l n answer → IsRightInsertion t m k n answer
-right_after t m (inserted.Done number) k l n past receipts (before, (begins, is, number_is)) = (before, (subst (λ p. IsPrefix p before) past begins, is, number_is))
-right_after t m (inserted.Overlap other stamp) k l n past receipts r = (subst (λ p. IsPrefix p n.log.past) past r.0, r.1, r.2, r.3)
-right_after t m (inserted.Full stamp) k l n past receipts r = (subst (λ p. IsPrefix p n.log.past) past r.0, r.1, r.2, subst (λ (x : Receipts). HadTenMembers (start t) n.log.past (last_moment x.since x.own) (receipt.Register m (inserted.Full stamp))) receipts r.3)
-right_after t m inserted.Spent k l n past receipts r = absurd r
+pub right_after : (t : Terms) (m : Member) (answer : Inserted) (k l n : CallerData) → l.log.past ≡ k.log.past → l.log.receipts ≡ k.log.receipts → l.log.made ≡ k.log.made → l.log.lineage ≡ k.log.lineage → IsRightInsertion t m l n answer → IsRightInsertion t m k n answer
+right_after t m (inserted.Done number) k l n past receipts made lineage (before, (begins, is, number_is)) = (before, (subst (λ p. IsPrefix p before) past begins, is, number_is))
+right_after t m (inserted.Overlap other stamp) k l n past receipts made lineage r = (subst (λ p. IsPrefix p n.log.past) past r.0, r.1, r.2, r.3)
+right_after t m (inserted.Full stamp) k l n past receipts made lineage r = (subst (λ p. IsPrefix p n.log.past) past r.0, r.1, r.2, filled_before t n.log.past k.log l.log (receipt.Register m (inserted.Full stamp)) receipts made lineage r.3)
+right_after t m inserted.Spent k l n past receipts made lineage r = absurd r
 
 pub right_before : (t : Terms) (m : Member) (answer : Inserted) (k l n : CallerData) → n.log.past ≡ l.log.past → IsRightInsertion t m k l answer → IsRightInsertion t m k n answer
 right_before t m (inserted.Done number) k l n past r = (r.0, (r.1.0, past ∙ r.1.1, r.1.2 ∙ ap length (sym past)))
 right_before t m (inserted.Overlap other stamp) k l n past r = (subst (IsPrefix k.log.past) (sym past) r.0, r.1 ∙ ap length (sym past), subst (λ p. IsLowestOverlap m.span (state_after (start t) p).registered other) (sym past) r.2, r.3)
-right_before t m (inserted.Full stamp) k l n past r = (subst (IsPrefix k.log.past) (sym past) r.0, r.1 ∙ ap length (sym past), subst (λ p. IsFree m.span (state_after (start t) p).registered) (sym past) r.2, subst (λ p. HadTenMembers (start t) p (last_moment k.log.receipts.since k.log.receipts.own) (receipt.Register m (inserted.Full stamp))) (sym past) r.3)
+right_before t m (inserted.Full stamp) k l n past r = (subst (IsPrefix k.log.past) (sym past) r.0, r.1 ∙ ap length (sym past), subst (λ p. IsFree m.span (state_after (start t) p).registered) (sym past) r.2, subst (λ p. WasFilledSince k.log t p (receipt.Register m (inserted.Full stamp))) (sym past) r.3)
 right_before t m inserted.Spent k l n past r = absurd r

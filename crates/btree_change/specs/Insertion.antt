@@ -2,7 +2,6 @@
 use Rattle.std.specs.Prelude.{◌≡◌, ℕ, ◌-◌, ◌<◌, ◌≤◌, List, [], ◌∷◌, ◌++◌, length}
 use mathlib.Core.List.{IsPrefix}
 use Rattle.reg_model.specs.History.{state_after}
-use Rattle.reg_model.specs.Receipt.{HadTenMembers}
 use Rattle.reg_model.specs.State.{IsFree, IsLowestOverlap}
 use Rattle.reg_model.specs.declared.answer.Inserted.{Inserted}
 use Rattle.reg_model.specs.declared.answer.Inserted.TheVariants as inserted
@@ -12,12 +11,12 @@ use Rattle.reg_model.specs.declared.answer.Update.TheVariants as update
 use Rattle.reg_model.specs.declared.span.Member.{Member}
 use Rattle.word_rule.specs.CallerData.{CallerData, surplus}
 use Rattle.word_rule.specs.Callers.{IsMemberOf, start}
-use Rattle.word_rule.specs.Observations.{last_moment}
 use Rattle.word_rule.specs.Places.{CALL_CREDIT}
 use Rattle.word_rule.specs.declared.log.Holding.{Holding}
 use Rattle.word_rule.specs.declared.log.Holdings.{Holdings}
 use Rattle.word_rule.specs.declared.log.Terms.{Terms}
 use Rattle.word_rule.specs.Spelling.{SpellsNode}
+use Rattle.word_rule.specs.TreeRefusals.{WasFilledSince}
 use Rattle.btree_change.specs.declared.descent.Held.{Held}
 use Rattle.btree_change.specs.Loads.{FoundNoRoom}
 use Rattle.btree_change.specs.Paths.{IsSettledLock}
@@ -56,7 +55,8 @@ pub record PutsMember (m : Member) (n number : ℕ) (k k' : CallerData) : Type 0
 
 -- The answer to an insertion is right, where `k` was its caller when the call was begun and k' is
 -- it afterwards. Where it is Full, ten members were registered at some moment since the receipt
--- before it, and since the caller was split off.
+-- before it, and since the caller was split off; and twice as many as the nodes that no caller can
+-- have out.
 abbrev pub IsRightInsertion : Terms → Member → CallerData → CallerData → Inserted → Type 0
 IsRightInsertion t m k k' (inserted.Done number) = (before : List Update)
     × (IsPrefix k.log.past before × (k'.log.past ≡ before ++ update.Register m ∷ [])
@@ -68,8 +68,7 @@ IsRightInsertion t m k k' (inserted.Overlap other stamp) = IsPrefix k.log.past k
 IsRightInsertion t m k k' (inserted.Full stamp) = IsPrefix k.log.past k'.log.past
     × (stamp ≡ length k'.log.past)
     × IsFree m.span (state_after (start t) k'.log.past).registered
-    × HadTenMembers (start t) k'.log.past (last_moment k.log.receipts.since k.log.receipts.own)
-    (receipt.Register m (inserted.Full stamp))
+    × WasFilledSince k.log t k'.log.past (receipt.Register m (inserted.Full stamp))
 IsRightInsertion t m k k' inserted.Spent = ⊥
 
 -- what holds where the answer is Full
