@@ -149,7 +149,7 @@ queries_answer t pc found b c l =
             within = omega (arith, m, s);
             numbered = tt;
             right = rw l.answer.1 l.answer.2;
-            filled = tt;
+            filled = record { ten = tt; most = λ _. tt };
           };
         },
         tt,
@@ -195,7 +195,7 @@ tries_answer t pc found b c l =
             within = omega (arith, m);
             numbered = tt;
             right = l.answer.2;
-            filled = tt;
+            filled = record { ten = tt; most = λ _. tt };
           };
         },
         tt,
