@@ -124,6 +124,7 @@ fits_so r n s seen ordered filled count level below fits = go r s.body ordered f
     go (request.Removal base) (Pairs ps) ordered filled count fits =
         let above = ordered.0 in let more : 7 ≤ seen.count = subst (λ m. m ≤ seen.count) (spare seen.visit.level (omega (arith, above, level))) (fits below) in omega (arith, more, count)
     go (request.Removal base) (Link next) ordered filled count fits = absurd ordered
+    go (request.Replacement base) b ordered filled count fits = tt
 
 -- A node that was seen was locked, by one that held nothing.
 module _ (t : Terms) (r : Request) (seen : Seen) (k k1 : CallerData) (terms : k.log.terms ≡ t) (nothing : HoldsNothing k.log.holdings) (s : IsSeenFor t r seen k) (taken : NodeSeen seen.visit.node seen.visit.version k k1) where

@@ -57,7 +57,10 @@ pub mod Sinking
 pub mod RemovalAnswers
 pub mod BySights
 pub mod Releases
+pub mod LeafUpdates
 pub mod Takings
+pub mod Spanned
+pub mod Replacings
 pub mod Absences
 pub mod Overlapping
 pub mod PuttingThere

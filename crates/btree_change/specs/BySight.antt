@@ -28,23 +28,27 @@ spare_at level = if level == 0 then 5 else 7
 abbrev pub asked_address : Request → ℕ
 asked_address (request.Insertion first last) = first
 asked_address (request.Removal base) = base
+asked_address (request.Replacement base) = base
 
 -- By its count a node isn't full, for an insertion; for a removal it has one to spare, or it is the
--- root.
+-- root. For a replacement any will do.
 abbrev pub CountFits : Request → Seen → Type 0
 CountFits (request.Insertion first last) seen = seen.count ≢ most_at seen.visit.level
 CountFits (request.Removal base) seen =
     seen.visit.node ≢ 0 → spare_at seen.visit.level ≤ seen.count
+CountFits (request.Replacement base) seen = Unit {0}
 
 -- the same of its content
 abbrev pub HasFit : Request → NodeData → Type 0
 HasFit (request.Insertion first last) s = HasSpace s.body
 HasFit (request.Removal base) s = IsSpareAs s.body
+HasFit (request.Replacement base) s = Unit {0}
 
 -- what is asked for ends inside a node's fences
 abbrev pub EndsInside : Request → NodeData → Type 0
 EndsInside (request.Insertion first last) s = last ≤ s.high
 EndsInside (request.Removal base) s = Unit {0}
+EndsInside (request.Replacement base) s = Unit {0}
 
 -- words and versions were loaded, or versions found changed, and all that is held stays so
 abbrev pub OnlySees : CallerData → CallerData → Type 0

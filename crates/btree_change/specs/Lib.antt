@@ -13,6 +13,7 @@ pub mod Far
 pub mod Roots
 pub mod Removing
 pub mod Takings
+pub mod Replacement
 pub mod Siblings
 pub mod Shares
 pub mod BySight

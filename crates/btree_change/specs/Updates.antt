@@ -1,11 +1,12 @@
 -- What an update of the tree makes of its caller, whichever it is.
-use Rattle.std.specs.Prelude.{◌≡◌, ℕ, ◌+◌, ◌-◌, ◌≤◌, [], ◌∷◌, ◌++◌}
+use Rattle.std.specs.Prelude.{◌≡◌, ℕ, ◌+◌, ◌-◌, ◌≤◌, Bool, [], ◌∷◌, ◌++◌}
 use Rattle.reg_model.specs.declared.answer.Receipt.{Receipt}
 use Rattle.word_rule.specs.CallerData.{CallerData}
 use Rattle.word_rule.specs.Places.{CALL_CREDIT}
 use Rattle.node_store.specs.declared.locking.Busy.{Busy}
 use Rattle.node_store.specs.Locking.{FoundBusy}
 use Rattle.btree_change.specs.Paths.{HoldsLeftOver, HoldsNothing}
+use Rattle.btree_change.specs.Removing.{HoldsLock}
 
 -- An update call that was begun was answered with this receipt, and took so many of the allowance:
 -- one where it was accepted. No lock is held and no node is out. Nothing else of the caller changed
@@ -40,6 +41,26 @@ pub record RefusesUpdate (r : Receipt) (k k' : CallerData) : Type 0 where
   pub receipts : k'.log.receipts ≡ record k.log.receipts {
     own = k.log.receipts.own ++ r ∷ [];
   }
+
+-- An update was accepted in a held leaf by one commit, with this receipt: it took one of the
+-- allowance. The leaf is still held, and nothing else.
+pub record AcceptsUpdate (r : Receipt) (leaf : ℕ) (changed : Bool) (k k' : CallerData) : Type 0
+  where
+    pub table : k'.table ≡ k.table
+    pub left : k'.left ≡ k.left
+    pub terms : k'.log.terms ≡ k.log.terms
+    pub role : k'.log.role ≡ k.log.role
+    pub loader : k'.log.loader ≡ k.log.loader
+    pub made : k'.log.made ≡ k.log.made
+    pub lineage : k'.log.lineage ≡ k.log.lineage
+    pub receipts : k'.log.receipts ≡ record k.log.receipts {
+      own = k.log.receipts.own ++ r ∷ [];
+    }
+    pub budget : k'.log.budget ≡ record k.log.budget {
+      allowance = k.log.budget.allowance - 1;
+    }
+    pub holds : HoldsLock leaf changed k'.log.holdings
+    pub out : k'.log.holdings.out ≡ []
 
 -- The update gave up, and its loads show why: the call is still begun, and no receipt was taken.
 -- Nodes that were split or joined on the way stay so, which changes no entry. No lock is held, and

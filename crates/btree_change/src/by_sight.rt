@@ -32,6 +32,8 @@ pub(crate) enum Request {
     Insertion { first: u64, last: u64 },
     /// An entry less: the member that begins there.
     Removal { base: u64 },
+    /// Another entry with the same span, which begins there.
+    Replacement { base: u64 },
 }
 
 /// A node that was visited on the way down, and its count.
@@ -83,12 +85,12 @@ impl Request {
     {
         match self {
             Request::Insertion { first, .. } => first,
-            Request::Removal { base } => base,
+            Request::Removal { base } | Request::Replacement { base } => base,
         }
     }
 
     /// Whether a node can take the change from below: it isn't full, or it has one to spare, which
-    /// the root doesn't need.
+    /// the root doesn't need. A replacement changes no count.
     fn fits(self, seen: Seen) -> bool
         ensures { result ≡ true → CountFits self seen }
     {
@@ -96,6 +98,7 @@ impl Request {
         match self {
             Request::Insertion { .. } => seen.count != greatest_count(level),
             Request::Removal { .. } => seen.visit.node == 0 || seen.count >= spare_count(level),
+            Request::Replacement { .. } => true,
         }
     }
 }
@@ -150,8 +153,8 @@ fn seek(
     Ok(below_root(at))
 }
 
-/// Whether a held node's fences hold all of what is asked for. A removal asks for an address, which
-/// led there.
+/// Whether a held node's fences hold all of what is asked for. A removal and a replacement ask for
+/// an address, which led there.
 fn ends_inside(words: &Words, me: &mut Caller, at: &Held, request: Request) -> bool
     requires table { me.old.table ≡ words.now.table }
     requires inside { at.now.node < words.now.terms.nodes }
@@ -161,7 +164,7 @@ fn ends_inside(words: &Words, me: &mut Caller, at: &Held, request: Request) -> b
 {
     match request {
         Request::Insertion { last, .. } => last <= high_of(words, me, at.node, &at.content),
-        Request::Removal { .. } => true,
+        Request::Removal { .. } | Request::Replacement { .. } => true,
     }
 }
 

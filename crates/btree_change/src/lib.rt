@@ -21,6 +21,8 @@ mod lift;
 mod mending;
 mod path;
 mod removal;
+mod replacement;
+mod replacing;
 mod root;
 mod sibling;
 mod spines;
@@ -31,3 +33,4 @@ mod walk;
 
 pub use insertion::{insert, insert_by};
 pub use removal::{remove, remove_by};
+pub use replacement::{replace, replace_by};

@@ -3,6 +3,7 @@ use Rattle.std.proofs.Common.{ℕ, ◌≤◌, ◌∙◌, Result, Ok, Err, IfOk, 
 use Rattle.array_publish.specs.Update.{TellsLoad}
 use Rattle.btree_change.specs.Insertion.{AnswersInsertion, TriesInsertion}
 use Rattle.btree_change.specs.Removal.{AnswersRemoval}
+use Rattle.btree_change.specs.Replacement.{AnswersReplacement}
 use Rattle.btree_change.specs.Updates.{GivesUp}
 use Rattle.node_store.specs.Locking.{UnlessLost}
 use Rattle.node_store.specs.declared.locking.Busy.{Busy}
@@ -12,6 +13,7 @@ use Rattle.reg_model.specs.declared.answer.Inserted.{Inserted}
 use Rattle.reg_model.specs.declared.answer.Inserted.TheVariants as inserted
 use Rattle.reg_model.specs.declared.answer.Loading.{Loading}
 use Rattle.reg_model.specs.declared.answer.Removed.{Removed}
+use Rattle.reg_model.specs.declared.answer.Replaced.{Replaced}
 use Rattle.reg_model.specs.declared.answer.Loading.TheVariants as loading
 use Rattle.reg_model.specs.declared.span.Member.{Member}
 use Rattle.word_rule.specs.CallerData.{CallerData, surplus}
@@ -53,3 +55,7 @@ insertion_idle t m k k' (Err e) idle a = tt
 pub removal_idle : (t : Terms) (base : ℕ) (k k' : CallerData) (result : Result Removed Busy) → IsIdle k.log → IfOk result (λ answer. AnswersRemoval t base answer k k') → OnOk result (IsIdle k'.log)
 removal_idle t base k k' (Ok answer) idle a = record { held = a.call.nothing.0; out = a.call.nothing.1; loader = a.call.loader ∙ idle.loader }
 removal_idle t base k k' (Err e) idle a = tt
+
+pub replacement_idle : (t : Terms) (m : Member) (k k' : CallerData) (result : Result Replaced Busy) → IsIdle k.log → IfOk result (λ answer. AnswersReplacement t m answer k k') → OnOk result (IsIdle k'.log)
+replacement_idle t m k k' (Ok answer) idle a = record { held = a.call.nothing.0; out = a.call.nothing.1; loader = a.call.loader ∙ idle.loader }
+replacement_idle t m k k' (Err e) idle a = tt

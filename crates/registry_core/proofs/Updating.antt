@@ -8,6 +8,8 @@ use Rattle.reg_model.specs.declared.answer.Receipt.{Receipt}
 use Rattle.reg_model.specs.declared.answer.Receipt.TheVariants as receipt
 use Rattle.reg_model.specs.declared.answer.Removed.{Removed}
 use Rattle.reg_model.specs.declared.answer.Removed.TheVariants as removed
+use Rattle.reg_model.specs.declared.answer.Replaced.{Replaced}
+use Rattle.reg_model.specs.declared.answer.Replaced.TheVariants as replaced
 use Rattle.reg_model.specs.declared.answer.Update.{Update}
 use Rattle.reg_model.specs.declared.span.Member.{Member}
 use Rattle.word_rule.specs.CallerData.{CallerData}
@@ -15,8 +17,9 @@ use Rattle.word_rule.specs.Callers.{IsIdle}
 use Rattle.word_rule.specs.declared.log.Terms.{Terms}
 use Rattle.btree_change.specs.Insertion.{Inserts, call_begun}
 use Rattle.btree_change.specs.Removal.{Removes}
+use Rattle.btree_change.specs.Replacement.{MakesReplacement}
 use Rattle.btree_change.specs.Updates.{AnswersUpdate}
-use Rattle.registry_core.specs.Calls.{Answered, is_of_update, receipts_of_deregister, receipts_of_register}
+use Rattle.registry_core.specs.Calls.{Answered, is_of_update, receipts_of_deregister, receipts_of_register, receipts_of_replace}
 use Rattle.word_rule.proofs.Joins.{prefix_both}
 use Rattle.registry_core.proofs.Asking.{prefix_length}
 use Rattle.registry_core.proofs.Following.{answered_none}
@@ -58,6 +61,13 @@ removed_answered t base k k' (removed.Done number m) idle i =
     answered_update (receipt.Deregister base (removed.Done number m)) 1 k k' refl i.0 idle (prefix_both k.log.past right.0 k'.log.past right.1.0 (one_more right.0 k'.log.past _ right.1.1)) right.1.2 i.1.call
 removed_answered t base k k' (removed.NotFound stamp) idle i = answered_update (receipt.Deregister base (removed.NotFound stamp)) 0 k k' refl i.0 idle i.1.right.0 i.1.right.1 i.1.call
 
+pub replaced_answered : (t : Terms) (m : Member) (k k' : CallerData) (answer : Replaced) → IsIdle k.log → MakesReplacement t m k k' answer → Answered (receipts_of_replace m answer) k k'
+replaced_answered t m k k' replaced.Spent idle i = subst (λ z. Answered [] k z) (sym i.1) (answered_none k)
+replaced_answered t m k k' (replaced.Done number payload) idle i =
+    let right = i.1.right in
+    answered_update (receipt.Replace m (replaced.Done number payload)) 1 k k' refl i.0 idle (prefix_both k.log.past right.0 k'.log.past right.1.0 (one_more right.0 k'.log.past _ right.1.1)) right.1.2 i.1.call
+replaced_answered t m k k' (replaced.NotFound stamp) idle i = answered_update (receipt.Replace m (replaced.NotFound stamp)) 0 k k' refl i.0 idle i.1.right.0 i.1.right.1 i.1.call
+
 -- Spent exactly where no update call is left
 pub inserted_spent : (t : Terms) (m : Member) (k k' : CallerData) (answer : Inserted) → Inserts t m k k' answer → (answer ≡ inserted.Spent) ↔ (k.left ≡ 0)
 inserted_spent t m k k' inserted.Spent i = (λ e. i.0, λ e. refl)
@@ -69,3 +79,8 @@ pub removed_spent : (t : Terms) (base : ℕ) (k k' : CallerData) (answer : Remov
 removed_spent t base k k' removed.Spent i = (λ e. i.0, λ e. refl)
 removed_spent t base k k' (removed.Done number m) i = (λ e. absurd cc, λ e. absurd (let some = i.0 in omega (arith, some, e)))
 removed_spent t base k k' (removed.NotFound stamp) i = (λ e. absurd cc, λ e. absurd (let some = i.0 in omega (arith, some, e)))
+
+pub replaced_spent : (t : Terms) (m : Member) (k k' : CallerData) (answer : Replaced) → MakesReplacement t m k k' answer → (answer ≡ replaced.Spent) ↔ (k.left ≡ 0)
+replaced_spent t m k k' replaced.Spent i = (λ e. i.0, λ e. refl)
+replaced_spent t m k k' (replaced.Done number payload) i = (λ e. absurd cc, λ e. absurd (let some = i.0 in omega (arith, some, e)))
+replaced_spent t m k k' (replaced.NotFound stamp) i = (λ e. absurd cc, λ e. absurd (let some = i.0 in omega (arith, some, e)))

@@ -12,6 +12,8 @@ use Rattle.reg_model.specs.declared.answer.Receipt.{Receipt}
 use Rattle.reg_model.specs.declared.answer.Receipt.TheVariants as receipt
 use Rattle.reg_model.specs.declared.answer.Removed.{Removed}
 use Rattle.reg_model.specs.declared.answer.Removed.TheVariants as removed
+use Rattle.reg_model.specs.declared.answer.Replaced.{Replaced}
+use Rattle.reg_model.specs.declared.answer.Replaced.TheVariants as replaced
 use Rattle.reg_model.specs.declared.span.Member.{Member}
 use Rattle.word_rule.specs.CallerData.{CallerData}
 
@@ -50,6 +52,11 @@ receipts_of_register m answer = receipt.Register m answer ∷ []
 abbrev pub receipts_of_deregister : ℕ → Removed → List Receipt
 receipts_of_deregister base removed.Spent = []
 receipts_of_deregister base answer = receipt.Deregister base answer ∷ []
+
+-- the same of a replacement
+abbrev pub receipts_of_replace : Member → Replaced → List Receipt
+receipts_of_replace m replaced.Spent = []
+receipts_of_replace m answer = receipt.Replace m answer ∷ []
 
 -- the receipts of a load
 abbrev pub receipts_of_load : Member → Loading → List Receipt

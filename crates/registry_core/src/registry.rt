@@ -6,6 +6,7 @@ ghost use Rattle.array_publish.specs.Lookup.{LooksUp};
 ghost use Rattle.array_publish.specs.Update.{IsFreeAgain, LoadsMember, UnloadsMember};
 ghost use Rattle.btree_change.specs.Insertion.{Inserts, TriesInsertion};
 ghost use Rattle.btree_change.specs.Removal.{Removes, TriesRemoval};
+ghost use Rattle.btree_change.specs.Replacement.{MakesReplacement, TriesReplacement};
 ghost use Rattle.btree_change.specs.Updates.{GivesUp};
 ghost use Rattle.btree_lookup.specs.Tries.{TriesTree};
 ghost use Rattle.node_store.specs.Locking.{IsBusyAt, UnlessLost};
@@ -15,6 +16,7 @@ ghost use Rattle.reg_model.specs.SpanData.{IsSpan};
 ghost use Rattle.reg_model.specs.declared.answer.Inserted.TheVariants as inserted;
 ghost use Rattle.reg_model.specs.declared.answer.Loading.TheVariants as loading;
 ghost use Rattle.reg_model.specs.declared.answer.Removed.TheVariants as removed;
+ghost use Rattle.reg_model.specs.declared.answer.Replaced.TheVariants as replaced;
 ghost use Rattle.segment_array.specs.Ascending.{AscendFrom};
 ghost use Rattle.word_rule.specs.CallerData.{due, surplus};
 ghost use Rattle.word_rule.specs.Callers.{IsAlone, IsIdle, IsWhole};
@@ -24,7 +26,7 @@ ghost use Rattle.word_rule.specs.declared.log.LockId.TheVariants as lock;
 ghost use Rattle.registry_core.specs.Begun.{TriesLoad, TriesUnload};
 ghost use Rattle.registry_core.specs.Calls.{Answered, Receives, receipts_of_deregister};
 ghost use Rattle.registry_core.specs.Calls.{receipts_of_load, receipts_of_register};
-ghost use Rattle.registry_core.specs.Calls.{receipts_of_unload};
+ghost use Rattle.registry_core.specs.Calls.{receipts_of_replace, receipts_of_unload};
 ghost use Rattle.registry_core.specs.Queries.{IsKnownPlace, Queries};
 ghost use Rattle.registry_core.specs.Rounds.{IsBetweenRounds};
 
@@ -33,7 +35,7 @@ use array_publish::try_object;
 use btree_lookup::try_find;
 use node_store::{Busy, Locking, Trying};
 use reg_model::laws::receipts_stay;
-use reg_model::{Again, Found, Inserted, Loading, Member, NoMemory, Place, Removed};
+use reg_model::{Again, Found, Inserted, Loading, Member, NoMemory, Place, Removed, Replaced};
 use std::alloc::Global;
 use std::marker::Model;
 use std::sync::Wait;
@@ -119,6 +121,22 @@ impl Registry {
         ensures idle { IsIdle me.new.log }
     {
         btree_change::remove(rt, &self.words, me, base)
+    }
+
+    /// Gives a member the place of the registered one that has its whole span, whose payload it
+    /// names. Spent where the caller may begin no more update calls. It waits for the locks of
+    /// nodes.
+    pub fn replace<R: Wait>(&self, rt: &R, me: &mut Caller, member: Member) -> Replaced
+        requires table { me.old.table ≡ self.now.table }
+        requires idle { IsIdle me.old.log }
+        requires payload { member.payload < self.now.terms.payloads }
+        ensures answer { MakesReplacement self.now.terms member me.old me.new result }
+        ensures terms { 0 < me.old.left → me.old.log.terms ≡ self.now.terms }
+        ensures answered { Answered (receipts_of_replace member result) me.old me.new }
+        ensures spent { (result ≡ replaced.Spent) ↔ (me.old.left ≡ 0) }
+        ensures idle { IsIdle me.new.log }
+    {
+        btree_change::replace(rt, &self.words, me, member)
     }
 
     /// Registers a member as `register` does, for an update call that was begun. Spent where the
@@ -209,6 +227,34 @@ impl Registry {
         ensures due { OnErr result (0 < due me.new) }
     {
         self.deregister_by(&Trying, me, base)
+    }
+
+    /// Replaces a registered member as `replace` does, for an update call that was begun. Spent
+    /// where the caller has fewer than 64 releases to spare. Busy where `locking` gives up: the
+    /// call is still begun then, and may be tried again by a caller that didn't lose a node.
+    pub fn replace_by<L: Locking>(
+        &self,
+        locking: &L,
+        me: &mut Caller,
+        member: Member,
+    ) -> Result<Replaced, Busy>
+        requires table { me.old.table ≡ self.now.table }
+        requires idle { IsIdle me.old.log }
+        requires begun { 0 < due me.old }
+        requires payload { member.payload < self.now.terms.payloads }
+        ensures answer { IfOk result (TriesReplacement self.now.terms member me.old me.new) }
+        ensures terms { CALL_CREDIT ≤ surplus me.old → me.old.log.terms ≡ self.now.terms }
+        ensures busy { IfErr result (λ e. (CALL_CREDIT ≤ surplus me.old)
+            × GivesUp e me.old me.new × (L.gives_up ≡ true)) }
+        ensures table { me.new.table ≡ me.old.table }
+        ensures idle { OnOk result (IsIdle me.new.log) }
+        ensures again { IfErr result (λ e. UnlessLost e (IsIdle me.new.log)) }
+        ensures due { OnErr result (0 < due me.new) }
+    {
+        if !me.may_try() {
+            return Ok(Replaced::Spent);
+        }
+        btree_change::replace_by(locking, &self.words, me, member)
     }
 
     /// Loads a member. Spent where the caller may begin no more update calls. It waits for the

@@ -1,0 +1,16 @@
+use Rattle.std.proofs.Common.{◌-◌, ◌≤◌}
+use Rattle.tree_shape.specs.NodeData.{IsInFences}
+use Rattle.btree_change.specs.Releases.{Spends}
+use Rattle.btree_change.specs.Removing.{HoldsAlone}
+use Rattle.btree_change.proofs.replacement.leaf_for.Given as goal
+
+abbrev pub invariant-loop-me : goal.invariant-loop-me
+invariant-loop-me g l = record {
+  alone : HoldsAlone l.words.terms l.at l.me.log.holdings;
+  here : IsInFences l.pc l.at.content;
+  low : l.at.content.level ≤ 12;
+  spends : Spends (12 - l.at.content.level) l.fn.me l.me;
+}
+
+abbrev pub decreases-loop-me : goal.decreases-loop-me
+decreases-loop-me g l = l.at.content.level

@@ -1,0 +1,8 @@
+use Rattle.btree_change.proofs.Replacings.{shows_no_span, unspanned_so}
+use Rattle.btree_change.proofs.replacing.none_with.Goals as goal
+
+pub load_clock-clock-requires-clause-ask : goal.load_clock-clock-requires-clause-ask
+load_clock-clock-requires-clause-ask c = shows_no_span c.args.words.now.terms c.args.leaf.now c.args.member.now c.args.me.now c.requires.alone c.requires.level c.requires.here c.requires.none
+
+pub returns : goal.returns
+returns c = unspanned_so c.args.words.now.terms c.args.leaf.now c.args.member.now c.args.me.now c.requires.alone c.requires.level c.requires.here c.requires.none c.load_clock-clock.new.me c.load_clock-clock.result c.load_clock-clock.ensures.log c.load_clock-clock.ensures.refusal c.load_clock-clock.ensures.rest
