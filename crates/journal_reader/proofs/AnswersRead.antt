@@ -14,16 +14,19 @@ use Rattle.reg_model.specs.declared.answer.Loading.{Loading}
 use Rattle.reg_model.specs.declared.answer.Loading.TheVariants as loading
 use Rattle.reg_model.specs.declared.answer.Removed.{Removed}
 use Rattle.reg_model.specs.declared.answer.Removed.TheVariants as removed
+use Rattle.reg_model.specs.declared.answer.Replaced.{Replaced}
+use Rattle.reg_model.specs.declared.answer.Replaced.TheVariants as replaced
 use Rattle.unwind_step.specs.declared.backtrace.End.{End}
 use Rattle.unwind_step.specs.declared.backtrace.End.TheVariants as end
 use Rattle.unwind_step.specs.declared.backtrace.FrameLine.{FrameLine}
 use Rattle.event_script.specs.Digits.{hex}
 use Rattle.event_script.specs.Fields.{decimal_in, hex_in, number_in}
-use Rattle.event_script.specs.Text.{inserted_text, loading_text, removed_text, found_text, loaded_text, place_text, end_text}
+use Rattle.event_script.specs.Text.{inserted_text, loading_text, removed_text, replaced_text, found_text, loaded_text, place_text, end_text}
+use Rattle.event_script.specs.Lawful.{image_member}
 use Rattle.event_script.proofs.Numbers.{decimal_again, hex_again}
 use Rattle.journal_reader.specs.FirstNumbers.{decimal_first, hex_first, past_word}
-use Rattle.journal_reader.specs.Told.{IsToldFound, IsToldPlace, IsToldInserted, IsToldLoading, IsToldRemoved, IsToldFrame, IsToldEnd}
-use Rattle.journal_reader.specs.Reading.{image_in, overlap_in, inserted_in, as_loading, loading_in, removed_in, found_first, if_last, loaded_in, place_from, told_place, frame_in, plain_end, end_in}
+use Rattle.journal_reader.specs.Told.{IsToldFound, IsToldPlace, IsToldInserted, IsToldLoading, IsToldRemoved, IsToldReplaced, IsToldFrame, IsToldEnd}
+use Rattle.journal_reader.specs.Reading.{image_in, overlap_in, inserted_in, as_loading, loading_in, removed_in, as_replaced, replaced_in, found_first, if_last, loaded_in, place_from, told_place, frame_in, plain_end, end_in}
 use Rattle.journal_reader.proofs.Options.{step_parts, going_parts}
 use Rattle.event_script.proofs.Steps.{decimal_is, hex_is}
 use Rattle.journal_reader.proofs.FirstParts.{IsCut, past_is, decimal_first_again, hex_first_again, decimal_first_is, hex_first_is}
@@ -55,6 +58,12 @@ module _ (images : List SpanData) (few : length images < 2 ^ 32) where
       ∙ rw (decimal_first_again number last told.0 refl, decimal_again m.payload (omega arith), image_in_again images few m told.1) refl
   removed_again (removed.NotFound stamp) told = rw (decimal_again stamp told) refl
   removed_again removed.Spent told = absurd told
+
+  pub replaced_again : (answer : Replaced) → IsToldReplaced images answer → replaced_in images (replaced_text answer) ≡ Some answer
+  unfolding replaced_in
+  replaced_again (replaced.Done number payload) told = rw (removed_again (removed.Done number (image_member images payload)) (told.0, record { named = told.1; is = refl })) refl
+  replaced_again (replaced.NotFound stamp) told = rw (removed_again (removed.NotFound stamp) told) refl
+  replaced_again replaced.Spent told = absurd told
 
   none_is_no_number : (rest : List ℕ) → decimal_first (codes "none" ++ 32 ∷ rest) ≡ None
   unfolding decimal_first number_in digits
@@ -186,6 +195,22 @@ module _ (images : List SpanData) (few : length images < 2 ^ 32) where
             let is : removed.NotFound q.0 ≡ answer = cc in
             subst (λ (x : Removed). IsToldRemoved images x × (text ≡ removed_text x)) is (stamp.0, front ∙ ap (λ (x : List ℕ). codes "absent at " ++ x) stamp.1)
       ]
+
+  replaced_from : (text : List ℕ) (read : Removed) (answer : Replaced) → IsToldRemoved images read → text ≡ removed_text read → as_replaced read ≡ Some answer → IsToldReplaced images answer × (text ≡ replaced_text answer)
+  replaced_from text (removed.Done number m) answer told spelled e =
+      let is : replaced.Done number m.payload ≡ answer = cc in
+      subst (λ (x : Replaced). IsToldReplaced images x × (text ≡ replaced_text x)) is ((told.0, told.1.named), spelled)
+  replaced_from text (removed.NotFound stamp) answer told spelled e =
+      let is : replaced.NotFound stamp ≡ answer = cc in
+      subst (λ (x : Replaced). IsToldReplaced images x × (text ≡ replaced_text x)) is (told, spelled)
+  replaced_from text removed.Spent answer told spelled e = absurd told
+
+  pub replaced_is : (text : List ℕ) (answer : Replaced) → replaced_in images text ≡ Some answer → IsToldReplaced images answer × (text ≡ replaced_text answer)
+  unfolding replaced_in
+  replaced_is text answer e =
+      let p = step_parts (removed_in images text) as_replaced answer e in
+      let q = removed_is text p.0 p.1 in
+      replaced_from text p.0 answer q.0 q.1 p.2
 
   pub found_is : (text : List ℕ) (found : Found) (rest : List ℕ) → found_first images text ≡ Some (found, rest) → IsToldFound images found × (text ≡ found_text found ++ rest)
   unfolding found_first

@@ -6,13 +6,14 @@ use Rattle.reg_model.specs.declared.answer.Found.TheVariants.{Miss}
 use Rattle.reg_model.specs.declared.answer.Inserted.TheVariants as inserted
 use Rattle.reg_model.specs.declared.answer.Loading.TheVariants as loading
 use Rattle.reg_model.specs.declared.answer.Removed.TheVariants as removed
+use Rattle.reg_model.specs.declared.answer.Replaced.TheVariants as replaced
 use Rattle.unwind_step.specs.Backtrace.{TraceData}
 use Rattle.unwind_step.specs.declared.backtrace.End.TheVariants as end
 use Rattle.event_script.specs.Text.{answer_line}
 use Rattle.event_script.specs.declared.script.Event.{Event}
 use Rattle.event_script.specs.declared.script.Event.TheVariants as event
 use Rattle.event_script.specs.declared.journal.Answer.{Answer}
-use Rattle.event_script.specs.declared.journal.Answer.TheVariants.{Register, Deregister, Load, Unload, Find, Unwind}
+use Rattle.event_script.specs.declared.journal.Answer.TheVariants.{Register, Deregister, Replace, Load, Unload, Find, Unwind}
 use Rattle.journal_reader.specs.Told.{IsToldTrace, IsToldAnswer}
 use Rattle.journal_reader.specs.Reading.{IsOneLine, head_of, first_line}
 use Rattle.journal_reader.specs.JournalLines.{line_at, event_lines}
@@ -26,6 +27,7 @@ module _ (images : List SpanData) (few : length images < 2 ^ 32) where
   pub some_answer : (asked : Event) → (answer : Answer) × IsToldAnswer images asked answer
   some_answer (event.Register image) = (Register image (inserted.Full 0), (refl, omega arith))
   some_answer (event.Deregister base) = (Deregister base (removed.NotFound 0), (refl, omega arith))
+  some_answer (event.Replace image) = (Replace image (replaced.NotFound 0), (refl, omega arith))
   some_answer (event.Load image) = (Load image (loading.LoadFull 0), (refl, omega arith))
   some_answer (event.Unload base) = (Unload base (removed.NotFound 0), (refl, omega arith))
   some_answer (event.Find pc) = (
@@ -45,6 +47,7 @@ module _ (images : List SpanData) (few : length images < 2 ^ 32) where
     one_line : (asked : Event) (answer : Answer) → IsOneLine asked → IsToldAnswer images asked answer → lines_of answer ≡ line_at round thread place (answer_line answer) ∷ []
     one_line (event.Register image) (Register number answer) one told = refl
     one_line (event.Deregister base) (Deregister number answer) one told = refl
+    one_line (event.Replace image) (Replace number answer) one told = refl
     one_line (event.Load image) (Load number answer) one told = refl
     one_line (event.Unload base) (Unload number answer) one told = refl
     one_line (event.Find pc) (Find number found) one told = refl
@@ -72,11 +75,13 @@ module _ (images : List SpanData) (few : length images < 2 ^ 32) where
         (ap₂ (λ (n : ℕ) (t : TraceData). Unwind n t) (p.0 ∙ sym q.0) r.0, r.1)
     unique_trace snapshot (Unwind a trace) (Register n answer) xs ys p q same = absurd q
     unique_trace snapshot (Unwind a trace) (Deregister n answer) xs ys p q same = absurd q
+    unique_trace snapshot (Unwind a trace) (Replace n answer) xs ys p q same = absurd q
     unique_trace snapshot (Unwind a trace) (Load n answer) xs ys p q same = absurd q
     unique_trace snapshot (Unwind a trace) (Unload n answer) xs ys p q same = absurd q
     unique_trace snapshot (Unwind a trace) (Find n answer) xs ys p q same = absurd q
     unique_trace snapshot (Register n answer) other xs ys p q same = absurd p
     unique_trace snapshot (Deregister n answer) other xs ys p q same = absurd p
+    unique_trace snapshot (Replace n answer) other xs ys p q same = absurd p
     unique_trace snapshot (Load n answer) other xs ys p q same = absurd p
     unique_trace snapshot (Unload n answer) other xs ys p q same = absurd p
     unique_trace snapshot (Find n answer) other xs ys p q same = absurd p
@@ -85,6 +90,7 @@ module _ (images : List SpanData) (few : length images < 2 ^ 32) where
         → lines_of answer ++ xs ≡ lines_of other ++ ys → (answer ≡ other) × (xs ≡ ys)
     unique_answer (event.Register image) answer other xs ys p q same = unique_line (event.Register image) answer other xs ys tt p q same
     unique_answer (event.Deregister base) answer other xs ys p q same = unique_line (event.Deregister base) answer other xs ys tt p q same
+    unique_answer (event.Replace image) answer other xs ys p q same = unique_line (event.Replace image) answer other xs ys tt p q same
     unique_answer (event.Load image) answer other xs ys p q same = unique_line (event.Load image) answer other xs ys tt p q same
     unique_answer (event.Unload base) answer other xs ys p q same = unique_line (event.Unload base) answer other xs ys tt p q same
     unique_answer (event.Find pc) answer other xs ys p q same = unique_line (event.Find pc) answer other xs ys tt p q same
@@ -150,6 +156,7 @@ module _ (images : List SpanData) (few : length images < 2 ^ 32) where
         carry front bars (Unwind n trace) others told same = bars trace others told.1 cc
         carry front bars (Register n answer) others told same = absurd told
         carry front bars (Deregister n answer) others told same = absurd told
+        carry front bars (Replace n answer) others told same = absurd told
         carry front bars (Load n answer) others told same = absurd told
         carry front bars (Unload n answer) others told same = absurd told
         carry front bars (Find n answer) others told same = absurd told
@@ -164,6 +171,7 @@ module _ (images : List SpanData) (few : length images < 2 ^ 32) where
     unwind_none snapshot line differs (Unwind n trace) told same = differs (same ∙ ap (λ (k : ℕ). line_at round thread place (codes "unwind " ++ decimal k)) told.0)
     unwind_none snapshot line differs (Register n answer) told same = absurd told
     unwind_none snapshot line differs (Deregister n answer) told same = absurd told
+    unwind_none snapshot line differs (Replace n answer) told same = absurd told
     unwind_none snapshot line differs (Load n answer) told same = absurd told
     unwind_none snapshot line differs (Unload n answer) told same = absurd told
     unwind_none snapshot line differs (Find n answer) told same = absurd told

@@ -1,9 +1,10 @@
 -- Every member that a lawful journal's answers name is an image's.
 use Rattle.std.proofs.Common.{◌≡◌, ℕ, zero, suc, ◌<◌, Bool, true, false, cond, List, [], ◌∷◌, ◌++◌, length, take, get_or, Option, Some, None, IfSome, subst, arith}
 use Rattle.std.specs.List.{AllByRecursion, find, filter}
-use Rattle.std.specs.Option.{option_and_then, option_to_list}
+use Rattle.std.specs.Option.{option_and_then, option_to_list, IsSomeAnd}
 use Rattle.reg_model.specs.State.{State, objects}
-use Rattle.reg_model.specs.History.{after, state_after, state_at}
+use Rattle.reg_model.specs.SpanData.{is_same_span}
+use Rattle.reg_model.specs.History.{after, with_payload, state_after, state_at}
 use Rattle.reg_model.specs.Receipt.{accepted, Holds, made_before}
 use Rattle.reg_model.specs.Numbers.{history_of, has_number}
 use Rattle.reg_model.specs.declared.span.Member.{Member}
@@ -14,6 +15,8 @@ use Rattle.reg_model.specs.declared.answer.Half.TheVariants.{Registered, Loaded}
 use Rattle.reg_model.specs.declared.answer.Inserted.TheVariants as inserted
 use Rattle.reg_model.specs.declared.answer.Loading.TheVariants as loading
 use Rattle.reg_model.specs.declared.answer.Removed.TheVariants as removed
+use Rattle.reg_model.specs.declared.answer.Replaced.{Replaced}
+use Rattle.reg_model.specs.declared.answer.Replaced.TheVariants as replaced
 use Rattle.reg_model.specs.declared.answer.Receipt.{Receipt}
 use Rattle.reg_model.specs.declared.answer.Receipt.TheVariants as receipt
 
@@ -38,6 +41,14 @@ module _ (P : Member → Type 0) where
       by true rest = (p.0, rest)
       by false rest = rest
 
+  each_changed : (m : Member) (xs : List Member) → P m → EachMember xs → EachMember (with_payload m xs)
+  each_changed m [] new p = tt
+  each_changed m (x ∷ xs) new p = (by (is_same_span x.span m.span), each_changed m xs new p.1)
+    where
+      by : (t : Bool) → P (cond t m x)
+      by true = new
+      by false = p.0
+
   found_member : (test : Member → Bool) (xs : List Member) (m : Member) → EachMember xs → find test xs ≡ Some m → P m
   found_member test [] m p e = absurd cc
   found_member test (x ∷ xs) m p e = by (test x) (found_member test xs m p.1) e
@@ -45,6 +56,14 @@ module _ (P : Member → Type 0) where
       by : (t : Bool) → (find test xs ≡ Some m → P m) → cond t (Some x) (find test xs) ≡ Some m → P m
       by true rest e = let is : x ≡ m = cc in subst P is p.0
       by false rest e = rest e
+
+  found_payload : (test : Member → Bool) (xs : List Member) (payload : ℕ) → EachMember xs → IsSomeAnd (find test xs) (λ m. m.payload ≡ payload) → (m : Member) × P m × (m.payload ≡ payload)
+  found_payload test [] payload p some = absurd some
+  found_payload test (x ∷ xs) payload p some = by (test x) (found_payload test xs payload p.1) some
+    where
+      by : (t : Bool) → (IsSomeAnd (find test xs) (λ m. m.payload ≡ payload) → (m : Member) × P m × (m.payload ≡ payload)) → IsSomeAnd (cond t (Some x) (find test xs)) (λ m. m.payload ≡ payload) → (m : Member) × P m × (m.payload ≡ payload)
+      by true rest some = (x, p.0, some)
+      by false rest some = rest some
 
   listed_member : (xs : List Member) (k : ℕ) (m : Member) → EachMember xs → k < length xs → get_or xs k m ≡ m → P m
   listed_member [] k m p within is = absurd (omega arith)
@@ -54,12 +73,14 @@ module _ (P : Member → Type 0) where
   -- an update brings such members alone
   abbrev pub IsFrom : Update → Type 0
   IsFrom (update.Register m) = P m
+  IsFrom (update.Replace m) = P m
   IsFrom (update.Load m) = P m
   IsFrom _ = Unit {0}
 
   after_from : (u : Update) (s : State) → IsFrom u → AreMembers s → AreMembers (after u s)
   after_from (update.Register m) s from are = record { registered = each_joined s.registered (m ∷ []) are.registered (from, tt); loaded = are.loaded; fixed = are.fixed }
   after_from (update.Deregister base) s from are = record { registered = each_left _ s.registered are.registered; loaded = are.loaded; fixed = are.fixed }
+  after_from (update.Replace m) s from are = record { registered = each_changed m s.registered from are.registered; loaded = are.loaded; fixed = are.fixed }
   after_from (update.Load m) s from are = record { registered = are.registered; loaded = each_joined s.loaded (m ∷ []) are.loaded (from, tt); fixed = are.fixed }
   after_from (update.Unload base) s from are = record { registered = are.registered; loaded = each_left _ s.loaded are.loaded; fixed = are.fixed }
 
@@ -107,6 +128,9 @@ module _ (P : Member → Type 0) where
   NamesSuch (receipt.Load m loading.Spent) = ⊥
   NamesSuch (receipt.Deregister base (removed.Done number m)) = P m
   NamesSuch (receipt.Deregister base removed.Spent) = ⊥
+  NamesSuch (receipt.Replace m (replaced.Done number payload)) =
+      (old : Member) × P old × (old.payload ≡ payload)
+  NamesSuch (receipt.Replace m replaced.Spent) = ⊥
   NamesSuch (receipt.Unload base (removed.Done number m)) = P m
   NamesSuch (receipt.Unload base removed.Spent) = ⊥
   NamesSuch (receipt.Query half pc (Hit m stamp)) = P m
@@ -135,6 +159,9 @@ module _ (P : Member → Type 0) where
     names_such (receipt.Deregister base (removed.Done number m)) holds = found_member _ _ m (here (receipt.Deregister base (removed.Done number m))).registered holds.right
     names_such (receipt.Deregister base (removed.NotFound stamp)) holds = tt
     names_such (receipt.Deregister base removed.Spent) holds = absurd holds.right
+    names_such (receipt.Replace m (replaced.Done number payload)) holds = found_payload _ _ payload (here (receipt.Replace m (replaced.Done number payload))).registered holds.right
+    names_such (receipt.Replace m (replaced.NotFound stamp)) holds = tt
+    names_such (receipt.Replace m replaced.Spent) holds = absurd holds.right
     names_such (receipt.Unload base (removed.Done number m)) holds = found_member _ _ m (here (receipt.Unload base (removed.Done number m))).loaded holds.right
     names_such (receipt.Unload base (removed.NotFound stamp)) holds = tt
     names_such (receipt.Unload base removed.Spent) holds = absurd holds.right

@@ -23,6 +23,7 @@ use Rattle.reg_model.specs.declared.answer.Loading.TheVariants as loading
 use Rattle.reg_model.specs.declared.answer.Receipt.{Receipt}
 use Rattle.reg_model.specs.declared.answer.Receipt.TheVariants as receipt
 use Rattle.reg_model.specs.declared.answer.Removed.TheVariants as removed
+use Rattle.reg_model.specs.declared.answer.Replaced.TheVariants as replaced
 use Rattle.trace_check.specs.Words.{AreWords, IsWordLine, IsWordEnd, HasWords}
 use Rattle.trace_check.proofs.Words.{trace_words}
 use Rattle.unwind_step.specs.declared.backtrace.End.{End}
@@ -32,7 +33,7 @@ use Rattle.event_script.specs.JournalData.{JournalData}
 use Rattle.event_script.specs.Lawful.{image_member, AnswersEvent, AreInRounds, IsLawfulJournal, IsUnfolded, done_after, in_one, receipts_of, receipts_of_trace, thread_receipts}
 use Rattle.event_script.specs.ScriptData.{Counts, IsRound, IsRunnable, IsSectionOf, IsSnapshot, IsThread, ScriptData, SnapshotData, counts_of}
 use Rattle.event_script.specs.declared.journal.Answer.{Answer}
-use Rattle.event_script.specs.declared.journal.Answer.TheVariants.{Register, Deregister, Load, Unload, Find, Unwind}
+use Rattle.event_script.specs.declared.journal.Answer.TheVariants.{Register, Deregister, Replace, Load, Unload, Find, Unwind}
 use Rattle.event_script.specs.declared.script.Event.{Event}
 use Rattle.event_script.specs.Text.{journal_text}
 use Rattle.journal_reader.specs.FormFlaw.{TellsJournal}
@@ -69,6 +70,7 @@ module _ (images : List SpanData) where
   one_at_most : (answer : Answer) → count (receipts_of images answer) ≤ 1
   one_at_most (Register image answer) = single (receipt.Register (image_member images image) answer)
   one_at_most (Deregister base answer) = single (receipt.Deregister base answer)
+  one_at_most (Replace image answer) = single (receipt.Replace (image_member images image) answer)
   one_at_most (Load image answer) = single (receipt.Load (image_member images image) answer)
   one_at_most (Unload base answer) = single (receipt.Unload base answer)
   one_at_most (Find pc place) = let none = of_place pc place.registered place.loaded in omega (arith, none)
@@ -194,6 +196,9 @@ module _ (images : List SpanData) where
   answer_sized (Deregister base (removed.Done number m)) small words = small.0
   answer_sized (Deregister base (removed.NotFound stamp)) small words = small.0
   answer_sized (Deregister base removed.Spent) small words = tt
+  answer_sized (Replace image (replaced.Done number payload)) small words = small.0
+  answer_sized (Replace image (replaced.NotFound stamp)) small words = small.0
+  answer_sized (Replace image replaced.Spent) small words = tt
   answer_sized (Load image (loading.Done number)) small words = small.0
   answer_sized (Load image (loading.Overlap m stamp)) small words = small.0
   answer_sized (Load image (loading.LoadFull stamp)) small words = small.0
@@ -237,6 +242,7 @@ module _ (sections : List SectionData) (snapshots : List SnapshotData) (spelled 
   unfolded_words : (answer : Answer) → IsUnfolded sections snapshots answer → AnswerHasWords answer
   unfolded_words (Register image answer) is = tt
   unfolded_words (Deregister base answer) is = tt
+  unfolded_words (Replace image answer) is = tt
   unfolded_words (Load image answer) is = tt
   unfolded_words (Unload base answer) is = tt
   unfolded_words (Find pc place) is = tt

@@ -19,6 +19,8 @@ use Rattle.reg_model.specs.declared.answer.Loading.{Loading}
 use Rattle.reg_model.specs.declared.answer.Loading.TheVariants as loading
 use Rattle.reg_model.specs.declared.answer.Removed.{Removed}
 use Rattle.reg_model.specs.declared.answer.Removed.TheVariants as removed
+use Rattle.reg_model.specs.declared.answer.Replaced.{Replaced}
+use Rattle.reg_model.specs.declared.answer.Replaced.TheVariants as replaced
 use Rattle.reg_model.specs.declared.answer.Receipt.{Receipt}
 use Rattle.reg_model.specs.declared.answer.Receipt.TheVariants as receipt
 use Rattle.unwind_step.specs.declared.backtrace.FrameLine.{FrameLine}
@@ -29,9 +31,9 @@ use Rattle.event_script.specs.Text.{journal_text}
 use Rattle.event_script.specs.declared.script.Event.{Event}
 use Rattle.event_script.specs.declared.script.Event.TheVariants as event
 use Rattle.event_script.specs.declared.journal.Answer.{Answer}
-use Rattle.event_script.specs.declared.journal.Answer.TheVariants.{Register, Deregister, Load, Unload, Find, Unwind}
-use Rattle.journal_reader.specs.Told.{IsImage, IsToldOverlap, IsToldFound, IsToldPlace, IsToldInserted, IsToldLoading, IsToldRemoved, IsToldFrame, IsToldAnswer}
-use Rattle.journal_reader.proofs.Sizes.{IsSizedFound, IsSizedInserted, IsSizedLoading, IsSizedRemoved, IsSizedFrame, IsSizedAnswer, IsSized}
+use Rattle.event_script.specs.declared.journal.Answer.TheVariants.{Register, Deregister, Replace, Load, Unload, Find, Unwind}
+use Rattle.journal_reader.specs.Told.{IsImage, IsToldOverlap, IsToldFound, IsToldPlace, IsToldInserted, IsToldLoading, IsToldRemoved, IsToldReplaced, IsToldFrame, IsToldAnswer}
+use Rattle.journal_reader.proofs.Sizes.{IsSizedFound, IsSizedInserted, IsSizedLoading, IsSizedRemoved, IsSizedReplaced, IsSizedFrame, IsSizedAnswer, IsSized}
 use Rattle.journal_reader.specs.FormFlaw.{TellsJournal}
 use Rattle.journal_reader.proofs.LawfulMembers.{AreMembers, IsFrom, IsReceiptFrom, NamesSuch, history_from, names_such}
 
@@ -95,19 +97,25 @@ module _ (images : List SpanData) (spans : AllByRecursion IsSpan images) where
   deregistered_from base (removed.NotFound stamp) = tt
   deregistered_from base removed.Spent = tt
 
+  replaced_from : (image : ℕ) (answer : Replaced) → image < length images → IsReceiptFrom Image (receipt.Replace (image_member images image) answer)
+  replaced_from image (replaced.Done number payload) lt = image_is image lt
+  replaced_from image (replaced.NotFound stamp) lt = tt
+  replaced_from image replaced.Spent lt = tt
+
   unloaded_from : (base : ℕ) (answer : Removed) → IsReceiptFrom Image (receipt.Unload base answer)
   unloaded_from base (removed.Done number m) = tt
   unloaded_from base (removed.NotFound stamp) = tt
   unloaded_from base removed.Spent = tt
 
-  answer_from : (snapshots : ℕ) (asked : Event) (answer : Answer) → IsEvent (record { images = length images; snapshots = snapshots }) asked → AnswersEvent asked answer → AllByRecursion (IsReceiptFrom Image) (receipts_of images answer)
-  answer_from snapshots (event.Register image) (Register number answer) named is = (inserted_from number answer (subst (λ (n : ℕ). n < length images) (sym is) named), tt)
-  answer_from snapshots (event.Deregister base) (Deregister number answer) named is = (deregistered_from number answer, tt)
-  answer_from snapshots (event.Load image) (Load number answer) named is = (loading_from number answer (subst (λ (n : ℕ). n < length images) (sym is) named), tt)
-  answer_from snapshots (event.Unload base) (Unload number answer) named is = (unloaded_from number answer, tt)
-  answer_from snapshots (event.Find pc) (Find number place) named is = place_from_none number place.registered place.loaded
-  answer_from snapshots (event.Unwind snapshot) (Unwind number trace) named is = trace_from_none trace.frames
-  answer_from snapshots asked answer named is = absurd is
+  answer_from : (version snapshots : ℕ) (asked : Event) (answer : Answer) → IsEvent (record { version = version; images = length images; snapshots = snapshots }) asked → AnswersEvent asked answer → AllByRecursion (IsReceiptFrom Image) (receipts_of images answer)
+  answer_from version snapshots (event.Register image) (Register number answer) named is = (inserted_from number answer (subst (λ (n : ℕ). n < length images) (sym is) named), tt)
+  answer_from version snapshots (event.Deregister base) (Deregister number answer) named is = (deregistered_from number answer, tt)
+  answer_from version snapshots (event.Replace image) (Replace number answer) named is = (replaced_from number answer (subst (λ (n : ℕ). n < length images) (sym is) named.0), tt)
+  answer_from version snapshots (event.Load image) (Load number answer) named is = (loading_from number answer (subst (λ (n : ℕ). n < length images) (sym is) named), tt)
+  answer_from version snapshots (event.Unload base) (Unload number answer) named is = (unloaded_from number answer, tt)
+  answer_from version snapshots (event.Find pc) (Find number place) named is = place_from_none number place.registered place.loaded
+  answer_from version snapshots (event.Unwind snapshot) (Unwind number trace) named is = trace_from_none trace.frames
+  answer_from version snapshots asked answer named is = absurd is
 
   -- ---- what each answer names
 
@@ -137,6 +145,11 @@ module _ (images : List SpanData) (spans : AllByRecursion IsSpan images) where
   deregistered_told base (removed.NotFound stamp) such sized = sized
   deregistered_told base removed.Spent such sized = such
 
+  replaced_told : (m : Member) (answer : Replaced) → NamesSuch Image (receipt.Replace m answer) → IsSizedReplaced answer → IsToldReplaced images answer
+  replaced_told m (replaced.Done number payload) (old, image, same) sized = (sized, subst (λ n. n < length images) same image.named)
+  replaced_told m (replaced.NotFound stamp) such sized = sized
+  replaced_told m replaced.Spent such sized = such
+
   unloaded_told : (base : ℕ) (answer : Removed) → NamesSuch Image (receipt.Unload base answer) → IsSizedRemoved answer → IsToldRemoved images answer
   unloaded_told base (removed.Done number m) such sized = (sized, such)
   unloaded_told base (removed.NotFound stamp) such sized = sized
@@ -154,6 +167,7 @@ module _ (images : List SpanData) (spans : AllByRecursion IsSpan images) where
   answer_told : (asked : Event) (answer : Answer) → AnswersEvent asked answer → AllByRecursion (NamesSuch Image) (receipts_of images answer) → IsSizedAnswer answer → IsToldAnswer images asked answer
   answer_told (event.Register image) (Register number answer) is such sized = (is, inserted_told (image_member images number) answer such.0 sized)
   answer_told (event.Deregister base) (Deregister number answer) is such sized = (is, deregistered_told number answer such.0 sized)
+  answer_told (event.Replace image) (Replace number answer) is such sized = (is, replaced_told (image_member images number) answer such.0 sized)
   answer_told (event.Load image) (Load number answer) is such sized = (is, loading_told (image_member images number) answer such.0 sized)
   answer_told (event.Unload base) (Unload number answer) is such sized = (is, unloaded_told number answer such.0 sized)
   answer_told (event.Find pc) (Find number place) is such sized = (is.0, place_told number place.registered place.loaded is.1 such sized.registered sized.loaded)
@@ -166,28 +180,28 @@ module _ (images : List SpanData) (spans : AllByRecursion IsSpan images) where
   abbrev of_round : List (List Answer) → List (List Receipt)
   of_round answers = map (λ answers. flat_map (receipts_of images) answers) answers
 
-  thread_from : (snapshots : ℕ) (events : List Event) (answers : List Answer) → AllByRecursion (IsEvent (record { images = length images; snapshots = snapshots })) events → AllZip AnswersEvent events answers
+  thread_from : (version snapshots : ℕ) (events : List Event) (answers : List Answer) → AllByRecursion (IsEvent (record { version = version; images = length images; snapshots = snapshots })) events → AllZip AnswersEvent events answers
       → AllByRecursion (IsReceiptFrom Image) (flat_map (receipts_of images) answers)
-  thread_from snapshots [] [] named is = tt
-  thread_from snapshots [] (answer ∷ answers) named is = absurd is
-  thread_from snapshots (asked ∷ events) [] named is = absurd is
-  thread_from snapshots (asked ∷ events) (answer ∷ answers) named is = each_receipt_joined (IsReceiptFrom Image) (receipts_of images answer) (flat_map (receipts_of images) answers) (answer_from snapshots asked answer named.0 is.0) (thread_from snapshots events answers named.1 is.1)
+  thread_from version snapshots [] [] named is = tt
+  thread_from version snapshots [] (answer ∷ answers) named is = absurd is
+  thread_from version snapshots (asked ∷ events) [] named is = absurd is
+  thread_from version snapshots (asked ∷ events) (answer ∷ answers) named is = each_receipt_joined (IsReceiptFrom Image) (receipts_of images answer) (flat_map (receipts_of images) answers) (answer_from version snapshots asked answer named.0 is.0) (thread_from version snapshots events answers named.1 is.1)
 
-  round_from : (snapshots : ℕ) (threads : List (List Event)) (answers : List (List Answer)) → AllByRecursion (IsThread (record { images = length images; snapshots = snapshots })) threads → AllZip (AllZip AnswersEvent) threads answers
+  round_from : (version snapshots : ℕ) (threads : List (List Event)) (answers : List (List Answer)) → AllByRecursion (IsThread (record { version = version; images = length images; snapshots = snapshots })) threads → AllZip (AllZip AnswersEvent) threads answers
       → AllByRecursion (IsReceiptFrom Image) (flat_map (λ receipts. receipts) (map (λ answers. flat_map (receipts_of images) answers) answers))
-  round_from snapshots [] [] named is = tt
-  round_from snapshots [] (answer ∷ answers) named is = absurd is
-  round_from snapshots (events ∷ threads) [] named is = absurd is
-  round_from snapshots (events ∷ threads) (answer ∷ answers) named is =
-      each_receipt_joined (IsReceiptFrom Image) (flat_map (receipts_of images) answer) (flat_map (λ receipts. receipts) (of_round answers)) (thread_from snapshots events answer (recursion_from_All (IsEvent (record { images = length images; snapshots = snapshots })) events named.0.1) is.0) (round_from snapshots threads answers named.1 is.1)
+  round_from version snapshots [] [] named is = tt
+  round_from version snapshots [] (answer ∷ answers) named is = absurd is
+  round_from version snapshots (events ∷ threads) [] named is = absurd is
+  round_from version snapshots (events ∷ threads) (answer ∷ answers) named is =
+      each_receipt_joined (IsReceiptFrom Image) (flat_map (receipts_of images) answer) (flat_map (λ receipts. receipts) (of_round answers)) (thread_from version snapshots events answer (recursion_from_All (IsEvent (record { version = version; images = length images; snapshots = snapshots })) events named.0.1) is.0) (round_from version snapshots threads answers named.1 is.1)
 
-  rounds_from : (snapshots : ℕ) (rounds : List (List (List Event))) (answers : List (List (List Answer))) → AllByRecursion (IsRound (record { images = length images; snapshots = snapshots })) rounds → AllZip (AllZip (AllZip AnswersEvent)) rounds answers
+  rounds_from : (version snapshots : ℕ) (rounds : List (List (List Event))) (answers : List (List (List Answer))) → AllByRecursion (IsRound (record { version = version; images = length images; snapshots = snapshots })) rounds → AllZip (AllZip (AllZip AnswersEvent)) rounds answers
       → AllByRecursion (IsReceiptFrom Image) (in_one (map (λ round. map (λ answers. flat_map (receipts_of images) answers) round) answers))
-  rounds_from snapshots [] [] named is = tt
-  rounds_from snapshots [] (answer ∷ answers) named is = absurd is
-  rounds_from snapshots (threads ∷ rounds) [] named is = absurd is
-  rounds_from snapshots (threads ∷ rounds) (answer ∷ answers) named is =
-      each_receipt_joined (IsReceiptFrom Image) (flat_map (λ receipts. receipts) (of_round answer)) (in_one (map of_round answers)) (round_from snapshots threads answer (recursion_from_All (IsThread (record { images = length images; snapshots = snapshots })) threads named.0.1) is.0) (rounds_from snapshots rounds answers named.1 is.1)
+  rounds_from version snapshots [] [] named is = tt
+  rounds_from version snapshots [] (answer ∷ answers) named is = absurd is
+  rounds_from version snapshots (threads ∷ rounds) [] named is = absurd is
+  rounds_from version snapshots (threads ∷ rounds) (answer ∷ answers) named is =
+      each_receipt_joined (IsReceiptFrom Image) (flat_map (λ receipts. receipts) (of_round answer)) (in_one (map of_round answers)) (round_from version snapshots threads answer (recursion_from_All (IsThread (record { version = version; images = length images; snapshots = snapshots })) threads named.0.1) is.0) (rounds_from version snapshots rounds answers named.1 is.1)
 
   thread_told : (events : List Event) (answers : List Answer) → AllZip AnswersEvent events answers → AllByRecursion (NamesSuch Image) (flat_map (receipts_of images) answers) → AllByRecursion IsSizedAnswer answers → AllZip (IsToldAnswer images) events answers
   thread_told [] [] is such sized = tt
@@ -233,7 +247,7 @@ lawful_told script journal run lawful sized =
     let named = recursion_from_All (λ image. image < length images) script.fixed run.fixed.named in
     let are : AreMembers (IsImage images) (start_of script) = record { registered = tt; loaded = tt; fixed = fixed_from images script.fixed named } in
     let events = recursion_from_All (IsRound (counts_of script)) script.rounds run.rounds.1 in
-    let brought = rounds_from images spans (length script.snapshots) script.rounds journal.rounds events lawful.answered in
+    let brought = rounds_from images spans script.version (length script.snapshots) script.rounds journal.rounds events lawful.answered in
     let receipts = in_one (thread_receipts images journal) in
     let from = history_from (IsImage images) receipts journal.updates brought in
     record {

@@ -5,25 +5,26 @@ use Rattle.reg_model.specs.SpanData.{SpanData}
 use Rattle.unwind_step.specs.declared.backtrace.End.{End}
 use Rattle.unwind_step.specs.declared.backtrace.FrameLine.{FrameLine}
 use Rattle.event_script.specs.Digits.{hex}
-use Rattle.event_script.specs.Text.{inserted_text, loading_text, removed_text, place_text, frame_line, end_text, end_line, answer_line, event_number}
+use Rattle.event_script.specs.Text.{inserted_text, loading_text, removed_text, replaced_text, place_text, frame_line, end_text, end_line, answer_line, event_number}
 use Rattle.event_script.specs.declared.script.Event.{Event}
 use Rattle.event_script.specs.declared.script.Event.TheVariants as event
 use Rattle.event_script.specs.declared.journal.Answer.{Answer}
-use Rattle.event_script.specs.declared.journal.Answer.TheVariants.{Register, Deregister, Load, Unload, Find, Unwind}
+use Rattle.event_script.specs.declared.journal.Answer.TheVariants.{Register, Deregister, Replace, Load, Unload, Find, Unwind}
 use Rattle.event_script.proofs.Numbers.{decimal_again}
 use Rattle.journal_reader.specs.FirstNumbers.{past_word}
 use Rattle.journal_reader.specs.Told.{IsToldFrame, IsToldEnd, IsToldAnswer}
-use Rattle.journal_reader.specs.Reading.{◌>?>◌, inserted_in, loading_in, removed_in, told_place, frame_in, end_in, IsOneLine, told_answer, answer_in, head_of, frame_head, end_head, first_line, told_frame, told_end, told_updates}
+use Rattle.journal_reader.specs.Reading.{◌>?>◌, inserted_in, loading_in, removed_in, replaced_in, told_place, frame_in, end_in, IsOneLine, told_answer, answer_in, head_of, frame_head, end_head, first_line, told_frame, told_end, told_updates}
 use Rattle.journal_reader.specs.JournalLines.{line_at, updates_line}
 use Rattle.journal_reader.proofs.Options.{step_parts}
 use Rattle.event_script.proofs.Steps.{decimal_is}
 use Rattle.journal_reader.proofs.FirstParts.{past_again, past_is}
-use Rattle.journal_reader.proofs.AnswersRead.{inserted_again, loading_again, removed_again, place_again, frame_again, end_again, inserted_is, loading_is, removed_is, place_is, frame_is, end_is, frame_rest}
+use Rattle.journal_reader.proofs.AnswersRead.{inserted_again, loading_again, removed_again, replaced_again, place_again, frame_again, end_again, inserted_is, loading_is, removed_is, replaced_is, place_is, frame_is, end_is, frame_rest}
 
 -- what the first line says after the event, which may be nothing
 abbrev pub rest_of : Answer → List ℕ
 rest_of (Register image answer) = codes " " ++ inserted_text answer
 rest_of (Deregister base answer) = codes " " ++ removed_text answer
+rest_of (Replace image answer) = codes " " ++ replaced_text answer
 rest_of (Load image answer) = codes " " ++ loading_text answer
 rest_of (Unload base answer) = codes " " ++ removed_text answer
 rest_of (Find pc place) = codes " " ++ place_text place
@@ -44,6 +45,9 @@ module _ (images : List SpanData) (few : length images < 2 ^ 32) where
   line_headed round thread place (event.Deregister base) (Deregister number answer) told =
       ap (λ (n : ℕ). line_at round thread place (codes "deregister " ++ hex n ++ codes " " ++ removed_text answer)) told.0
       ∙ headed (event_number round thread place ++ codes " ") (codes "deregister " ++ hex base) (codes " ") (removed_text answer)
+  line_headed round thread place (event.Replace image) (Replace number answer) told =
+      ap (λ (n : ℕ). line_at round thread place (codes "replace " ++ decimal n ++ codes " " ++ replaced_text answer)) told.0
+      ∙ headed (event_number round thread place ++ codes " ") (codes "replace " ++ decimal image) (codes " ") (replaced_text answer)
   line_headed round thread place (event.Load image) (Load number answer) told =
       ap (λ (n : ℕ). line_at round thread place (codes "load " ++ decimal n ++ codes " " ++ loading_text answer)) told.0
       ∙ headed (event_number round thread place ++ codes " ") (codes "load " ++ decimal image) (codes " ") (loading_text answer)
@@ -62,6 +66,7 @@ module _ (images : List SpanData) (few : length images < 2 ^ 32) where
   unfolding answer_in told_answer past_word
   rest_again (event.Register image) (Register number answer) one told = rw (inserted_again images few answer told.1) (ap (λ (n : ℕ). Some (Register n answer)) (sym told.0))
   rest_again (event.Deregister base) (Deregister number answer) one told = rw (removed_again images few answer told.1) (ap (λ (n : ℕ). Some (Deregister n answer)) (sym told.0))
+  rest_again (event.Replace image) (Replace number answer) one told = rw (replaced_again images few answer told.1) (ap (λ (n : ℕ). Some (Replace n answer)) (sym told.0))
   rest_again (event.Load image) (Load number answer) one told = rw (loading_again images few answer told.1) (ap (λ (n : ℕ). Some (Load n answer)) (sym told.0))
   rest_again (event.Unload base) (Unload number answer) one told = rw (removed_again images few answer told.1) (ap (λ (n : ℕ). Some (Unload n answer)) (sym told.0))
   rest_again (event.Find pc) (Find number found) one told = rw (place_again images few found told.1) (ap (λ (n : ℕ). Some (Find n found)) (sym told.0))
@@ -87,6 +92,11 @@ module _ (images : List SpanData) (few : length images < 2 ^ 32) where
       let q = removed_is images few text p.0 p.1 in
       let is : Deregister base p.0 ≡ answer = cc in
       subst (λ (x : Answer). IsToldAnswer images (event.Deregister base) x × (codes " " ++ text ≡ rest_of x)) is ((refl, q.0), ap (λ (x : List ℕ). codes " " ++ x) q.1)
+  answer_is (event.Replace image) text answer e =
+      let p = step_parts (replaced_in images text) _ answer e in
+      let q = replaced_is images few text p.0 p.1 in
+      let is : Replace image p.0 ≡ answer = cc in
+      subst (λ (x : Answer). IsToldAnswer images (event.Replace image) x × (codes " " ++ text ≡ rest_of x)) is ((refl, q.0), ap (λ (x : List ℕ). codes " " ++ x) q.1)
   answer_is (event.Load image) text answer e =
       let p = step_parts (loading_in images text) _ answer e in
       let q = loading_is images few text p.0 p.1 in

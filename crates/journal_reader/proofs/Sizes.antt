@@ -10,11 +10,13 @@ use Rattle.reg_model.specs.declared.answer.Loading.{Loading}
 use Rattle.reg_model.specs.declared.answer.Loading.TheVariants as loading
 use Rattle.reg_model.specs.declared.answer.Removed.{Removed}
 use Rattle.reg_model.specs.declared.answer.Removed.TheVariants as removed
+use Rattle.reg_model.specs.declared.answer.Replaced.{Replaced}
+use Rattle.reg_model.specs.declared.answer.Replaced.TheVariants as replaced
 use Rattle.unwind_step.specs.declared.backtrace.FrameLine.{FrameLine}
 use Rattle.event_script.specs.JournalData.{JournalData}
 use Rattle.event_script.specs.declared.journal.Answer.{Answer}
-use Rattle.event_script.specs.declared.journal.Answer.TheVariants.{Register, Deregister, Load}
-use Rattle.event_script.specs.declared.journal.Answer.TheVariants.{Unload, Find, Unwind}
+use Rattle.event_script.specs.declared.journal.Answer.TheVariants.{Register, Deregister, Replace}
+use Rattle.event_script.specs.declared.journal.Answer.TheVariants.{Load, Unload, Find, Unwind}
 use Rattle.journal_reader.specs.Told.{IsToldEnd}
 
 abbrev pub IsSizedFound : Found → Type 0
@@ -42,6 +44,11 @@ IsSizedRemoved (removed.Done number m) = number < 2 ^ 32
 IsSizedRemoved (removed.NotFound stamp) = stamp < 2 ^ 32
 IsSizedRemoved removed.Spent = Unit {0}
 
+abbrev pub IsSizedReplaced : Replaced → Type 0
+IsSizedReplaced (replaced.Done number payload) = number < 2 ^ 32
+IsSizedReplaced (replaced.NotFound stamp) = stamp < 2 ^ 32
+IsSizedReplaced replaced.Spent = Unit {0}
+
 pub record IsSizedFrame (line : FrameLine) : Type 0 where
   pub pc : line.pc < 2 ^ 64
   pub sp : line.sp < 2 ^ 64
@@ -51,6 +58,7 @@ pub record IsSizedFrame (line : FrameLine) : Type 0 where
 abbrev pub IsSizedAnswer : Answer → Type 0
 IsSizedAnswer (Register image answer) = IsSizedInserted answer
 IsSizedAnswer (Deregister base answer) = IsSizedRemoved answer
+IsSizedAnswer (Replace image answer) = IsSizedReplaced answer
 IsSizedAnswer (Load image answer) = IsSizedLoading answer
 IsSizedAnswer (Unload base answer) = IsSizedRemoved answer
 IsSizedAnswer (Find pc place) = IsSizedPlace place

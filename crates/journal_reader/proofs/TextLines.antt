@@ -15,6 +15,8 @@ use Rattle.reg_model.specs.declared.answer.Loading.{Loading}
 use Rattle.reg_model.specs.declared.answer.Loading.TheVariants as loading
 use Rattle.reg_model.specs.declared.answer.Removed.{Removed}
 use Rattle.reg_model.specs.declared.answer.Removed.TheVariants as removed
+use Rattle.reg_model.specs.declared.answer.Replaced.{Replaced}
+use Rattle.reg_model.specs.declared.answer.Replaced.TheVariants as replaced
 use Rattle.unwind_step.specs.declared.backtrace.End.{End}
 use Rattle.unwind_step.specs.declared.backtrace.End.TheVariants as end
 use Rattle.unwind_step.specs.declared.backtrace.FrameLine.{FrameLine}
@@ -22,9 +24,9 @@ use Rattle.event_script.specs.Digits.{hex}
 use Rattle.event_script.specs.JournalData.{JournalData}
 use Rattle.event_script.specs.Refusal.{lines_text}
 use Rattle.event_script.specs.Fields.{pieces, with_first}
-use Rattle.event_script.specs.Text.{overlap_text, inserted_text, loading_text, removed_text, found_text, loaded_text, place_text, frame_line, frame_lines, end_line, answer_line, further_lines, answer_lines, event_number, event_line, answer_text, numbered, thread_text, round_text, updates_text, journal_text}
+use Rattle.event_script.specs.Text.{overlap_text, inserted_text, loading_text, removed_text, replaced_text, found_text, loaded_text, place_text, frame_line, frame_lines, end_line, answer_line, further_lines, answer_lines, event_number, event_line, answer_text, numbered, thread_text, round_text, updates_text, journal_text}
 use Rattle.event_script.specs.declared.journal.Answer.{Answer}
-use Rattle.event_script.specs.declared.journal.Answer.TheVariants.{Register, Deregister, Load, Unload, Find, Unwind}
+use Rattle.event_script.specs.declared.journal.Answer.TheVariants.{Register, Deregister, Replace, Load, Unload, Find, Unwind}
 use Rattle.event_script.proofs.Joined.{Without, pieces_first}
 use Rattle.journal_reader.specs.JournalLines.{line_at, event_lines, numbered_lines, thread_lines, round_lines, updates_line, journal_lines}
 
@@ -112,6 +114,11 @@ removed_flat (removed.Done number m) = joined (joined (joined (word (codes "done
 removed_flat (removed.NotFound stamp) = joined (word (codes "absent at ") refl) (decimal_flat stamp)
 removed_flat removed.Spent = word [] refl
 
+replaced_flat : (answer : Replaced) → Flat (replaced_text answer)
+replaced_flat (replaced.Done number payload) = joined (joined (joined (word (codes "done ") refl) (decimal_flat number)) (word (codes " image ") refl)) (decimal_flat payload)
+replaced_flat (replaced.NotFound stamp) = joined (word (codes "absent at ") refl) (decimal_flat stamp)
+replaced_flat replaced.Spent = word [] refl
+
 found_flat : (found : Found) → Flat (found_text found)
 found_flat (Hit m stamp) = joined (joined (decimal_flat m.payload) (word (codes " at ") refl)) (decimal_flat stamp)
 found_flat (Miss stamp) = joined (word (codes "none at ") refl) (decimal_flat stamp)
@@ -141,6 +148,7 @@ end_flat end.Long = word (codes "end long") refl
 answer_flat : (answer : Answer) → Flat (answer_line answer)
 answer_flat (Register image answer) = joined (joined (joined (word (codes "register ") refl) (decimal_flat image)) (word (codes " ") refl)) (inserted_flat answer)
 answer_flat (Deregister base answer) = joined (joined (joined (word (codes "deregister ") refl) (hex_flat base)) (word (codes " ") refl)) (removed_flat answer)
+answer_flat (Replace image answer) = joined (joined (joined (word (codes "replace ") refl) (decimal_flat image)) (word (codes " ") refl)) (replaced_flat answer)
 answer_flat (Load image answer) = joined (joined (joined (word (codes "load ") refl) (decimal_flat image)) (word (codes " ") refl)) (loading_flat answer)
 answer_flat (Unload base answer) = joined (joined (joined (word (codes "unload ") refl) (hex_flat base)) (word (codes " ") refl)) (removed_flat answer)
 answer_flat (Find pc place) = joined (joined (joined (word (codes "find ") refl) (hex_flat pc)) (word (codes " ") refl)) (place_flat place)
@@ -162,6 +170,7 @@ further_flat : (answer : Answer) → AllFlat (further_lines answer)
 further_flat (Unwind snapshot trace) = all_joined (frame_lines 0 trace.frames) (end_line trace.end ∷ []) (frames_flat 0 trace.frames) (end_flat trace.end, tt)
 further_flat (Register image answer) = tt
 further_flat (Deregister base answer) = tt
+further_flat (Replace image answer) = tt
 further_flat (Load image answer) = tt
 further_flat (Unload base answer) = tt
 further_flat (Find pc place) = tt

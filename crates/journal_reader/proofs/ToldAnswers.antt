@@ -10,16 +10,18 @@ use Rattle.reg_model.specs.declared.answer.Loading.{Loading}
 use Rattle.reg_model.specs.declared.answer.Loading.TheVariants as loading
 use Rattle.reg_model.specs.declared.answer.Removed.{Removed}
 use Rattle.reg_model.specs.declared.answer.Removed.TheVariants as removed
+use Rattle.reg_model.specs.declared.answer.Replaced.{Replaced}
+use Rattle.reg_model.specs.declared.answer.Replaced.TheVariants as replaced
 use Rattle.unwind_step.specs.declared.backtrace.FrameLine.{FrameLine}
 use Rattle.event_script.specs.JournalData.{JournalData}
 use Rattle.event_script.specs.Lawful.{AnswersEvent}
 use Rattle.event_script.specs.ScriptData.{ScriptData}
 use Rattle.event_script.specs.Text.{IsPrintable}
 use Rattle.event_script.specs.declared.journal.Answer.{Answer}
-use Rattle.event_script.specs.declared.journal.Answer.TheVariants.{Register, Deregister, Load, Unload, Find, Unwind}
+use Rattle.event_script.specs.declared.journal.Answer.TheVariants.{Register, Deregister, Replace, Load, Unload, Find, Unwind}
 use Rattle.event_script.specs.declared.script.Event.{Event}
 use Rattle.event_script.specs.declared.script.Event.TheVariants as event
-use Rattle.journal_reader.specs.Told.{IsToldAnswer, IsToldFrame, IsToldInserted, IsToldJournal, IsToldLoading, IsToldRemoved}
+use Rattle.journal_reader.specs.Told.{IsToldAnswer, IsToldFrame, IsToldInserted, IsToldJournal, IsToldLoading, IsToldRemoved, IsToldReplaced}
 
 module _ (images : List SpanData) where
   -- places have their halves
@@ -30,6 +32,7 @@ module _ (images : List SpanData) where
   answers_event : (asked : Event) (answer : Answer) → IsToldAnswer images asked answer → AnswersEvent asked answer
   answers_event (event.Register image) (Register number answer) told = told.0
   answers_event (event.Deregister base) (Deregister number answer) told = told.0
+  answers_event (event.Replace image) (Replace number answer) told = told.0
   answers_event (event.Load image) (Load number answer) told = told.0
   answers_event (event.Unload base) (Unload number answer) told = told.0
   answers_event (event.Find pc) (Find number place) told = (let is = told.1 in (told.0, is.whole))
@@ -58,9 +61,15 @@ module _ (images : List SpanData) where
   unloaded_prints base (removed.NotFound stamp) told = tt
   unloaded_prints base removed.Spent told = told
 
+  replaced_prints : (image : ℕ) (answer : Replaced) → IsToldReplaced images answer → IsPrintable (Replace image answer)
+  replaced_prints image (replaced.Done number payload) told = tt
+  replaced_prints image (replaced.NotFound stamp) told = tt
+  replaced_prints image replaced.Spent told = told
+
   answer_prints : (asked : Event) (answer : Answer) → IsToldAnswer images asked answer → IsPrintable answer
   answer_prints (event.Register image) (Register number answer) told = inserted_prints number answer told.1
   answer_prints (event.Deregister base) (Deregister number answer) told = deregistered_prints number answer told.1
+  answer_prints (event.Replace image) (Replace number answer) told = replaced_prints number answer told.1
   answer_prints (event.Load image) (Load number answer) told = loading_prints number answer told.1
   answer_prints (event.Unload base) (Unload number answer) told = unloaded_prints number answer told.1
   answer_prints (event.Find pc) (Find number place) told = (let is = told.1 in is.whole)

@@ -13,6 +13,8 @@ use Rattle.reg_model.specs.declared.answer.Loading.{Loading}
 use Rattle.reg_model.specs.declared.answer.Loading.TheVariants as loading
 use Rattle.reg_model.specs.declared.answer.Removed.{Removed}
 use Rattle.reg_model.specs.declared.answer.Removed.TheVariants as removed
+use Rattle.reg_model.specs.declared.answer.Replaced.{Replaced}
+use Rattle.reg_model.specs.declared.answer.Replaced.TheVariants as replaced
 use Rattle.unwind_step.specs.declared.backtrace.End.{End}
 use Rattle.unwind_step.specs.declared.backtrace.End.TheVariants as end
 use Rattle.unwind_step.specs.declared.backtrace.FrameLine.{FrameLine}
@@ -23,8 +25,8 @@ use Rattle.event_script.specs.Text.{event_number}
 use Rattle.event_script.specs.declared.script.Event.{Event}
 use Rattle.event_script.specs.declared.script.Event.TheVariants as event
 use Rattle.event_script.specs.declared.journal.Answer.{Answer}
-use Rattle.event_script.specs.declared.journal.Answer.TheVariants.{Register, Deregister, Load}
-use Rattle.event_script.specs.declared.journal.Answer.TheVariants.{Unload, Find}
+use Rattle.event_script.specs.declared.journal.Answer.TheVariants.{Register, Deregister, Replace}
+use Rattle.event_script.specs.declared.journal.Answer.TheVariants.{Load, Unload, Find}
 use Rattle.journal_reader.specs.FirstNumbers.{decimal_first, hex_first, past_word}
 use Rattle.journal_reader.specs.Told.{told_member}
 
@@ -89,6 +91,15 @@ removed_in images text =
     image_in images image >?> λ m. Some (removed.Done number.0 m))
     (past_word (codes "absent at ") text >?> λ rest.
     decimal_in rest >?> λ stamp. Some (removed.NotFound stamp))
+
+-- an answer to a replacement reads as one to a removal
+abbrev pub as_replaced : Removed → Option Replaced
+as_replaced (removed.Done number m) = Some (replaced.Done number m.payload)
+as_replaced (removed.NotFound stamp) = Some (replaced.NotFound stamp)
+as_replaced removed.Spent = None
+
+unfoldable pub replaced_in : List SpanData → List ℕ → Option Replaced
+replaced_in images text = removed_in images text >?> as_replaced
 
 -- an image, or none, and the stamp, and what follows them
 unfoldable pub found_first : List SpanData → List ℕ → Option (Found × List ℕ)
@@ -160,6 +171,8 @@ told_answer images (event.Register image) text =
     inserted_in images text >?> λ answer. Some (Register image answer)
 told_answer images (event.Deregister base) text =
     removed_in images text >?> λ answer. Some (Deregister base answer)
+told_answer images (event.Replace image) text =
+    replaced_in images text >?> λ answer. Some (Replace image answer)
 told_answer images (event.Load image) text =
     loading_in images text >?> λ answer. Some (Load image answer)
 told_answer images (event.Unload base) text =

@@ -14,6 +14,8 @@ use Rattle.reg_model.specs.declared.answer.Loading.{Loading}
 use Rattle.reg_model.specs.declared.answer.Loading.TheVariants as loading
 use Rattle.reg_model.specs.declared.answer.Removed.{Removed}
 use Rattle.reg_model.specs.declared.answer.Removed.TheVariants as removed
+use Rattle.reg_model.specs.declared.answer.Replaced.{Replaced}
+use Rattle.reg_model.specs.declared.answer.Replaced.TheVariants as replaced
 use Rattle.unwind_step.specs.Backtrace.{TraceData}
 use Rattle.unwind_step.specs.declared.backtrace.End.{End}
 use Rattle.unwind_step.specs.declared.backtrace.End.TheVariants.{NoBytes}
@@ -24,8 +26,8 @@ use Rattle.event_script.specs.Lawful.{image_member}
 use Rattle.event_script.specs.declared.script.Event.{Event}
 use Rattle.event_script.specs.declared.script.Event.TheVariants as event
 use Rattle.event_script.specs.declared.journal.Answer.{Answer}
-use Rattle.event_script.specs.declared.journal.Answer.TheVariants.{Register, Deregister, Load}
-use Rattle.event_script.specs.declared.journal.Answer.TheVariants.{Unload, Find, Unwind}
+use Rattle.event_script.specs.declared.journal.Answer.TheVariants.{Register, Deregister, Replace}
+use Rattle.event_script.specs.declared.journal.Answer.TheVariants.{Load, Unload, Find, Unwind}
 
 -- the member is that of an image
 pub record IsImage (images : List SpanData) (m : Member) : Type 0 where
@@ -74,6 +76,13 @@ IsToldRemoved images (removed.Done number m) = (number < 2 ^ 32) × IsImage imag
 IsToldRemoved images (removed.NotFound stamp) = stamp < 2 ^ 32
 IsToldRemoved images removed.Spent = ⊥
 
+-- of a replacement the number of the image is told that was there before
+abbrev pub IsToldReplaced : List SpanData → Replaced → Type 0
+IsToldReplaced images (replaced.Done number payload) =
+    (number < 2 ^ 32) × (payload < length images)
+IsToldReplaced images (replaced.NotFound stamp) = stamp < 2 ^ 32
+IsToldReplaced images replaced.Spent = ⊥
+
 pub record IsToldFrame (images : List SpanData) (line : FrameLine) : Type 0 where
   pub pc : line.pc < 2 ^ 64
   pub sp : line.sp < 2 ^ 64
@@ -95,6 +104,8 @@ IsToldAnswer images (event.Register image) (Register asked answer) =
     (asked ≡ image) × IsToldInserted images answer
 IsToldAnswer images (event.Deregister base) (Deregister asked answer) =
     (asked ≡ base) × IsToldRemoved images answer
+IsToldAnswer images (event.Replace image) (Replace asked answer) =
+    (asked ≡ image) × IsToldReplaced images answer
 IsToldAnswer images (event.Load image) (Load asked answer) =
     (asked ≡ image) × IsToldLoading images answer
 IsToldAnswer images (event.Unload base) (Unload asked answer) =

@@ -2,14 +2,14 @@
 
 ghost use Rattle.std.specs.Prelude.{◌≡◌, None, Some, MatchOption};
 ghost use Rattle.journal_reader.specs.Reading.{image_in, overlapping_in, overlap_in, inserted_in};
-ghost use Rattle.journal_reader.specs.Reading.{loading_in, removed_in, found_first, if_last};
-ghost use Rattle.journal_reader.specs.Reading.{loaded_in, place_from, told_place, frame_in};
-ghost use Rattle.journal_reader.specs.Reading.{end_in, told_answer, answer_in, first_line};
-ghost use Rattle.journal_reader.specs.Reading.{told_frame, told_end, told_updates};
+ghost use Rattle.journal_reader.specs.Reading.{loading_in, removed_in, replaced_in, found_first};
+ghost use Rattle.journal_reader.specs.Reading.{if_last, loaded_in, place_from, told_place};
+ghost use Rattle.journal_reader.specs.Reading.{frame_in, end_in, told_answer, answer_in};
+ghost use Rattle.journal_reader.specs.Reading.{first_line, told_frame, told_end, told_updates};
 
 use crate::words::{decimal_first, hex_first, past_word};
 use event_script::{Answer, Event, decimal_in, hex_in};
-use reg_model::{Found, Inserted, Loading, Member, Place, Removed, Span};
+use reg_model::{Found, Inserted, Loading, Member, Place, Removed, Replaced, Span};
 use unwind_step::{End, FrameLine};
 
 #[tactic(auto, unfolding(crate::specs::Reading::image_in))]
@@ -105,6 +105,21 @@ fn removed_in(images: &[Span], text: &[u8]) -> Option<Removed>
     Some(Removed::NotFound { stamp })
 }
 
+#[tactic(auto, unfolding(crate::specs::Reading::replaced_in))]
+/// The answer to a replacement, which is told as one to a removal is.
+fn replaced_in(images: &[Span], text: &[u8]) -> Option<Replaced>
+    ensures { result ≡ replaced_in images.now text.now }
+{
+    match removed_in(images, text)? {
+        Removed::Done { number, member } => Some(Replaced::Done {
+            number,
+            payload: member.payload,
+        }),
+        Removed::NotFound { stamp } => Some(Replaced::NotFound { stamp }),
+        Removed::Spent => None,
+    }
+}
+
 #[tactic(auto, unfolding(crate::specs::Reading::found_first))]
 /// An image, or none, and the stamp, and what follows them.
 fn found_first<'a>(images: &[Span], text: &'a [u8]) -> Option<(Found, &'a [u8])>
@@ -195,6 +210,13 @@ fn told_answer(images: &[Span], event: &Event, text: &[u8]) -> Option<Answer>
             let answer = removed_in(images, text)?;
             Some(Answer::Deregister {
                 base: *base,
+                answer,
+            })
+        }
+        Event::Replace { image } => {
+            let answer = replaced_in(images, text)?;
+            Some(Answer::Replace {
+                image: *image,
                 answer,
             })
         }

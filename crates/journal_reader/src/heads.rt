@@ -31,6 +31,7 @@ fn put_event(text: &mut String, event: &Event) -> Result<(), AllocError>
     match event {
         Event::Register { image } => write!(text, "register {image}"),
         Event::Deregister { base } => write!(text, "deregister {base:x}"),
+        Event::Replace { image } => write!(text, "replace {image}"),
         Event::Load { image } => write!(text, "load {image}"),
         Event::Unload { base } => write!(text, "unload {base:x}"),
         Event::Find { pc } => write!(text, "find {pc:x}"),
