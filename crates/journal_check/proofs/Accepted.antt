@@ -6,10 +6,11 @@ use Rattle.reg_model.specs.SpanData.{SpanData}
 use Rattle.reg_model.specs.declared.answer.Inserted.TheVariants as inserted
 use Rattle.reg_model.specs.declared.answer.Loading.TheVariants as loading
 use Rattle.reg_model.specs.declared.answer.Removed.TheVariants as removed
+use Rattle.reg_model.specs.declared.answer.Replaced.TheVariants as replaced
 use Rattle.event_script.specs.Lawful.{receipts_of, done_after}
 use Rattle.journal_reader.proofs.LawfulSizes.{count, count_append, of_place, of_frames}
 use Rattle.event_script.specs.declared.journal.Answer.{Answer}
-use Rattle.event_script.specs.declared.journal.Answer.TheVariants.{Register, Deregister, Load, Unload, Find, Unwind}
+use Rattle.event_script.specs.declared.journal.Answer.TheVariants.{Register, Deregister, Replace, Load, Unload, Find, Unwind}
 use Rattle.journal_check.specs.Telling.{is_update}
 use Rattle.journal_check.proofs.Receipts.{of_thread}
 
@@ -21,6 +22,9 @@ of_answer images (Register image inserted.Spent) = refl
 of_answer images (Deregister base (removed.Done number member)) = refl
 of_answer images (Deregister base (removed.NotFound stamp)) = refl
 of_answer images (Deregister base removed.Spent) = refl
+of_answer images (Replace image (replaced.Done number payload)) = refl
+of_answer images (Replace image (replaced.NotFound stamp)) = refl
+of_answer images (Replace image replaced.Spent) = refl
 of_answer images (Load image (loading.Done number)) = refl
 of_answer images (Load image (loading.Overlap member stamp)) = refl
 of_answer images (Load image (loading.LoadFull stamp)) = refl

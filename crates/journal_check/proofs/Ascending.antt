@@ -12,7 +12,7 @@ use Rattle.reg_model.specs.declared.answer.Receipt.TheVariants as receipt
 use Rattle.unwind_step.specs.declared.backtrace.FrameLine.{FrameLine}
 use Rattle.event_script.specs.Lawful.{image_member}
 use Rattle.event_script.specs.declared.journal.Answer.{Answer}
-use Rattle.event_script.specs.declared.journal.Answer.TheVariants.{Register, Deregister, Load, Unload, Find, Unwind}
+use Rattle.event_script.specs.declared.journal.Answer.TheVariants.{Register, Deregister, Replace, Load, Unload, Find, Unwind}
 use Rattle.receipt_check.specs.declared.account.Told.{Told}
 use Rattle.journal_check.specs.Telling.{TellingData, told_after, tell_receipt, next_line, tell_line, tell_answer, tell_thread, tell_rounds, is_update}
 use Rattle.journal_check.specs.declared.teller.Bounds.{Bounds}
@@ -74,6 +74,7 @@ module _ (bounds : Bounds) where
   answer_keeps : (images : List SpanData) (t : TellingData) (answer : Answer) → Keeps t → Keeps (tell_answer images bounds t answer)
   answer_keeps images t (Register image answer) keeps = one_keeps t (receipt.Register (image_member images image) answer) keeps
   answer_keeps images t (Deregister base answer) keeps = one_keeps t (receipt.Deregister base answer) keeps
+  answer_keeps images t (Replace image answer) keeps = one_keeps t (receipt.Replace (image_member images image) answer) keeps
   answer_keeps images t (Load image answer) keeps = one_keeps t (receipt.Load (image_member images image) answer) keeps
   answer_keeps images t (Unload base answer) keeps = one_keeps t (receipt.Unload base answer) keeps
   answer_keeps images t (Find pc place) keeps = place_keeps t pc place.registered place.loaded keeps

@@ -10,7 +10,7 @@ use Rattle.event_script.specs.ScriptData.{ScriptData, SnapshotData}
 use Rattle.event_script.specs.Lawful.{IsUnfolded}
 use Rattle.event_script.specs.Text.{answer_lines}
 use Rattle.event_script.specs.declared.journal.Answer.{Answer}
-use Rattle.event_script.specs.declared.journal.Answer.TheVariants.{Register, Deregister, Load, Unload, Find, Unwind}
+use Rattle.event_script.specs.declared.journal.Answer.TheVariants.{Register, Deregister, Replace, Load, Unload, Find, Unwind}
 use Rattle.unwind_step.specs.Backtrace.{TraceData, Unfolds}
 use Rattle.trace_check.specs.Departures.{IsDeparture}
 use Rattle.trace_check.proofs.Departing.{departs_once}
@@ -106,6 +106,7 @@ module _ (script : ScriptData) where
   pub no_trace : (answer : Answer) → ((number : ℕ) (trace : TraceData) → answer ≢ Unwind number trace) → IsRight answer
   no_trace (Register image answer) other = tt
   no_trace (Deregister base answer) other = tt
+  no_trace (Replace image answer) other = tt
   no_trace (Load image answer) other = tt
   no_trace (Unload base answer) other = tt
   no_trace (Find pc place) other = tt
@@ -136,6 +137,7 @@ module _ (script : ScriptData) where
       (departs_once script.sections snapshot.memory snapshot.regs trace).none unfolds at.0 at.1
   right_stays (Register image answer) first line right departs = departs
   right_stays (Deregister base answer) first line right departs = departs
+  right_stays (Replace image answer) first line right departs = departs
   right_stays (Load image answer) first line right departs = departs
   right_stays (Unload base answer) first line right departs = departs
   right_stays (Find pc place) first line right departs = departs
@@ -152,6 +154,7 @@ module _ (script : ScriptData) where
   departs_same (Unwind number trace) first line other one two = departs_at_one (slice_get script.snapshots number) trace first line other one two
   departs_same (Register image answer) first line other one two = absurd one
   departs_same (Deregister base answer) first line other one two = absurd one
+  departs_same (Replace image answer) first line other one two = absurd one
   departs_same (Load image answer) first line other one two = absurd one
   departs_same (Unload base answer) first line other one two = absurd one
   departs_same (Find pc place) first line other one two = absurd one

@@ -8,7 +8,7 @@ use Rattle.reg_model.specs.declared.answer.Receipt.{Receipt}
 use Rattle.unwind_step.specs.declared.backtrace.FrameLine.{FrameLine}
 use Rattle.event_script.specs.Lawful.{receipts_of, in_one}
 use Rattle.event_script.specs.declared.journal.Answer.{Answer}
-use Rattle.event_script.specs.declared.journal.Answer.TheVariants.{Register, Deregister, Load, Unload, Find, Unwind}
+use Rattle.event_script.specs.declared.journal.Answer.TheVariants.{Register, Deregister, Replace, Load, Unload, Find, Unwind}
 use Rattle.receipt_check.specs.declared.account.Told.{Told}
 use Rattle.receipt_check.specs.Flaws.{told_receipts}
 use Rattle.journal_check.specs.Telling.{TellingData, told_after, receipt_lines, tell_receipt, tell_line, tell_answer, tell_thread, tell_rounds, is_update}
@@ -43,6 +43,7 @@ joined_frames (line ∷ frames) = ap (λ rest. receipts_of_place line.look line.
 pub joined_lines : (images : List SpanData) (answer : Answer) → Joined (receipt_lines images answer) ≡ receipts_of images answer
 joined_lines images (Register image answer) = refl
 joined_lines images (Deregister base answer) = refl
+joined_lines images (Replace image answer) = refl
 joined_lines images (Load image answer) = refl
 joined_lines images (Unload base answer) = refl
 joined_lines images (Find pc place) = append-nil (receipts_of_place pc place)

@@ -12,7 +12,7 @@ use Rattle.event_script.specs.JournalData.{JournalData}
 use Rattle.event_script.specs.ScriptData.{ScriptData}
 use Rattle.event_script.specs.Text.{answer_lines, journal_text}
 use Rattle.event_script.specs.declared.journal.Answer.{Answer}
-use Rattle.event_script.specs.declared.journal.Answer.TheVariants.{Register, Deregister, Load, Unload, Find, Unwind}
+use Rattle.event_script.specs.declared.journal.Answer.TheVariants.{Register, Deregister, Replace, Load, Unload, Find, Unwind}
 use Rattle.event_script.proofs.TraceLines.{trace_count}
 use Rattle.journal_reader.specs.JournalLines.{event_lines, journal_lines, line_at, numbered_lines, round_lines, thread_lines, updates_line}
 use Rattle.journal_reader.proofs.TextLines.{journal_pieces}
@@ -24,6 +24,7 @@ use Rattle.journal_check.specs.declared.teller.Bounds.{Bounds}
 pub lines_each : (images : List SpanData) (answer : Answer) → length (receipt_lines images answer) ≡ length (answer_lines answer)
 lines_each images (Register image answer) = refl
 lines_each images (Deregister base answer) = refl
+lines_each images (Replace image answer) = refl
 lines_each images (Load image answer) = refl
 lines_each images (Unload base answer) = refl
 lines_each images (Find pc place) = refl

@@ -8,12 +8,13 @@ use Rattle.reg_model.specs.declared.answer.Receipt.TheVariants as receipt
 use Rattle.reg_model.specs.declared.answer.Inserted.TheVariants as inserted
 use Rattle.reg_model.specs.declared.answer.Loading.TheVariants as loading
 use Rattle.reg_model.specs.declared.answer.Removed.TheVariants as removed
+use Rattle.reg_model.specs.declared.answer.Replaced.TheVariants as replaced
 use Rattle.event_script.specs.ScriptData.{ScriptData}
 use Rattle.event_script.specs.JournalData.{JournalData}
 use Rattle.event_script.specs.Lawful.{image_member, start_of}
 use Rattle.event_script.specs.declared.journal.Answer.{Answer}
-use Rattle.event_script.specs.declared.journal.Answer.TheVariants.{Register, Deregister, Load}
-use Rattle.event_script.specs.declared.journal.Answer.TheVariants.{Unload, Find, Unwind}
+use Rattle.event_script.specs.declared.journal.Answer.TheVariants.{Register, Deregister, Replace}
+use Rattle.event_script.specs.declared.journal.Answer.TheVariants.{Load, Unload, Find, Unwind}
 use Rattle.receipt_check.specs.declared.account.Told.{Told}
 use Rattle.receipt_check.specs.Flaws.{AccountData}
 use Rattle.journal_check.specs.declared.teller.Bounds.{Bounds}
@@ -23,6 +24,8 @@ abbrev pub receipt_lines : List SpanData → Answer → List (List Receipt)
 receipt_lines images (Register image answer) =
     (receipt.Register (image_member images image) answer ∷ []) ∷ []
 receipt_lines images (Deregister base answer) = (receipt.Deregister base answer ∷ []) ∷ []
+receipt_lines images (Replace image answer) =
+    (receipt.Replace (image_member images image) answer ∷ []) ∷ []
 receipt_lines images (Load image answer) =
     (receipt.Load (image_member images image) answer ∷ []) ∷ []
 receipt_lines images (Unload base answer) = (receipt.Unload base answer ∷ []) ∷ []
@@ -81,6 +84,7 @@ tell_thread images bounds t answers =
 abbrev pub is_update : Answer → Bool
 is_update (Register image (inserted.Done number)) = true
 is_update (Deregister base (removed.Done number member)) = true
+is_update (Replace image (replaced.Done number payload)) = true
 is_update (Load image (loading.Done number)) = true
 is_update (Unload base (removed.Done number member)) = true
 is_update _ = false

@@ -150,6 +150,13 @@ impl Teller {
                     answer: *answer,
                 },
             ),
+            Answer::Replace { image, answer } => self.tell_one(
+                bounds,
+                Receipt::Replace {
+                    member: member_in(images, *image),
+                    answer: *answer,
+                },
+            ),
             Answer::Load { image, answer } => self.tell_one(
                 bounds,
                 Receipt::Load {

@@ -4,7 +4,7 @@ ghost use Rattle.std.specs.Prelude.{◌≡◌, ◌+◌, map, sum_by, count_by, I
 ghost use Rattle.journal_check.specs.Telling.{is_update};
 
 use event_script::Answer;
-use reg_model::{Inserted, Loading, NoMemory, Removed};
+use reg_model::{Inserted, Loading, NoMemory, Removed, Replaced};
 
 /// Whether the answer accepts an update.
 fn is_update(answer: &Answer) -> bool
@@ -12,8 +12,9 @@ fn is_update(answer: &Answer) -> bool
 {
     match answer {
         Answer::Register { answer, .. } => matches!(answer, Inserted::Done { .. }),
-        Answer::Load { answer, .. } => matches!(answer, Loading::Done { .. }),
         Answer::Deregister { answer, .. } => matches!(answer, Removed::Done { .. }),
+        Answer::Replace { answer, .. } => matches!(answer, Replaced::Done { .. }),
+        Answer::Load { answer, .. } => matches!(answer, Loading::Done { .. }),
         Answer::Unload { answer, .. } => matches!(answer, Removed::Done { .. }),
         Answer::Find { .. } => false,
         Answer::Unwind { .. } => false,

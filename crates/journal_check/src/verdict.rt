@@ -12,7 +12,8 @@ pub enum Flaw {
     Number,
     /// Another number of updates was accepted than the last line says.
     Count,
-    /// An update doesn't fit the state before it, or removes another member.
+    /// An update doesn't fit the state before it, or removes another member, or replaces another
+    /// payload.
     History,
     /// An answer doesn't hold in the history.
     Answer,
