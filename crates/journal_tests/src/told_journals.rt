@@ -2,14 +2,14 @@
 
 use event_script::{Answer, Script, read};
 use journal_reader::read_journal;
-use reg_model::{Inserted, Removed};
+use reg_model::{Inserted, Removed, Replaced};
 use std::alloc::Global;
 use std::test::Fail;
 use unwind_step::End;
 
 /// Each kind of event, two images, and a stack.
 const SCRIPT: &str = "\
-frames 1
+frames 2
 nodes 16
 loads 8
 image 0 1000 20 0 -
@@ -25,6 +25,8 @@ thread
 load 1
 unload 3000
 deregister 1000
+replace 1
+replace 0
 end
 ";
 
@@ -40,6 +42,8 @@ const JOURNAL: &str = "\
 1.2.1 load 1 full at 2
 1.2.2 unload 3000 done 3 image 1
 1.2.3 deregister 1000 absent at 4294967295
+1.2.4 replace 1 done 4 image 0
+1.2.5 replace 0 absent at 2
 updates 4294967295
 ";
 
@@ -69,7 +73,7 @@ fn each_kind_of_answer_is_read(rt: HostRuntime) -> Result<(), Fail> {
     let round = journal.rounds.first().ok_or("a round")?;
     let first = round.first().ok_or("a thread")?;
     let second = round.get(1).ok_or("a second thread")?;
-    assert_eq!(rt; (round.len(), first.len(), second.len()), (2, 4, 3));
+    assert_eq!(rt; (round.len(), first.len(), second.len()), (2, 4, 5));
     match first.get(1) {
         Some(
             Answer::Register {
@@ -100,6 +104,15 @@ fn each_kind_of_answer_is_read(rt: HostRuntime) -> Result<(), Fail> {
         }
         _ => return Err("a removal".into()),
     }
+    match second.get(3) {
+        Some(
+            Answer::Replace {
+                image: 1,
+                answer: Replaced::Done { number: 4, payload },
+            },
+        ) => assert_eq!(rt; *payload, 0),
+        _ => return Err("a replacement".into()),
+    }
     Ok(())
 }
 
@@ -113,11 +126,11 @@ fn lines_that_end_too_early_or_too_late(rt: HostRuntime) -> Result<(), Fail> {
     assert_eq!(rt; bad_line(alloc, &script, "1.1.1 register 0 done 1\n")?, 2);
     assert_eq!(rt;
         bad_line_with(alloc, &script, "updates 4294967295\n", "")?,
-        11
+        13
     );
     assert_eq!(rt;
         bad_line_with(alloc, &script, "updates 4294967295\n", "updates 0")?,
-        11
+        13
     );
     assert_eq!(rt;
         bad_line_with(alloc, &script, "updates 4294967295\n", "updates 0\n")?,
@@ -125,11 +138,11 @@ fn lines_that_end_too_early_or_too_late(rt: HostRuntime) -> Result<(), Fail> {
     );
     assert_eq!(rt;
         bad_line_with(alloc, &script, "updates 4294967295\n", "updates 0\n\n")?,
-        12
+        14
     );
     assert_eq!(rt;
         bad_line_with(alloc, &script, "updates 4294967295\n", "updates 0\nx")?,
-        12
+        14
     );
     Ok(())
 }
@@ -164,5 +177,9 @@ fn numbers_that_a_text_may_say(rt: HostRuntime) -> Result<(), Fail> {
         6
     );
     assert_eq!(rt; bad_line_with(alloc, &script, "done 3", "done 03")?, 9);
+    assert_eq!(rt;
+        bad_line_with(alloc, &script, "done 4 image 0", "done 4 image 2")?,
+        11
+    );
     Ok(())
 }
