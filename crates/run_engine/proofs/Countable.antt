@@ -7,7 +7,7 @@ use Rattle.frame_parse.specs.Sections.{SectionData}
 use Rattle.event_script.specs.ScriptData.{SnapshotData}
 use Rattle.event_script.specs.Lawful.{IsUnfolded}
 use Rattle.event_script.specs.declared.journal.Answer.{Answer}
-use Rattle.event_script.specs.declared.journal.Answer.TheVariants.{Register, Deregister, Load, Unload, Find, Unwind}
+use Rattle.event_script.specs.declared.journal.Answer.TheVariants.{Register, Deregister, Replace, Load, Unload, Find, Unwind}
 use Rattle.script_generator.specs.Summaries.{counted_in, counted_total, thread_total, IsCountable}
 use Rattle.script_generator.specs.declared.counting.Counted.{Counted}
 use Rattle.script_generator.specs.declared.counting.Counted.TheVariants.{Events, Frames}
@@ -45,6 +45,7 @@ threads_few (threads ∷ rounds) played =
 few_frames : (sections : List SectionData) (snapshots : List SnapshotData) (a : Answer) → IsUnfolded sections snapshots a → counted_in Frames a ≤ 256
 few_frames sections snapshots (Register image answer) good = omega arith
 few_frames sections snapshots (Deregister base answer) good = omega arith
+few_frames sections snapshots (Replace image answer) good = omega arith
 few_frames sections snapshots (Load image answer) good = omega arith
 few_frames sections snapshots (Unload base answer) good = omega arith
 few_frames sections snapshots (Find pc place) good = omega arith

@@ -15,7 +15,7 @@ use Rattle.event_script.specs.Lawful.{AnswersEvent, receipts_of, receipts_of_tra
 use Rattle.event_script.specs.declared.script.Event.{Event}
 use Rattle.event_script.specs.declared.script.Event.TheVariants as event
 use Rattle.event_script.specs.declared.journal.Answer.{Answer}
-use Rattle.event_script.specs.declared.journal.Answer.TheVariants.{Register, Deregister, Load, Unload, Find, Unwind}
+use Rattle.event_script.specs.declared.journal.Answer.TheVariants.{Register, Deregister, Replace, Load, Unload, Find, Unwind}
 use Rattle.run_engine.specs.Played.{updates_of}
 use Rattle.run_engine.specs.Shared.{SharedPlayerData, AnswersPlaying, IsReady}
 use Rattle.run_engine.proofs.Chains.{Chain-append}
@@ -49,6 +49,7 @@ trace_queries (line ∷ lines) =
 event_updates : (images : List SpanData) (happens : Event) (answer : Answer) → AnswersEvent happens answer → count_by is_of_update (receipts_of images answer) ≤ updates_of happens
 event_updates images (event.Register image) (Register asked answer) is = omega arith
 event_updates images (event.Deregister base) (Deregister asked answer) is = omega arith
+event_updates images (event.Replace image) (Replace asked answer) is = omega arith
 event_updates images (event.Load image) (Load asked answer) is = omega arith
 event_updates images (event.Unload base) (Unload asked answer) is = omega arith
 event_updates images (event.Find pc) (Find asked place) is = (let none = place_queries asked place in omega (arith, none))

@@ -10,7 +10,7 @@ use Rattle.registry_core.specs.Calls.{Answered}
 use Rattle.registry_core.specs.Rounds.{AreAnswered, IsAfterRound, IsSplitOff, after_joins, after_one_join, after_one_split, after_splits, all_split_off}
 use Rattle.event_script.specs.ScriptData.{Counts, IsRound, IsThread}
 use Rattle.event_script.specs.declared.script.Event.{Event}
-use Rattle.event_script.specs.declared.script.Event.TheVariants.{Register, Deregister, Load, Unload, Find, Unwind}
+use Rattle.event_script.specs.declared.script.Event.TheVariants.{Register, Deregister, Replace, Load, Unload, Find, Unwind}
 use Rattle.run_engine.specs.Played.{updates_in, updates_of}
 use Rattle.run_engine.specs.Shared.{AreManned, IsReady}
 
@@ -59,6 +59,7 @@ split_manned bound registry k (events ∷ threads) [] ready all = absurd all
 pub event_once : (happens : Event) → updates_of happens ≤ 1
 event_once (Register image) = omega arith
 event_once (Deregister base) = omega arith
+event_once (Replace image) = omega arith
 event_once (Load image) = omega arith
 event_once (Unload base) = omega arith
 event_once (Find pc) = omega arith

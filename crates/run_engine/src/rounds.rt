@@ -79,6 +79,7 @@ fn play_round<R: Threads + Wait + Sync, G: Gate + Sync>(
 ) -> Result<Vec<Vec<Answer>>, NoMemory>
     requires images { AreImages setting.images.now setting.sections.now }
     requires round { IsRound (record {
+      version = setting.version;
       images = length setting.images.now;
       snapshots = length setting.snapshots.now;
     }) round.threads.now }
@@ -123,6 +124,7 @@ pub fn play_shared<R: Threads + Wait + Sync, G: Gate + Sync>(
 ) -> Result<Vec<Vec<Vec<Answer>>>, NoMemory>
     requires images { AreImages setting.images.now setting.sections.now }
     requires rounds { (length rounds.now ≤ MOST_ROUNDS) × All (IsRound (record {
+      version = setting.version;
       images = length setting.images.now;
       snapshots = length setting.snapshots.now;
     })) rounds.now }

@@ -49,6 +49,7 @@ pub fn run_script<R: Threads + Wait + Sync, G: Gate + Sync>(
     numbers_tell_histories();
     whole_logs_are_numbered();
     let setting = Setting {
+        version: script.version,
         images: &script.images,
         sections: &script.sections,
         snapshots: &script.snapshots,

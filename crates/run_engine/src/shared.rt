@@ -122,6 +122,7 @@ impl<'a> SharedPlayer<'a> {
     ) -> Result<Answer, NoMemory>
         requires images { AreImages setting.images.now setting.sections.now }
         requires event { IsEvent (record {
+          version = setting.version;
           images = length setting.images.now;
           snapshots = length setting.snapshots.now;
         }) event }
@@ -153,6 +154,7 @@ impl<'a> SharedPlayer<'a> {
     ) -> Result<Answer, NoMemory>
         requires images { AreImages setting.images.now setting.sections.now }
         requires event { IsEvent (record {
+          version = setting.version;
           images = length setting.images.now;
           snapshots = length setting.snapshots.now;
         }) event }
@@ -176,6 +178,11 @@ impl<'a> SharedPlayer<'a> {
             Event::Deregister { base } => {
                 let answer = self.registry.deregister(rt, &mut self.me, base);
                 Answer::Deregister { base, answer }
+            }
+            Event::Replace { image } => {
+                let member = member_of(setting.images, image);
+                let answer = self.registry.replace(rt, &mut self.me, member);
+                Answer::Replace { image, answer }
             }
             Event::Load { image } => {
                 let member = member_of(setting.images, image);

@@ -43,6 +43,7 @@ fn play_thread<R: Wait, G: Gate>(
 ) -> Result<Vec<Answer>, NoMemory>
     requires images { AreImages setting.images.now setting.sections.now }
     requires thread { IsThread (record {
+      version = setting.version;
       images = length setting.images.now;
       snapshots = length setting.snapshots.now;
     }) events.now }
@@ -101,6 +102,7 @@ fn play_alone<R: Wait, G: Gate>(
 ) -> Result<PlayedThread, NoMemory>
     requires images { AreImages setting.images.now setting.sections.now }
     requires thread { IsThread (record {
+      version = setting.version;
       images = length setting.images.now;
       snapshots = length setting.snapshots.now;
     }) events.now }
@@ -135,6 +137,7 @@ pub fn play_threads<R: Threads + Wait + Sync, G: Gate + Sync>(
 ) -> Result<PlayedRound, NoMemory>
     requires images { AreImages setting.images.now setting.sections.now }
     requires round { IsRound (record {
+      version = setting.version;
       images = length setting.images.now;
       snapshots = length setting.snapshots.now;
     }) threads.now }
@@ -154,6 +157,7 @@ pub fn play_threads<R: Threads + Wait + Sync, G: Gate + Sync>(
         (λ played. All (λ thread. IsPlayedThread thread.items) played.answers.items) }
 {
     let Setting {
+        version,
         images,
         sections,
         snapshots,
@@ -180,7 +184,11 @@ pub fn play_threads<R: Threads + Wait + Sync, G: Gate + Sync>(
         rt,
         || -> Result<PlayedRound, NoMemory>
             requires { IsSync R.row × IsSync G.row × AreImages images.now sections.now × IsRound
-                (record { images = length images.now; snapshots = length snapshots.now })
+                (record {
+                  version = version;
+                  images = length images.now;
+                  snapshots = length snapshots.now;
+                })
                 before.now × AreManned
                 (length images.now) registry.now before.now callers.items }
             ensures answered { IfOk result
@@ -197,6 +205,7 @@ pub fn play_threads<R: Threads + Wait + Sync, G: Gate + Sync>(
                 (λ played. All (λ thread. IsPlayedThread thread.items) played.answers.items) }
         {
             let setting = Setting {
+                version,
                 images,
                 sections,
                 snapshots,
@@ -206,7 +215,11 @@ pub fn play_threads<R: Threads + Wait + Sync, G: Gate + Sync>(
         },
         || -> Result<PlayedThread, NoMemory>
             requires { IsSync R.row × IsSync G.row × AreImages images.now sections.now × IsThread
-                (record { images = length images.now; snapshots = length snapshots.now })
+                (record {
+                  version = version;
+                  images = length images.now;
+                  snapshots = length snapshots.now;
+                })
                 events.now × IsReady (length images.now)
                 registry.now me × (updates_in events.now ≤ me.left) }
             ensures answered { IfOk result
@@ -218,6 +231,7 @@ pub fn play_threads<R: Threads + Wait + Sync, G: Gate + Sync>(
             ensures played { IfOk result (λ played. IsPlayedThread played.answers.items) }
         {
             let setting = Setting {
+                version,
                 images,
                 sections,
                 snapshots,
