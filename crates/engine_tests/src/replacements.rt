@@ -21,10 +21,10 @@ register 0
 unwind 0
 ";
 
-const ROUNDS: u32 = 63;
+const ROUNDS: u32 = 15;
 
 /// The pairs of replacements of a round.
-const PAIRS: u32 = 64;
+const PAIRS: u32 = 32;
 
 fn script_of(alloc: Global) -> Result<String, Fail> {
     let mut text = String::new(alloc);
