@@ -4,6 +4,7 @@ use Rattle.array_publish.specs.Lookup.{LooksUp}
 use Rattle.array_publish.specs.Update.{TellsLoad, TellsUnload}
 use Rattle.btree_change.specs.Insertion.{TriesInsertion}
 use Rattle.btree_change.specs.Removal.{TriesRemoval}
+use Rattle.btree_change.specs.Replacement.{TriesReplacement}
 use Rattle.btree_lookup.specs.Tries.{TriesTree, receipts_of_try}
 use Rattle.frame_cache.specs.CacheData.{CacheData, kept_at}
 use Rattle.frame_cache.specs.Cached.{AnswersBy, CachedTry, FitsCaller, LooksAtClock, TriesHalf, with_answer}
@@ -20,6 +21,8 @@ use Rattle.reg_model.specs.declared.answer.Loading.TheVariants as loading
 use Rattle.reg_model.specs.declared.answer.Receipt.{Receipt}
 use Rattle.reg_model.specs.declared.answer.Removed.{Removed}
 use Rattle.reg_model.specs.declared.answer.Removed.TheVariants as removed
+use Rattle.reg_model.specs.declared.answer.Replaced.{Replaced}
+use Rattle.reg_model.specs.declared.answer.Replaced.TheVariants as replaced
 use Rattle.reg_model.specs.declared.span.Member.{Member}
 use Rattle.registry_core.specs.Begun.{TriesLoad, TriesUnload}
 use Rattle.registry_c.specs.Clients.{ClientData, IsCacheOf, IsClient, begun_count}

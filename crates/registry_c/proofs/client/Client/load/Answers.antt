@@ -10,20 +10,20 @@ use Rattle.registry_c.proofs.client.Client.load.Goals as goal
 
 pub invariant_of-self : goal.invariant_of-self
 invariant_of-self c =
-    let adds = by_load c.deref.result.now.terms c.in-Some.member c.self-2.inside.me c.load_by.new.me c.in-Ok.loading c.in-Ok.ensures.answer in
+    let adds = by_load c.deref.result.now.terms c.in-Ok.member c.self-2.inside.me c.load_by.new.me c.in-Ok-load_by.loading c.in-Ok-load_by.ensures.answer in
     (goes_on c.caches_go_on_to_fit.ensures _ c.load_by.new.me _ _ adds c.self-2.invariant.0 (search rules) (search rules) (search rules) (search rules) (search rules), c.self-2.invariant.1)
 
-pub invariant_of-self-in-Err : goal.invariant_of-self-in-Err
-invariant_of-self-in-Err c =
-    let adds = adds_none c.self-2.inside.me c.load_by.new.me (ap (λ (k : CallerData). k.log.receipts.own) c.in-Err.ensures.busy.1.1.1.1) in
+pub invariant_of-self-in-Err-load_by : goal.invariant_of-self-in-Err-load_by
+invariant_of-self-in-Err-load_by c =
+    let adds = adds_none c.self-2.inside.me c.load_by.new.me (ap (λ (k : CallerData). k.log.receipts.own) c.in-Err-load_by.ensures.busy.1.1.1.1) in
     (goes_on c.caches_go_on_to_fit.ensures _ c.load_by.new.me _ _ adds c.self-2.invariant.0 (search rules) (search rules) (search rules) (search rules) (search rules), c.self-2.invariant.1)
 
-pub returns-in-Ok : goal.returns-in-Ok
-returns-in-Ok c =
+pub returns-in-Ok-load_by : goal.returns-in-Ok-load_by
+returns-in-Ok-load_by c =
     let r = c.args.told.now in
     let k = c.load_by.new.me in
-    let member = c.in-Some.ensures.member in
+    let member = c.in-Ok.ensures.member in
     let may = subst (λ payloads. IsGivenMember payloads r) (c.self.invariant.1 ∙ ap (λ (z : ClientData). z.words.terms.payloads) c.self.view_is) member.1 in
     let begun = subst (Begins c.args.self.now) (sym c.self-2.view_is) c.if-not-begin.ensures in
-    let answer = subst (λ m. TriesLoad c.deref.result.now.terms m c.self-2.inside.me k c.in-Ok.loading) member.0 c.in-Ok.ensures.answer in
-    loaded r c.args.self.now _ k may begun c.in-Ok.loading (subst (λ (z : WordsData). TriesLoad z.terms (given_member r) c.self-2.inside.me k c.in-Ok.loading) c.deref.ensures answer)
+    let answer = subst (λ m. TriesLoad c.deref.result.now.terms m c.self-2.inside.me k c.in-Ok-load_by.loading) member.0 c.in-Ok-load_by.ensures.answer in
+    loaded r c.args.self.now _ k may begun c.in-Ok-load_by.loading (subst (λ (z : WordsData). TriesLoad z.terms (given_member r) c.self-2.inside.me k c.in-Ok-load_by.loading) c.deref.ensures answer)
