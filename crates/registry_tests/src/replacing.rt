@@ -3,7 +3,7 @@
 ghost use Rattle.std.specs.Prelude.{◌≡◌, ◌<◌, IfSome};
 ghost use Rattle.word_rule.specs.Callers.{IsIdle};
 
-use crate::callers::member;
+use crate::callers::{deregisters, member};
 use node_store::{Busy, Trying};
 use reg_model::{Found, Inserted, Member, Place, Removed, Replaced};
 use registry_core::Registry;
@@ -16,16 +16,33 @@ fn replaces<R: Wait>(
     rt: &R,
     registry: &Registry,
     me: &mut Caller,
-    told: Member,
+    told: &Member,
     wanted: Replaced,
 ) -> bool
     requires table { me.old.table ≡ registry.now.table }
     requires idle { IsIdle me.old.log }
-    requires payload { told.payload < registry.now.terms.payloads }
+    requires payload { told.now.payload < registry.now.terms.payloads }
     ensures table { me.new.table ≡ me.old.table }
     ensures idle { IsIdle me.new.log }
 {
-    registry.replace(rt, me, told) == wanted
+    registry.replace(rt, me, *told) == wanted
+}
+
+// Whether a registration is.
+fn registers<R: Wait>(
+    rt: &R,
+    registry: &Registry,
+    me: &mut Caller,
+    told: &Member,
+    wanted: Inserted,
+) -> bool
+    requires table { me.old.table ≡ registry.now.table }
+    requires idle { IsIdle me.old.log }
+    requires payload { told.now.payload < registry.now.terms.payloads }
+    ensures table { me.new.table ≡ me.old.table }
+    ensures idle { IsIdle me.new.log }
+{
+    registry.register(rt, me, *told) == wanted
 }
 
 // Whether an address is registered with this payload, at this stamp.
@@ -33,7 +50,7 @@ fn is_registered<R: Wait>(
     rt: &R,
     registry: &Registry,
     me: &mut Caller,
-    member: Member,
+    member: &Member,
     stamp: u32,
 ) -> bool
     requires table { me.old.table ≡ registry.now.table }
@@ -41,6 +58,7 @@ fn is_registered<R: Wait>(
     ensures table { me.new.table ≡ me.old.table }
     ensures idle { IsIdle me.new.log }
 {
+    let member = *member;
     let wanted = Place {
         registered: Found::Hit { member, stamp },
         loaded: None,
@@ -58,33 +76,26 @@ fn a_payload_is_exchanged_in_place(rt: HostRuntime) -> Result<(), Fail> {
     let Some(part) = member(0x1000, 0x20, 2) else {
         panic!(rt; "a span")
     };
-    assert!(rt; replaces(&rt, &registry, &mut a, old, Replaced::NotFound { stamp: 0 }));
-    assert!(rt; registry.register(&rt, &mut a, old) == Inserted::Done { number: 1 });
+    let absent = Replaced::NotFound { stamp: 0 };
+    assert!(rt; replaces(&rt, &registry, &mut a, &old, absent));
+    let came = Inserted::Done { number: 1 };
+    assert!(rt; registers(&rt, &registry, &mut a, &old, came));
     let (number, payload) = (2, 0);
+    let done = Replaced::Done { number, payload };
+    assert!(rt; replaces(&rt, &registry, &mut a, &new, done));
+    assert!(rt; is_registered(&rt, &registry, &mut a, &new, 2));
+    let shorter = Replaced::NotFound { stamp: 2 };
+    assert!(rt; replaces(&rt, &registry, &mut a, &part, shorter));
+    let (number, member) = (3, new);
     assert!(rt;
-        replaces(
+        deregisters(
             &rt,
             &registry,
             &mut a,
-            new,
-            Replaced::Done { number, payload }
+            0x1000,
+            Removed::Done { number, member }
         )
     );
-    assert!(rt; is_registered(&rt, &registry, &mut a, new, 2));
-    assert!(rt;
-        replaces(
-            &rt,
-            &registry,
-            &mut a,
-            part,
-            Replaced::NotFound { stamp: 2 }
-        )
-    );
-    let gone = Removed::Done {
-        number: 3,
-        member: new,
-    };
-    assert!(rt; registry.deregister(&rt, &mut a, 0x1000) == gone);
     Ok(())
 }
 
@@ -96,7 +107,7 @@ fn a_caller_without_calls_is_spent(rt: HostRuntime) -> Result<(), Fail> {
     let Some(one) = member(0x1000, 0x10, 0) else {
         panic!(rt; "a span")
     };
-    assert!(rt; replaces(&rt, &registry, &mut b, one, Replaced::Spent));
+    assert!(rt; replaces(&rt, &registry, &mut b, &one, Replaced::Spent));
     Ok(())
 }
 
