@@ -1,16 +1,21 @@
--- What each update tells of its caller, and what one that gave up leaves.
-use Rattle.std.proofs.Common.{◌≡◌, ℕ, ◌+◌, ◌<◌, ◌≤◌, List, [], ◌∷◌, length, append-nil, refl, sym, ap, subst, ◌∙◌, arith, true, false, true≢false}
+-- What each update tells of its caller, and what a call of the writer comes to.
+use Rattle.std.proofs.Common.{◌≡◌, ℕ, ◌+◌, ◌<◌, ◌≤◌, Bool, List, [], ◌∷◌, ◌++◌, length, append-nil, refl, sym, ap, subst, ◌∙◌, arith, Option, Some, None, Result, Ok, Err, true, false, true≢false}
 use Rattle.std.specs.List.{All}
+use Rattle.std.specs.Option.{option_to_list}
+use Rattle.std.specs.Result.{IfOk, IfErr, is_err}
 use Rattle.std.proofs.lemmas.List.Elements.{All-cons, All-nil}
-use Rattle.array_publish.specs.Update.{IsFreeAgain, TellsLoad, TellsUnload}
-use Rattle.btree_change.specs.Insertion.{AnswersInsertion, IfFull, TriesInsertion}
+use mathlib.Core.List.{IsPrefix}
+use Rattle.array_publish.specs.Update.{CallsWith, IsRightLoad, IsRightUnload, TellsLoad, TellsUnload, is_loaded, is_unloaded, one_if}
+use Rattle.btree_change.specs.Insertion.{IfFull, TriesInsertion}
 use Rattle.btree_change.specs.Loads.{FoundNoRoom}
-use Rattle.btree_change.specs.Removal.{AnswersRemoval, TriesRemoval}
-use Rattle.btree_change.specs.Updates.{GivesUp}
-use Rattle.node_store.specs.Locking.{IsBusyAt, ShowsBusy}
+use Rattle.btree_change.specs.Removal.{TriesRemoval}
+use Rattle.btree_change.specs.Updates.{AnswersUpdate, GivesUp}
+use Rattle.node_store.specs.Locking.{IsBusyAt}
 use Rattle.node_store.specs.declared.locking.Busy.{Busy}
+use Rattle.node_store.specs.declared.locking.Busy.TheVariants as busy
 use Rattle.registry_core.specs.Begun.{TriesLoad, TriesUnload}
 use Rattle.reg_model.specs.History.{IsHistory, after, state_after}
+use Rattle.reg_model.specs.Receipt.{IsRight, accepted, moment}
 use Rattle.reg_model.specs.SpanData.{IsSpan}
 use Rattle.reg_model.specs.State.{State}
 use Rattle.reg_model.specs.declared.answer.Inserted.{Inserted}
@@ -30,8 +35,6 @@ use Rattle.word_rule.specs.Logs.{load_of}
 use Rattle.word_rule.specs.Places.{ALLOWANCE, CALL_CREDIT}
 use Rattle.word_rule.specs.VersionLocks.{lock_place}
 use Rattle.word_rule.specs.declared.log.LockId.TheVariants as lock
-use Rattle.word_rule.specs.declared.log.Holdings.{Holdings}
-use Rattle.word_rule.specs.declared.log.Lineage.{Lineage}
 use Rattle.word_rule.specs.declared.log.Receipts.{Receipts}
 use Rattle.word_rule.specs.declared.log.Terms.{Terms}
 use Rattle.sole_writer.specs.Writers.{AddsSpan, IsWriter, WriterAnswers, WriterData, WriterStops, begun_call}
@@ -46,311 +49,182 @@ loads_stay s (Replace m ∷ us) = loads_stay (after (Replace m) s) us
 loads_stay s (Load m ∷ us) = loads_stay (after (Load m) s) us
 loads_stay s (Unload base ∷ us) = loads_stay (after (Unload base) s) us
 
-one_span : (u : Update) → AddsSpan u → All AddsSpan (u ∷ [])
-one_span u span = All-cons AddsSpan u [] span (All-nil AddsSpan)
+one_at_most : (taken : Bool) → one_if taken ≤ 1
+one_at_most true = omega arith
+one_at_most false = omega arith
 
-module _ (w : WriterData) (k : CallerData) (enough : CALL_CREDIT ≤ surplus (begun_call w)) (idle : IsIdle k.log) where
-  abbrev t : Terms
-  t = w.words.terms
+-- ---- answers
 
-  registered_call : (m : Member) (answer : Inserted) → IsSpan m.span → AnswersInsertion t m answer (begun_call w) k → Told (receipt.Register m answer) w k
-  registered_call m (inserted.Done number) span a = record {
-    table = a.call.table;
-    left = a.call.left;
-    terms = a.call.terms;
-    lineage = a.call.lineage;
-    own = ap (λ (r : Receipts). r.own) a.call.receipts;
-    allowance = a.call.allowance;
-    before = a.right.0;
-    begins = a.right.1.0;
-    past = a.right.1.1;
-    number_is = a.right.1.2;
-    right = tt;
-    spans = one_span (Register m) span;
-    idle = idle;
+module _ (t : Terms) (b k : CallerData) where
+  -- the answer accepts an update
+  accepts : (r : Receipt) (u : Update) → accepted r ≡ Some u → AddsSpan u → AnswersUpdate r 1 b k → (before : List Update) → IsPrefix b.log.past before → k.log.past ≡ before ++ u ∷ [] → moment r ≡ length k.log.past → IsRight (state_after (start t) before) r → Told r t b k
+  accepts r u is span call before begins past number_is right = record {
+    call = subst (λ (o : Option Update). AnswersUpdate r (length (option_to_list o)) b k) (sym is) call;
+    before = before;
+    begins = begins;
+    past = subst (λ (o : Option Update). k.log.past ≡ before ++ option_to_list o) (sym is) past;
+    number_is = number_is;
+    right = right;
+    spans = subst (λ (o : Option Update). All AddsSpan (option_to_list o)) (sym is) (All-cons AddsSpan u [] span (All-nil AddsSpan));
   }
-  registered_call m (inserted.Overlap other stamp) span a = record {
-    table = a.call.table;
-    left = a.call.left;
-    terms = a.call.terms;
-    lineage = a.call.lineage;
-    own = ap (λ (r : Receipts). r.own) a.call.receipts;
-    allowance = a.call.allowance;
+
+  -- it accepts none
+  refuses : (r : Receipt) → accepted r ≡ None → AnswersUpdate r 0 b k → IsPrefix b.log.past k.log.past → moment r ≡ length k.log.past → IsRight (state_after (start t) k.log.past) r → Told r t b k
+  refuses r is call begins number_is right = record {
+    call = subst (λ (o : Option Update). AnswersUpdate r (length (option_to_list o)) b k) (sym is) call;
     before = k.log.past;
-    begins = a.right.0;
-    past = sym (append-nil k.log.past);
-    number_is = a.right.1;
-    right = a.right.2;
-    spans = All-nil AddsSpan;
-    idle = idle;
+    begins = begins;
+    past = subst (λ (o : Option Update). k.log.past ≡ k.log.past ++ option_to_list o) (sym is) (sym (append-nil k.log.past));
+    number_is = number_is;
+    right = right;
+    spans = subst (λ (o : Option Update). All AddsSpan (option_to_list o)) (sym is) (All-nil AddsSpan);
   }
-  registered_call m (inserted.Full stamp) span a = record {
-    table = a.call.table;
-    left = a.call.left;
-    terms = a.call.terms;
-    lineage = a.call.lineage;
-    own = ap (λ (r : Receipts). r.own) a.call.receipts;
-    allowance = a.call.allowance;
-    before = k.log.past;
-    begins = a.right.0;
-    past = sym (append-nil k.log.past);
-    number_is = a.right.1;
-    right = a.right.2;
-    spans = All-nil AddsSpan;
-    idle = idle;
-  }
-  registered_call m inserted.Spent span a = absurd a.right
 
-  pub registered : (m : Member) (answer : Inserted) → IsSpan m.span → TriesInsertion t m (begun_call w) k answer → Told (receipt.Register m answer) w k
-  registered m (inserted.Done number) span s = registered_call m (inserted.Done number) span s.1
-  registered m (inserted.Overlap other stamp) span s = registered_call m (inserted.Overlap other stamp) span s.1
-  registered m (inserted.Full stamp) span s = registered_call m (inserted.Full stamp) span s.1
-  registered m inserted.Spent span s = absurd (let few = s.0 in omega (arith, few, enough))
+module _ (t : Terms) (b k : CallerData) (idle : IsIdle b.log) (enough : CALL_CREDIT ≤ surplus b) where
+  pub registered : (m : Member) → IsSpan m.span → (answer : Inserted) → TriesInsertion t m b k answer → Told (receipt.Register m answer) t b k
+  registered m span (inserted.Done number) (spare, a) = accepts t b k (receipt.Register m (inserted.Done number)) (Register m) refl span a.call a.right.0 a.right.1.0 a.right.1.1 a.right.1.2 tt
+  registered m span (inserted.Overlap other stamp) (spare, a) = refuses t b k (receipt.Register m (inserted.Overlap other stamp)) refl a.call a.right.0 a.right.1 a.right.2
+  registered m span (inserted.Full stamp) (spare, a) = refuses t b k (receipt.Register m (inserted.Full stamp)) refl a.call a.right.0 a.right.1 a.right.2
+  registered m span inserted.Spent (few, same) = absurd (omega (arith, few, enough))
 
-  deregistered_call : (base : ℕ) (answer : Removed) → AnswersRemoval t base answer (begun_call w) k → Told (receipt.Deregister base answer) w k
-  deregistered_call base (removed.Done number m) a = record {
-    table = a.call.table;
-    left = a.call.left;
-    terms = a.call.terms;
-    lineage = a.call.lineage;
-    own = ap (λ (r : Receipts). r.own) a.call.receipts;
-    allowance = a.call.allowance;
-    before = a.right.0;
-    begins = a.right.1.0;
-    past = a.right.1.1;
-    number_is = a.right.1.2;
-    right = a.right.1.3;
-    spans = one_span (Deregister base) tt;
-    idle = idle;
-  }
-  deregistered_call base (removed.NotFound stamp) a = record {
-    table = a.call.table;
-    left = a.call.left;
-    terms = a.call.terms;
-    lineage = a.call.lineage;
-    own = ap (λ (r : Receipts). r.own) a.call.receipts;
-    allowance = a.call.allowance;
-    before = k.log.past;
-    begins = a.right.0;
-    past = sym (append-nil k.log.past);
-    number_is = a.right.1;
-    right = a.right.2;
-    spans = All-nil AddsSpan;
-    idle = idle;
-  }
-  deregistered_call base removed.Spent a = absurd a.right
+  pub deregistered : (base : ℕ) (answer : Removed) → TriesRemoval t base b k answer → Told (receipt.Deregister base answer) t b k
+  deregistered base (removed.Done number m) (spare, a) = accepts t b k (receipt.Deregister base (removed.Done number m)) (Deregister base) refl tt a.call a.right.0 a.right.1.0 a.right.1.1 a.right.1.2 a.right.1.3
+  deregistered base (removed.NotFound stamp) (spare, a) = refuses t b k (receipt.Deregister base (removed.NotFound stamp)) refl a.call a.right.0 a.right.1 a.right.2
+  deregistered base removed.Spent (few, same) = absurd (omega (arith, few, enough))
 
-  pub deregistered : (base : ℕ) (answer : Removed) → TriesRemoval t base (begun_call w) k answer → Told (receipt.Deregister base answer) w k
-  deregistered base (removed.Done number m) s = deregistered_call base (removed.Done number m) s.1
-  deregistered base (removed.NotFound stamp) s = deregistered_call base (removed.NotFound stamp) s.1
-  deregistered base removed.Spent s = absurd (let few = s.0 in omega (arith, few, enough))
+  -- an update of the loader changes its caller as one of the tree does
+  of_loader : (right : List Update → Type 0) (r : Receipt) (taken : Bool) → CallsWith right r taken b k → right k.log.past × AnswersUpdate r (one_if taken) b k
+  of_loader right r taken (past, more, stores, sights, (so, e)) =
+      subst (λ (z : CallerData). right z.log.past × AnswersUpdate r (one_if taken) b z) (sym e) (
+        so,
+        record {
+          table = refl;
+          left = refl;
+          terms = refl;
+          role = refl;
+          loader = sym idle.loader;
+          made = refl;
+          lineage = refl;
+          receipts = refl;
+          allowance = refl;
+          credit = (let one = one_at_most taken in omega (arith, one));
+          nothing = (idle.held, idle.out);
+        },
+      )
 
-  loaded_call : (m : Member) (answer : Loading) → IsSpan m.span → TellsLoad t m (begun_call w) k answer → Told (receipt.Load m answer) w k
-  loaded_call m (loading.Done number) span (past, more, stores, sights, (right, e)) = record {
-    table = ap (λ (z : CallerData). z.table) e;
-    left = ap (λ (z : CallerData). z.left) e;
-    terms = ap (λ (z : CallerData). z.log.terms) e;
-    lineage = ap (λ (z : CallerData). z.log.lineage) e;
-    own = ap (λ (z : CallerData). z.log.receipts.own) e;
-    allowance = ap (λ (z : CallerData). z.log.budget.allowance) e;
-    before = right.0;
-    begins = right.1.0;
-    past = ap (λ (z : CallerData). z.log.past) e ∙ right.1.1;
-    number_is = right.1.2 ∙ ap (λ (z : CallerData). length z.log.past) (sym e);
-    right = tt;
-    spans = one_span (Load m) span;
-    idle = idle;
-  }
-  loaded_call m (loading.Overlap other stamp) span (past, more, stores, sights, (right, e)) = record {
-    table = ap (λ (z : CallerData). z.table) e;
-    left = ap (λ (z : CallerData). z.left) e;
-    terms = ap (λ (z : CallerData). z.log.terms) e;
-    lineage = ap (λ (z : CallerData). z.log.lineage) e;
-    own = ap (λ (z : CallerData). z.log.receipts.own) e;
-    allowance = ap (λ (z : CallerData). z.log.budget.allowance) e;
-    before = past;
-    begins = right.0;
-    past = ap (λ (z : CallerData). z.log.past) e ∙ sym (append-nil past);
-    number_is = right.1 ∙ ap (λ (z : CallerData). length z.log.past) (sym e);
-    right = right.2;
-    spans = All-nil AddsSpan;
-    idle = idle;
-  }
-  loaded_call m (loading.LoadFull stamp) span (past, more, stores, sights, (right, e)) = record {
-    table = ap (λ (z : CallerData). z.table) e;
-    left = ap (λ (z : CallerData). z.left) e;
-    terms = ap (λ (z : CallerData). z.log.terms) e;
-    lineage = ap (λ (z : CallerData). z.log.lineage) e;
-    own = ap (λ (z : CallerData). z.log.receipts.own) e;
-    allowance = ap (λ (z : CallerData). z.log.budget.allowance) e;
-    before = past;
-    begins = right.0;
-    past = ap (λ (z : CallerData). z.log.past) e ∙ sym (append-nil past);
-    number_is = right.1 ∙ ap (λ (z : CallerData). length z.log.past) (sym e);
-    right = (right.2, right.3 ∙ sym (loads_stay (start t) past));
-    spans = All-nil AddsSpan;
-    idle = idle;
-  }
-  loaded_call m loading.Spent span (past, more, stores, sights, (right, e)) = absurd right
+  loads : (m : Member) (answer : Loading) → TellsLoad t m b k answer → IsRightLoad t m b.log.past k.log.past answer × AnswersUpdate (receipt.Load m answer) (one_if (is_loaded answer)) b k
+  loads m answer = of_loader (λ past. IsRightLoad t m b.log.past past answer) (receipt.Load m answer) (is_loaded answer)
 
-  pub loaded : (m : Member) (answer : Loading) → IsSpan m.span → TriesLoad t m (begun_call w) k answer → Told (receipt.Load m answer) w k
-  loaded m (loading.Done number) span s = loaded_call m (loading.Done number) span s.1
-  loaded m (loading.Overlap other stamp) span s = loaded_call m (loading.Overlap other stamp) span s.1
-  loaded m (loading.LoadFull stamp) span s = loaded_call m (loading.LoadFull stamp) span s.1
-  loaded m loading.Spent span s = absurd (let few = s.0 in omega (arith, few, enough))
+  unloads : (base : ℕ) (answer : Removed) → TellsUnload t base b k answer → IsRightUnload t base b.log.past k.log.past answer × AnswersUpdate (receipt.Unload base answer) (one_if (is_unloaded answer)) b k
+  unloads base answer = of_loader (λ past. IsRightUnload t base b.log.past past answer) (receipt.Unload base answer) (is_unloaded answer)
 
-  unloaded_call : (base : ℕ) (answer : Removed) → TellsUnload t base (begun_call w) k answer → Told (receipt.Unload base answer) w k
-  unloaded_call base (removed.Done number m) (past, more, stores, sights, (right, e)) = record {
-    table = ap (λ (z : CallerData). z.table) e;
-    left = ap (λ (z : CallerData). z.left) e;
-    terms = ap (λ (z : CallerData). z.log.terms) e;
-    lineage = ap (λ (z : CallerData). z.log.lineage) e;
-    own = ap (λ (z : CallerData). z.log.receipts.own) e;
-    allowance = ap (λ (z : CallerData). z.log.budget.allowance) e;
-    before = right.0;
-    begins = right.1.0;
-    past = ap (λ (z : CallerData). z.log.past) e ∙ right.1.1;
-    number_is = right.1.2 ∙ ap (λ (z : CallerData). length z.log.past) (sym e);
-    right = right.1.3;
-    spans = one_span (Unload base) tt;
-    idle = idle;
-  }
-  unloaded_call base (removed.NotFound stamp) (past, more, stores, sights, (right, e)) = record {
-    table = ap (λ (z : CallerData). z.table) e;
-    left = ap (λ (z : CallerData). z.left) e;
-    terms = ap (λ (z : CallerData). z.log.terms) e;
-    lineage = ap (λ (z : CallerData). z.log.lineage) e;
-    own = ap (λ (z : CallerData). z.log.receipts.own) e;
-    allowance = ap (λ (z : CallerData). z.log.budget.allowance) e;
-    before = past;
-    begins = right.0;
-    past = ap (λ (z : CallerData). z.log.past) e ∙ sym (append-nil past);
-    number_is = right.1 ∙ ap (λ (z : CallerData). length z.log.past) (sym e);
-    right = right.2;
-    spans = All-nil AddsSpan;
-    idle = idle;
-  }
-  unloaded_call base removed.Spent (past, more, stores, sights, (right, e)) = absurd right
+  pub loaded : (m : Member) → IsSpan m.span → (answer : Loading) → TriesLoad t m b k answer → Told (receipt.Load m answer) t b k
+  loaded m span (loading.Done number) (spare, s) =
+      let a = loads m (loading.Done number) s in
+      accepts t b k (receipt.Load m (loading.Done number)) (Load m) refl span a.1 a.0.0 a.0.1.0 a.0.1.1 a.0.1.2 tt
+  loaded m span (loading.Overlap other stamp) (spare, s) =
+      let a = loads m (loading.Overlap other stamp) s in
+      refuses t b k (receipt.Load m (loading.Overlap other stamp)) refl a.1 a.0.0 a.0.1 a.0.2
+  loaded m span (loading.LoadFull stamp) (spare, s) =
+      let a = loads m (loading.LoadFull stamp) s in
+      refuses t b k (receipt.Load m (loading.LoadFull stamp)) refl a.1 a.0.0 a.0.1 (a.0.2, a.0.3 ∙ sym (loads_stay (start t) k.log.past))
+  loaded m span loading.Spent (few, same) = absurd (omega (arith, few, enough))
 
-  pub unloaded : (base : ℕ) (answer : Removed) → TriesUnload t base (begun_call w) k answer → Told (receipt.Unload base answer) w k
-  unloaded base (removed.Done number m) s = unloaded_call base (removed.Done number m) s.1
-  unloaded base (removed.NotFound stamp) s = unloaded_call base (removed.NotFound stamp) s.1
-  unloaded base removed.Spent s = absurd (let few = s.0 in omega (arith, few, enough))
+  pub unloaded : (base : ℕ) (answer : Removed) → TriesUnload t base b k answer → Told (receipt.Unload base answer) t b k
+  unloaded base (removed.Done number m) (spare, s) =
+      let a = unloads base (removed.Done number m) s in
+      accepts t b k (receipt.Unload base (removed.Done number m)) (Unload base) refl tt a.1 a.0.0 a.0.1.0 a.0.1.1 a.0.1.2 a.0.1.3
+  unloaded base (removed.NotFound stamp) (spare, s) =
+      let a = unloads base (removed.NotFound stamp) s in
+      refuses t b k (receipt.Unload base (removed.NotFound stamp)) refl a.1 a.0.0 a.0.1 a.0.2
+  unloaded base removed.Spent (few, same) = absurd (omega (arith, few, enough))
 
--- one that found the loader's lock taken did nothing else
-pub as_idle : (k k' : CallerData) → IsIdle k.log → IsFreeAgain k k' → IsIdle k'.log
-as_idle k k' idle again = record {
-  held = ap (λ (h : Holdings). h.held) again.holdings ∙ idle.held;
-  out = ap (λ (h : Holdings). h.out) again.holdings ∙ idle.out;
-  loader = again.loader;
-}
+-- a tree that was full was found so by the loads of the call
+pub full_found : (t : Terms) (m : Member) (w : WriterData) (b k k' : CallerData) → b ≡ begun_call w → k' ≡ k → (outcome : Result Inserted Busy) → IfOk outcome (TriesInsertion t m b k) → IfOk outcome (λ answer. IfFull answer (FoundNoRoom m.span.first (begun_call w) k'))
+full_found t m w b k k' begun same (Ok (inserted.Done number)) s = tt
+full_found t m w b k k' begun same (Ok (inserted.Overlap other stamp)) s = tt
+full_found t m w b k k' begun same (Ok (inserted.Full stamp)) s = subst (λ (z : CallerData). FoundNoRoom m.span.first z k') begun (subst (λ (z : CallerData). FoundNoRoom m.span.first b z) (sym same) s.1.cause)
+full_found t m w b k k' begun same (Ok inserted.Spent) s = tt
+full_found t m w b k k' begun same (Err why) s = tt
 
 -- ---- giving up
 
-module _ (w : WriterData) (is : IsWriter w) (some : 0 < w.me.left) (why : Busy) (k : CallerData) where
+-- one that found the loader's lock taken did nothing else
+pub loader_gives_up : (b k : CallerData) → IsIdle b.log → (why : Busy) → IsBusyAt lock.Loader why b k → GivesUp why b k
+loader_gives_up b k idle why (is, (found, (odd, e))) =
+    subst (λ (y : Busy). GivesUp y b k) (sym is) (subst (λ (z : CallerData). GivesUp (busy.Taken lock.Loader) b z) (sym e) (record {
+      cause = record { before = []; load = load_of b.log (lock_place lock.Loader) found; behind = []; loads = refl; shows = (refl, odd) };
+      table = refl;
+      left = refl;
+      terms = refl;
+      role = refl;
+      past = refl;
+      receipts = refl;
+      loader = refl;
+      made = refl;
+      lineage = refl;
+      allowance = refl;
+      credit = omega arith;
+      nothing = (idle.held, idle.out);
+    }))
+
+module _ (w : WriterData) (is : IsWriter w) (some : 0 < w.me.left) (why : Busy) (k : CallerData) (g : GivesUp why (begun_call w) k) (stuck : Bool) (ends : stuck ≡ true) where
   abbrev stopped : WriterData
-  stopped = record { words = w.words; me = k; stuck = true }
+  stopped = record { words = w.words; me = k; stuck = stuck }
 
-  pub tree_stops : GivesUp why (begun_call w) k → WriterStops why w stopped × IsWriter stopped
-  tree_stops g = (
-    record { cause = g.cause; past = g.past; own = ap (λ (r : Receipts). r.own) g.receipts; left = (let l = g.left in omega (arith, l, some)); words = refl; stopped = refl },
-    record {
-      home = g.table ∙ is.home;
-      terms = g.terms ∙ is.terms;
-      empty = is.empty;
-      alone = subst (λ (l : Lineage). IsAlone l) (sym g.lineage) is.alone;
-      sole = (let same = ap length g.past in let kept = g.allowance in let sole = is.sole in omega (arith, same, kept, sole));
-      lawful = subst (IsHistory (start w.words.terms)) (sym g.past) is.lawful;
-      spans = subst (All AddsSpan) (sym g.past) is.spans;
-      idle = λ free. absurd (true≢false free);
-    },
-  )
+  stops : WriterStops why w stopped
+  stops = record { cause = g.cause; past = g.past; own = ap (λ (r : Receipts). r.own) g.receipts; left = (let l = g.left in omega (arith, l, some)); words = refl; stopped = ends }
 
-  pub loader_stops : IsBusyAt lock.Loader why (begun_call w) k → WriterStops why w stopped × IsWriter stopped
-  loader_stops (why_is, (found, (odd, e))) = (
-    record {
-      cause = record {
-        before = [];
-        load = load_of w.me.log (lock_place lock.Loader) found;
-        behind = [];
-        loads = ap (λ (z : CallerData). z.log.trace.loads) e;
-        shows = subst (λ (y : Busy). ShowsBusy y [] (load_of w.me.log (lock_place lock.Loader) found)) (sym why_is) (refl, odd);
-      };
-      past = ap (λ (z : CallerData). z.log.past) e;
-      own = ap (λ (z : CallerData). z.log.receipts.own) e;
-      left = (let l = ap (λ (z : CallerData). z.left) e in omega (arith, l, some));
-      words = refl;
-      stopped = refl;
-    },
-    record {
-      home = ap (λ (z : CallerData). z.table) e ∙ is.home;
-      terms = ap (λ (z : CallerData). z.log.terms) e ∙ is.terms;
-      empty = is.empty;
-      alone = subst (λ (l : Lineage). IsAlone l) (ap (λ (z : CallerData). z.log.lineage) (sym e)) is.alone;
-      sole = (let same = ap (λ (z : CallerData). length z.log.past) e in let kept = ap (λ (z : CallerData). z.log.budget.allowance) e in let sole = is.sole in omega (arith, same, kept, sole));
-      lawful = subst (IsHistory (start w.words.terms)) (ap (λ (z : CallerData). z.log.past) (sym e)) is.lawful;
-      spans = subst (All AddsSpan) (ap (λ (z : CallerData). z.log.past) (sym e)) is.spans;
-      idle = λ free. absurd (true≢false free);
-    },
-  )
+  stopped_writer : IsWriter stopped
+  stopped_writer = record {
+    home = g.table ∙ is.home;
+    terms = g.terms ∙ is.terms;
+    empty = is.empty;
+    alone = subst IsAlone (sym g.lineage) is.alone;
+    sole = (let same = ap length g.past in let kept = g.allowance in let sole = is.sole in omega (arith, same, kept, sole));
+    lawful = subst (IsHistory (start w.words.terms)) (sym g.past) is.lawful;
+    spans = subst (All AddsSpan) (sym g.past) is.spans;
+    idle = λ free. absurd (true≢false (sym ends ∙ free));
+  }
 
--- ---- answered calls
+-- ---- calls
 
--- What is known where an update call was begun and answered: `b` is the caller once it was begun, k
--- once it was answered, and k' once the clock was loaded.
-pub record Called (w : WriterData) (words : WordsData) (b k k' : CallerData) : Type 0 where
-  pub is : IsWriter w
-  pub words_are : words ≡ w.words
-  pub free : w.stuck ≡ false
-  pub begun : b ≡ begun_call w
-  pub some : 0 < w.me.left
-  pub owed : 0 < due b
-  pub enough : CALL_CREDIT ≤ surplus b
-  pub idle : IsIdle k.log
-  pub same : k' ≡ k
-  pub room : length k'.log.past + k'.log.budget.allowance ≤ ALLOWANCE
-  pub whole : IsAlone k'.log.lineage → IsWhole k'.log
+-- What a call with this outcome makes of its writer, where an answer has this receipt.
+pub record ComesTo {A : Type 0} (receipt_of : A → Receipt) (outcome : Result A Busy) (w now : WriterData) : Type 0 where
+  pub answers : IfOk outcome (λ answer. WriterAnswers (receipt_of answer) w now)
+  pub stops : IfErr outcome (λ why. WriterStops why w now)
+  pub writer : IsWriter now
 
-module _ (w : WriterData) (words : WordsData) (b k k' : CallerData) (c : Called w words b k k') where
-  enough_there : CALL_CREDIT ≤ surplus (begun_call w)
-  enough_there = subst (λ (z : CallerData). CALL_CREDIT ≤ surplus z) c.begun c.enough
+-- A call of the writer, which has these parts, on these words: `b` is its caller once an update was begun, `k` once it was tried, and `k'` once the clock was loaded.
+module _ (parts w : WriterData) (is : IsWriter parts) (view_is : parts ≡ w) (free : w.stuck ≡ false) (left : 0 < w.me.left) (words : WordsData) (words_are : words ≡ parts.words) (b k k' : CallerData) (begun : b ≡ begun_call parts) (may : (0 < due b) × (CALL_CREDIT ≤ surplus b)) (same : k' ≡ k) (room : length k'.log.past + k'.log.budget.allowance ≤ ALLOWANCE) (whole : IsAlone k'.log.lineage → IsWhole k'.log) where
+  idle : IsIdle parts.me.log
+  idle = is.idle (ap (λ (z : WriterData). z.stuck) view_is ∙ free)
 
-  allowed : 0 < w.me.log.budget.allowance
-  allowed = let there = subst (λ (z : CallerData). 0 < due z) c.begun c.owed in omega (arith, there)
+  idle_begun : IsIdle b.log
+  idle_begun = subst (λ (z : CallerData). IsIdle z.log) (sym begun) idle
 
-  done : (r : Receipt) → Told r w k → WriterAnswers r w (record w { me = k' }) × IsWriter (record w { me = k' })
-  done r told =
-      let there = subst (Told r w) (sym c.same) told in
-      (answered w c.is c.free c.some r k' there allowed c.room c.whole, still_writer w c.is c.free c.some r k' there allowed c.room c.whole)
+  some : 0 < parts.me.left
+  some = subst (λ (z : WriterData). 0 < z.me.left) (sym view_is) left
 
-  -- the step of the call, from where it was begun
-  from_begun : (step : Terms → CallerData → CallerData → Type 0) → step words.terms b k → step w.words.terms (begun_call w) k
-  from_begun step s = subst (λ (z : CallerData). step w.words.terms z k) c.begun (subst (λ (z : WordsData). step z.terms b k) c.words_are s)
+  allowed : 0 < parts.me.log.budget.allowance
+  allowed = let there = subst (λ (z : CallerData). 0 < due z) begun may.0 in omega (arith, there)
 
-  pub register_done : (m : Member) (answer : Inserted) → IsSpan m.span → TriesInsertion words.terms m b k answer → WriterAnswers (receipt.Register m answer) w (record w { me = k' }) × IsWriter (record w { me = k' })
-  register_done m answer span s = done (receipt.Register m answer) (registered w k enough_there c.idle m answer span (from_begun (λ t x y. TriesInsertion t m x y answer) s))
+  -- what the try tells, from where the call was begun
+  over : (tells : Terms → CallerData → CallerData → Type 0) → tells words.terms b k → tells parts.words.terms (begun_call parts) k'
+  over tells told = subst (λ (z : WordsData). tells z.terms (begun_call parts) k') words_are (subst (λ (z : CallerData). tells words.terms z k') begun (subst (λ (z : CallerData). tells words.terms b z) (sym same) told))
 
-  pub deregister_done : (base : ℕ) (answer : Removed) → TriesRemoval words.terms base b k answer → WriterAnswers (receipt.Deregister base answer) w (record w { me = k' }) × IsWriter (record w { me = k' })
-  deregister_done base answer s = done (receipt.Deregister base answer) (deregistered w k enough_there c.idle base answer (from_begun (λ t x y. TriesRemoval t base x y answer) s))
-
-  pub load_done : (m : Member) (answer : Loading) → IsSpan m.span → TriesLoad words.terms m b k answer → WriterAnswers (receipt.Load m answer) w (record w { me = k' }) × IsWriter (record w { me = k' })
-  load_done m answer span s = done (receipt.Load m answer) (loaded w k enough_there c.idle m answer span (from_begun (λ t x y. TriesLoad t m x y answer) s))
-
-  pub unload_done : (base : ℕ) (answer : Removed) → TriesUnload words.terms base b k answer → WriterAnswers (receipt.Unload base answer) w (record w { me = k' }) × IsWriter (record w { me = k' })
-  unload_done base answer s = done (receipt.Unload base answer) (unloaded w k enough_there c.idle base answer (from_begun (λ t x y. TriesUnload t base x y answer) s))
-
-  -- a tree that was full was found so by the loads of the call
-  pub full_found : (m : Member) (answer : Inserted) → TriesInsertion words.terms m b k answer → IfFull answer (FoundNoRoom m.span.first (begun_call w) k')
-  full_found m (inserted.Done number) s = tt
-  full_found m (inserted.Overlap other stamp) s = tt
-  full_found m inserted.Spent s = tt
-  full_found m (inserted.Full stamp) s =
-      subst (λ (z : CallerData). FoundNoRoom m.span.first (begun_call w) z) (sym c.same) (subst (λ (z : CallerData). FoundNoRoom m.span.first z k) c.begun s.1.cause)
-
--- ---- calls that gave up
-
-pub tree_stopped : (w : WriterData) (b k : CallerData) (why : Busy) → IsWriter w → 0 < w.me.left → b ≡ begun_call w → GivesUp why b k → WriterStops why w (record { words = w.words; me = k; stuck = true }) × IsWriter (record { words = w.words; me = k; stuck = true })
-tree_stopped w b k why is some begun g = tree_stops w is some why k (subst (λ (z : CallerData). GivesUp why z k) begun g)
-
-pub loader_stopped : (w : WriterData) (b k : CallerData) (why : Busy) → IsWriter w → 0 < w.me.left → b ≡ begun_call w → IsBusyAt lock.Loader why b k → WriterStops why w (record { words = w.words; me = k; stuck = true }) × IsWriter (record { words = w.words; me = k; stuck = true })
-loader_stopped w b k why is some begun g = loader_stops w is some why k (subst (λ (z : CallerData). IsBusyAt lock.Loader why z k) begun g)
+  pub comes_to : {A : Type 0} (receipt_of : A → Receipt) (outcome : Result A Busy) (stuck : Bool) → stuck ≡ is_err outcome → (Tried : A → Type 0) → (IsIdle b.log → CALL_CREDIT ≤ surplus b → (answer : A) → Tried answer → Told (receipt_of answer) words.terms b k) → IfOk outcome Tried → (Stopped : Busy → Type 0) (Rest : Type 0) → (IsIdle b.log → (why : Busy) → Stopped why → GivesUp why b k) → IfErr outcome (λ why. (CALL_CREDIT ≤ surplus b) × Stopped why × Rest) → ComesTo receipt_of outcome w (record { words = parts.words; me = k'; stuck = stuck })
+  comes_to receipt_of (Ok answer) stuck ends Tried tells tried Stopped Rest gives_up busy =
+      let told = over (Told (receipt_of answer)) (tells idle_begun may.1 answer tried) in
+      subst (λ (z : WriterData). ComesTo receipt_of (Ok answer) z (record { words = parts.words; me = k'; stuck = stuck })) view_is (record {
+        answers = answered parts is idle some (receipt_of answer) k' told allowed room whole stuck ends;
+        stops = tt;
+        writer = still_writer parts is idle some (receipt_of answer) k' told allowed room whole stuck;
+      })
+  comes_to receipt_of (Err why) stuck ends Tried tells tried Stopped Rest gives_up busy =
+      let gave_up = over (λ t. GivesUp why) (gives_up idle_begun why busy.1) in
+      subst (λ (z : WriterData). ComesTo receipt_of (Err why) z (record { words = parts.words; me = k'; stuck = stuck })) view_is (record {
+        answers = tt;
+        stops = stops parts is some why k' gave_up stuck ends;
+        writer = stopped_writer parts is some why k' gave_up stuck ends;
+      })

@@ -1,9 +1,10 @@
 -- One that alone updates has seen all that there was before its update.
-use Rattle.std.proofs.Common.{◌≡◌, ◌+◌, ◌-◌, ◌<◌, ◌≤◌, List, [], ◌∷◌, ◌++◌, length, length-append, append-nil, refl, sym, ap, subst, ◌∙◌, arith, Option, Some, None, MatchOption, false, not, eqb}
+use Rattle.std.proofs.Common.{◌≡◌, ◌+◌, ◌<◌, ◌≤◌, List, [], ◌∷◌, ◌++◌, length, length-append, append-nil, refl, sym, ap, subst, ◌∙◌, arith, Option, Some, None, MatchOption, Bool, false, not, eqb}
 use Rattle.std.specs.List.{All}
 use Rattle.std.specs.Option.{option_to_list}
 use Rattle.std.proofs.lemmas.List.Elements.{All-append, All-filter, All-push, All-head, All-tail, All-nil}
 use mathlib.Core.List.{IsPrefix}
+use Rattle.btree_change.specs.Updates.{AnswersUpdate}
 use Rattle.reg_model.specs.History.{Fits, IsHistory, after, state_after}
 use Rattle.reg_model.specs.PlainRegistryData.{Step}
 use Rattle.reg_model.specs.Receipt.{IsRight, accepted, made, moment}
@@ -18,8 +19,9 @@ use Rattle.reg_model.proofs.Replacing.{All-with_payload}
 use Rattle.word_rule.specs.CallerData.{CallerData}
 use Rattle.word_rule.specs.Callers.{IsAlone, IsIdle, IsWhole, start}
 use Rattle.word_rule.specs.Places.{ALLOWANCE}
+use Rattle.word_rule.specs.declared.log.Receipts.{Receipts}
 use Rattle.word_rule.specs.declared.log.Terms.{Terms}
-use Rattle.sole_writer.specs.Writers.{AddsSpan, WriterAnswers, IsWriter, WriterData, plain_registry, plain_registry_after}
+use Rattle.sole_writer.specs.Writers.{AddsSpan, WriterAnswers, IsWriter, WriterData, begun_call, plain_registry, plain_registry_after}
 
 -- a list that begins another, and is no shorter
 prefix_same : (a b : List Update) → IsPrefix a b → length b ≤ length a → b ≡ a
@@ -37,23 +39,17 @@ fits_last : (s : State) (us : List Update) (u : Update) → IsHistory s (us ++ u
 fits_last s [] u h = h.0
 fits_last s (v ∷ us) u h = fits_last (after v s) us u h.1
 
--- What an update call that was answered tells of its caller.
-pub record Told (r : Receipt) (w : WriterData) (k : CallerData) : Type 0 where
-  pub table : k.table ≡ w.me.table
-  pub left : k.left ≡ w.me.left - 1
-  pub terms : k.log.terms ≡ w.me.log.terms
-  pub lineage : k.log.lineage ≡ w.me.log.lineage
-  pub own : k.log.receipts.own ≡ w.me.log.receipts.own ++ r ∷ []
-  pub allowance : k.log.budget.allowance ≡ w.me.log.budget.allowance - length (made r)
+-- What an update call that was answered tells of its caller: `b` once it was begun, `k` once it was answered.
+pub record Told (r : Receipt) (t : Terms) (b k : CallerData) : Type 0 where
+  pub call : AnswersUpdate r (length (made r)) b k
   pub before : List Update
-  pub begins : IsPrefix w.me.log.past before
+  pub begins : IsPrefix b.log.past before
   pub past : k.log.past ≡ before ++ made r
   pub number_is : moment r ≡ length k.log.past
-  pub right : IsRight (state_after (start w.words.terms) before) r
+  pub right : IsRight (state_after (start t) before) r
   pub spans : All AddsSpan (made r)
-  pub idle : IsIdle k.log
 
-module _ (w : WriterData) (is : IsWriter w) (free : w.stuck ≡ false) (some : 0 < w.me.left) (r : Receipt) (k : CallerData) (t : Told r w k) (may : 0 < w.me.log.budget.allowance) (room : length k.log.past + k.log.budget.allowance ≤ ALLOWANCE) (whole : IsAlone k.log.lineage → IsWhole k.log) where
+module _ (w : WriterData) (is : IsWriter w) (idle : IsIdle w.me.log) (some : 0 < w.me.left) (r : Receipt) (k : CallerData) (t : Told r w.words.terms (begun_call w) k) (may : 0 < w.me.log.budget.allowance) (room : length k.log.past + k.log.budget.allowance ≤ ALLOWANCE) (whole : IsAlone k.log.lineage → IsWhole k.log) (stuck : Bool) where
   abbrev old : List Update
   old = w.me.log.past
 
@@ -61,7 +57,7 @@ module _ (w : WriterData) (is : IsWriter w) (free : w.stuck ≡ false) (some : 0
   t0 = start w.words.terms
 
   abbrev now : WriterData
-  now = record w { me = k }
+  now = record { words = w.words; me = k; stuck = stuck }
 
   seen_before : t.before ≡ old
   seen_before =
@@ -69,14 +65,14 @@ module _ (w : WriterData) (is : IsWriter w) (free : w.stuck ≡ false) (some : 0
       let n = length-append t.before (made r) in
       let m = ap length t.past in
       let sole = is.sole in
-      let less = t.allowance in
+      let less = t.call.allowance in
       prefix_same old t.before t.begins (omega (arith, few, n, m, room, may, sole, less))
 
   grows : k.log.past ≡ old ++ made r
   grows = t.past ∙ ap (λ (past : List Update). past ++ made r) seen_before
 
   lawful : IsHistory t0 k.log.past
-  lawful = subst (λ (x : Terms). IsHistory (start x) k.log.past) (t.terms ∙ is.terms) (whole (subst IsAlone (sym t.lineage) is.alone)).lawful
+  lawful = subst (λ (x : Terms). IsHistory (start x) k.log.past) (t.call.terms ∙ is.terms) (whole (subst IsAlone (sym t.call.lineage) is.alone)).lawful
 
   changes : (o : Option Update) → k.log.past ≡ old ++ option_to_list o → MatchOption o ((moment r ≡ length old) × (plain_registry now ≡ plain_registry w)) (λ u. Fits u (state_after t0 old) × (moment r ≡ length old + 1) × (plain_registry now ≡ record { state = after u (state_after t0 old); updates = length old + 1 }))
   changes None e = let same = e ∙ append-nil old in (t.number_is ∙ ap length same, ap (plain_registry_after w.words.terms) same)
@@ -87,19 +83,19 @@ module _ (w : WriterData) (is : IsWriter w) (free : w.stuck ≡ false) (some : 0
   step : Step (plain_registry w) r (plain_registry now)
   step = record { right = subst (λ (past : List Update). IsRight (state_after t0 past) r) seen_before t.right; changes = changes (accepted r) grows }
 
-  pub answered : WriterAnswers r w now
-  answered = record { step = step; past = grows; own = t.own; left = (let l = t.left in omega (arith, l, some)); words = refl; free = free }
+  pub answered : stuck ≡ false → WriterAnswers r w now
+  answered free = record { step = step; past = grows; own = ap (λ (x : Receipts). x.own) t.call.receipts; left = (let l = t.call.left in omega (arith, l, some)); words = refl; free = free }
 
   pub still_writer : IsWriter now
   still_writer = record {
-    home = t.table ∙ is.home;
-    terms = t.terms ∙ is.terms;
+    home = t.call.table ∙ is.home;
+    terms = t.call.terms ∙ is.terms;
     empty = is.empty;
-    alone = subst IsAlone (sym t.lineage) is.alone;
-    sole = (let few = made_few r in let n = length-append old (made r) in let m = ap length grows in let sole = is.sole in let less = t.allowance in omega (arith, few, n, m, may, sole, less));
+    alone = subst IsAlone (sym t.call.lineage) is.alone;
+    sole = (let few = made_few r in let n = length-append old (made r) in let m = ap length grows in let sole = is.sole in let less = t.call.allowance in omega (arith, few, n, m, may, sole, less));
     lawful = lawful;
     spans = subst (All AddsSpan) (sym grows) (All-append AddsSpan old (made r) is.spans t.spans);
-    idle = λ _. t.idle;
+    idle = λ _. record { held = t.call.nothing.0; out = t.call.nothing.1; loader = t.call.loader ∙ idle.loader };
   }
 
 -- ---- what holds of its state

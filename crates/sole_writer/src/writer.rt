@@ -1,15 +1,16 @@
 //! The writer of a registry, and its updates.
 
-ghost use Rattle.std.specs.Prelude.{◌≡◌, ◌<◌, ◌≤◌, ◌+◌, ◌↔◌, IfOk, IfErr, IsTrue, All, true, false};
-ghost use Rattle.std.specs.Prelude.{[]};
+ghost use Rattle.std.specs.Prelude.{◌≡◌, ◌<◌, ◌≤◌, ◌+◌, ◌-◌, ◌↔◌, IfOk, IfErr, IsTrue, All, true};
+ghost use Rattle.std.specs.Prelude.{false, []};
 ghost use Rattle.std.specs.Arc.{arc_value};
 ghost use Rattle.btree_change.specs.Insertion.{IfFull};
 ghost use Rattle.btree_change.specs.Loads.{FoundNoRoom};
 ghost use Rattle.reg_model.specs.State.{IsLawful};
 ghost use Rattle.reg_model.specs.SpanData.{IsSpan};
 ghost use Rattle.reg_model.specs.declared.answer.Receipt.TheVariants as receipt;
+ghost use Rattle.word_rule.specs.CallerData.{due, surplus};
 ghost use Rattle.word_rule.specs.Logs.{reader_of};
-ghost use Rattle.word_rule.specs.Places.{ALLOWANCE};
+ghost use Rattle.word_rule.specs.Places.{ALLOWANCE, CALL_CREDIT};
 ghost use Rattle.sole_writer.specs.Writers.{WriterAnswers, WriterStops, begun_call, plain_registry};
 
 use node_store::{Busy, Once};
@@ -42,6 +43,17 @@ impl Model for Writer {
       me = w.me;
       stuck = w.stuck;
     } };
+}
+
+// Begins an update call, of which one is left.
+fn begin(me: &mut Caller)
+    requires { 0 < me.old.left }
+    ensures after { me.new ≡ record me.old { left = me.old.left - 1 } }
+    ensures may { (0 < due me.new) × (CALL_CREDIT ≤ surplus me.new) }
+{
+    if !me.use_one() {
+        unreachable!()
+    }
 }
 
 impl Writer {
@@ -131,19 +143,11 @@ impl Writer {
         ensures stops { IfErr result (λ why. WriterStops why self.old self.new) }
     {
         let _first = member.span.first();
-        if !self.me.use_one() {
-            unreachable!()
-        }
-        match self.registry.register_by(&Once, &mut self.me, member) {
-            Ok(inserted) => {
-                self.registry.words().confirm(&mut self.me);
-                Ok(inserted)
-            }
-            Err(why) => {
-                self.stuck = true;
-                Err(why)
-            }
-        }
+        begin(&mut self.me);
+        let answer = self.registry.register_by(&Once, &mut self.me, member);
+        self.registry.words().confirm(&mut self.me);
+        self.stuck = answer.is_err();
+        answer
     }
 
     /// Removes the registered member that begins at an address, and names it. Busy where a lock
@@ -155,19 +159,11 @@ impl Writer {
             (λ answer. WriterAnswers (receipt.Deregister base answer) self.old self.new) }
         ensures stops { IfErr result (λ why. WriterStops why self.old self.new) }
     {
-        if !self.me.use_one() {
-            unreachable!()
-        }
-        match self.registry.deregister_by(&Once, &mut self.me, base) {
-            Ok(removed) => {
-                self.registry.words().confirm(&mut self.me);
-                Ok(removed)
-            }
-            Err(why) => {
-                self.stuck = true;
-                Err(why)
-            }
-        }
+        begin(&mut self.me);
+        let answer = self.registry.deregister_by(&Once, &mut self.me, base);
+        self.registry.words().confirm(&mut self.me);
+        self.stuck = answer.is_err();
+        answer
     }
 
     /// Loads a member into the other half. Busy where its lock was found taken, and then the writer
@@ -181,19 +177,11 @@ impl Writer {
         ensures stops { IfErr result (λ why. WriterStops why self.old self.new) }
     {
         let _first = member.span.first();
-        if !self.me.use_one() {
-            unreachable!()
-        }
-        match self.registry.load_by(&Once, &mut self.me, member) {
-            Ok(loading) => {
-                self.registry.words().confirm(&mut self.me);
-                Ok(loading)
-            }
-            Err(why) => {
-                self.stuck = true;
-                Err(why)
-            }
-        }
+        begin(&mut self.me);
+        let answer = self.registry.load_by(&Once, &mut self.me, member);
+        self.registry.words().confirm(&mut self.me);
+        self.stuck = answer.is_err();
+        answer
     }
 
     /// Unloads the loaded member that begins at an address, and names it. Busy where the lock was
@@ -205,18 +193,10 @@ impl Writer {
             (λ answer. WriterAnswers (receipt.Unload base answer) self.old self.new) }
         ensures stops { IfErr result (λ why. WriterStops why self.old self.new) }
     {
-        if !self.me.use_one() {
-            unreachable!()
-        }
-        match self.registry.unload_by(&Once, &mut self.me, base) {
-            Ok(removed) => {
-                self.registry.words().confirm(&mut self.me);
-                Ok(removed)
-            }
-            Err(why) => {
-                self.stuck = true;
-                Err(why)
-            }
-        }
+        begin(&mut self.me);
+        let answer = self.registry.unload_by(&Once, &mut self.me, base);
+        self.registry.words().confirm(&mut self.me);
+        self.stuck = answer.is_err();
+        answer
     }
 }

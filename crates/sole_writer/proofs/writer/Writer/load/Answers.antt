@@ -1,54 +1,15 @@
-use Rattle.std.proofs.Common.{rules, ap, subst, sym, true, ◌∙◌}
 use Rattle.std.specs.Arc.{arc_value}
 use Rattle.reg_model.specs.declared.answer.Receipt.TheVariants as receipt
-use Rattle.word_rule.specs.CallerData.{CallerData}
-use Rattle.word_rule.specs.Callers.{IsIdle}
-use Rattle.sole_writer.specs.Writers.{WriterAnswers, WriterData, WriterStops}
-use Rattle.sole_writer.proofs.Answering.{Called, as_idle, load_done, loader_stopped}
+use Rattle.sole_writer.proofs.Answering.{ComesTo, comes_to, loader_gives_up, loaded}
+use Rattle.sole_writer.proofs.writer.Writer.load.Goals.{After-is_err-self-inside}
 use Rattle.sole_writer.proofs.writer.Writer.load.Goals as goal
 
+come : (c : After-is_err-self-inside) → ComesTo (receipt.Load c.args.member) c.load_by-answer.result c.args.self.now (record { words = arc_value c.self.inside.registry; me = c.confirm.new.me; stuck = c.is_err-self-inside.result })
+come c =
+    comes_to _ c.args.self.now c.self.invariant c.self.view_is c.requires.free c.requires.left _ c.deref.ensures _ _ _ c.begin.ensures.after c.begin.ensures.may c.confirm.ensures.same c.confirm.ensures.room c.confirm.ensures.whole (receipt.Load c.args.member) c.load_by-answer.result c.is_err-self-inside.result c.is_err-self-inside.ensures.value _ (λ idle enough. loaded _ _ _ idle enough c.args.member c.first-first.ensures.span) c.load_by-answer.ensures.answer _ _ (loader_gives_up _ _) c.load_by-answer.ensures.busy
+
 pub invariant_of-self : goal.invariant_of-self
-invariant_of-self c =
-    let w : WriterData = record { words = arc_value c.self.inside.registry; me = c.self.inside.me; stuck = c.self.inside.stuck } in
-    let called : Called w c.deref.result.now c.use_one.new.self c.load_by.new.me c.confirm.new.me = record {
-      is = c.self.invariant;
-      words_are = c.deref.ensures;
-      free = ap (λ (z : WriterData). z.stuck) c.self.view_is ∙ c.requires.free;
-      begun = c.use_one.ensures.after;
-      some = search rules;
-      owed = search rules;
-      enough = search rules;
-      idle = as_idle c.use_one.new.self c.load_by.new.me (subst (λ (z : CallerData). IsIdle z.log) (sym c.use_one.ensures.after) (c.self.invariant.idle (ap (λ (w : WriterData). w.stuck) c.self.view_is ∙ c.requires.free))) c.in-Ok.ensures.free;
-      same = c.confirm.ensures.same;
-      room = c.confirm.ensures.room;
-      whole = c.confirm.ensures.whole;
-    } in
-    (load_done w c.deref.result.now c.use_one.new.self c.load_by.new.me c.confirm.new.me called c.args.member c.in-Ok.loading c.first-first.ensures.span c.in-Ok.ensures.answer).1
+invariant_of-self c = (come (goal.at.invariant_of-self c).After-is_err-self-inside).writer
 
-pub returns-in-Ok-clause-answers : goal.returns-in-Ok-clause-answers
-returns-in-Ok-clause-answers c =
-    let w : WriterData = record { words = arc_value c.self.inside.registry; me = c.self.inside.me; stuck = c.self.inside.stuck } in
-    let called : Called w c.deref.result.now c.use_one.new.self c.load_by.new.me c.confirm.new.me = record {
-      is = c.self.invariant;
-      words_are = c.deref.ensures;
-      free = ap (λ (z : WriterData). z.stuck) c.self.view_is ∙ c.requires.free;
-      begun = c.use_one.ensures.after;
-      some = search rules;
-      owed = search rules;
-      enough = search rules;
-      idle = as_idle c.use_one.new.self c.load_by.new.me (subst (λ (z : CallerData). IsIdle z.log) (sym c.use_one.ensures.after) (c.self.invariant.idle (ap (λ (w : WriterData). w.stuck) c.self.view_is ∙ c.requires.free))) c.in-Ok.ensures.free;
-      same = c.confirm.ensures.same;
-      room = c.confirm.ensures.room;
-      whole = c.confirm.ensures.whole;
-    } in
-    subst (λ (z : WriterData). WriterAnswers (receipt.Load c.args.member c.in-Ok.loading) z (record w { me = c.confirm.new.me })) c.self.view_is (load_done w c.deref.result.now c.use_one.new.self c.load_by.new.me c.confirm.new.me called c.args.member c.in-Ok.loading c.first-first.ensures.span c.in-Ok.ensures.answer).0
-
-pub invariant_of-self-in-Err : goal.invariant_of-self-in-Err
-invariant_of-self-in-Err c =
-    let w : WriterData = record { words = arc_value c.self.inside.registry; me = c.self.inside.me; stuck = c.self.inside.stuck } in
-    (loader_stopped w c.use_one.new.self c.load_by.new.me c.in-Err.why c.self.invariant (search rules) c.use_one.ensures.after c.in-Err.ensures.busy.1).1
-
-pub returns-in-Err-clause-stops : goal.returns-in-Err-clause-stops
-returns-in-Err-clause-stops c =
-    let w : WriterData = record { words = arc_value c.self.inside.registry; me = c.self.inside.me; stuck = c.self.inside.stuck } in
-    subst (λ (z : WriterData). WriterStops c.in-Err.why z (record { words = w.words; me = c.load_by.new.me; stuck = true })) c.self.view_is (loader_stopped w c.use_one.new.self c.load_by.new.me c.in-Err.why c.self.invariant (search rules) c.use_one.ensures.after c.in-Err.ensures.busy.1).0
+pub returns : goal.returns
+returns c = let came = come (goal.at.returns c).After-is_err-self-inside in record { answers = came.answers; stops = came.stops }
