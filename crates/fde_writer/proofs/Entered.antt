@@ -1,13 +1,14 @@
 -- What entering a section under its key makes of the book.
 use Rattle.std.proofs.Common.{◌≡◌, ℕ, ◌+◌, ◌*◌, List, [], ◌∷◌, ◌++◌, Option, Some, None, IfSome, IfNone, sym, ap, ◌∙◌, subst, arith, inl, inr, ◌⊎◌, length, length-append}
 use Rattle.std.specs.List.{Contains, sum_by}
-use Rattle.std.proofs.lemmas.List.{same_from_push}
+use Rattle.std.proofs.lemmas.List.{length-map, same_from_push}
 use Rattle.std.proofs.lemmas.List.Elements.{Contains-push_cases}
 use Rattle.std.proofs.lemmas.List.Sums.{sum_by_push}
+use Rattle.reg_model.specs.declared.span.Member.{Member}
 use Rattle.sole_writer.specs.Writers.{WriterData}
 use Rattle.fde_writer.specs.Places.{PlaceData, placed_members}
 use Rattle.fde_writer.specs.Puttings.{Enters, Puts}
-use Rattle.fde_writer.specs.Standing.{HasMembersOf, LeavesStanding, Rewrites, StandingData, Standings, all_standing, standing_sum, standing_under}
+use Rattle.fde_writer.specs.Standing.{HasAsMany, HasMembersOf, LeavesStanding, Rewrites, StandingData, Standings, all_standing, standing_sum, standing_under}
 use Rattle.fde_writer.specs.declared.outcome.Numbers.{Numbers}
 
 -- a section that was pushed, or another of before
@@ -45,6 +46,16 @@ entered key x numbers places w w' es fs gs puts pushes settles =
         ]
       ];
     }
+
+-- as many members were put as were entered
+pub as_many : (key : ℕ) (x : StandingData) (numbers : Numbers) (places : List PlaceData) (w w' : WriterData) (es fs : Standings) → Puts (placed_members x.places) (2 * length x.places) places numbers w w'
+    → Rewrites key (standing_under key es) (standing_under key es ++ x ∷ []) es fs → HasAsMany places (standing_under key fs)
+as_many key x numbers places w w' es fs puts pushes = λ earlier z e.
+    let member : PlaceData → Member = λ p. p.member in
+    let put : length (placed_members places) ≡ length places = length-map places member in
+    let entered : length (placed_members x.places) ≡ length x.places = length-map x.places member in
+    let same = same_from_push (standing_under key es) earlier x z (sym pushes.after ∙ e) in
+    sym put ∙ ap length puts.whole ∙ entered ∙ ap (λ (y : StandingData). length y.places) same.1
 
 -- where each member was put as it was entered
 pub entered_alike : (key : ℕ) (x : StandingData) (numbers : Numbers) (places : List PlaceData) (w w' : WriterData) (es fs : Standings) → Puts (placed_members x.places) (2 * length x.places) places numbers w w'

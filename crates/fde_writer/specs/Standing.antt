@@ -1,5 +1,5 @@
 -- The sections that stand under keys.
-use Rattle.std.specs.Prelude.{◌≡◌, ◌≢◌, ◌+◌, ◌⊎◌, ℕ, List, [], Contains, eqb}
+use Rattle.std.specs.Prelude.{◌≡◌, ◌≢◌, ◌+◌, ◌⊎◌, ◌++◌, ◌∷◌, ℕ, List, [], Contains, eqb, length}
 use Rattle.std.specs.List.{flat_map, sum_by}
 use Rattle.std.specs.Map.{lookup, values_of}
 use Rattle.std.specs.Option.{unwrap_or}
@@ -11,6 +11,10 @@ pub record StandingData : Type 0 where
   pub note : ℕ
   pub section : SectionData
   pub places : List PlaceData
+
+-- one with one member and no note
+abbrev pub bare_standing : SectionData → PlaceData → StandingData
+bare_standing section place = record { note = 0; section = section; places = place ∷ [] }
 
 -- sections by their keys: under each, in the order in which they came
 abbrev pub Standings : Type 0
@@ -44,6 +48,11 @@ pub record Rewrites (key : ℕ) (old new : List StandingData) (stands stands' : 
     pub listed : (x : StandingData) → Contains old x → Contains (all_standing stands) x
     pub kept : (x : StandingData) → Contains (all_standing stands') x
         → Contains (all_standing stands) x ⊎ Contains new x
+
+-- as many places as the latest of these sections has
+abbrev pub HasAsMany : List PlaceData → List StandingData → Type 0
+HasAsMany places under = (earlier : List StandingData) (x : StandingData)
+    → under ≡ earlier ++ x ∷ [] → length places ≡ length x.places
 
 -- one section with its members, placed anyhow
 pub record HasMembersOf (x y : StandingData) : Type 0 where

@@ -3,20 +3,23 @@
 ghost use Rattle.std.specs.Prelude.{◌≡◌, ◌++◌, ◌∷◌, [], length, IfErr, OnOk, OnErr};
 ghost use Rattle.std.specs.Prelude.{IfSome, IfNone, List, IsTrue, None, eqb, ◌≢◌, ◌↔◌};
 ghost use Rattle.std.specs.Prelude.{drop, take};
+ghost use Rattle.std.specs.Cow.{cow_value};
 ghost use Rattle.std.specs.Map.{keys_of, lookup};
 ghost use Rattle.fde_writer.specs.Places.{PlaceData};
-ghost use Rattle.fde_writer.specs.Standing.{Rewrites, StandingData, Standings, standing_under};
+ghost use Rattle.fde_writer.specs.Standing.{HasAsMany, Rewrites, StandingData, Standings};
+ghost use Rattle.fde_writer.specs.Standing.{standing_under};
 
 use crate::places::Places;
 use crate::stack::Stack;
 use crate::standing::Standing;
 use std::alloc::Global;
+use std::borrow::Cow;
 use std::collections::HashMap;
 use std::marker::Model;
 
 /// Under each key the sections that stand. No key stands for none. A section alone under its key,
-/// with one member, stands in the table itself, which wants some 15 bytes beside it: a tree would
-/// leave half of each leaf empty where keys ascend.
+/// with one member and no note, stands in the table itself, which wants some 15 bytes beside it and
+/// its key: a tree would leave half of each leaf empty where keys ascend.
 #[derive(Drop)]
 pub struct Book {
     stands: HashMap<u64, Stack>,
@@ -60,16 +63,20 @@ impl Book {
         ensures back { IfErr result (λ x. x ≡ standing) }
         ensures err { OnErr result (self.new ≡ self.old) }
     {
-        match self.stands.insert(key, Stack::of(standing)) {
+        let stack = match Stack::of(self.alloc, standing) {
+            Ok(stack) => stack,
+            Err(standing) => return Err(standing),
+        };
+        match self.stands.insert(key, stack) {
             Ok(_) => Ok(()),
             Err(failed) => Err(failed.value.1.into_only()),
         }
     }
 
     /// The latest section under a key.
-    pub fn latest(&self, key: u64) -> Option<&Standing>
+    pub fn latest(&self, key: u64) -> Option<Cow<'_, Standing>>
         ensures some { IfSome result (λ x. (earlier : List StandingData)
-            × (standing_under key self.now ≡ earlier ++ x.now ∷ [])) }
+            × (standing_under key self.now ≡ earlier ++ cow_value x ∷ [])) }
         ensures none { IfNone result (standing_under key self.now ≡ []) }
     {
         match self.stands.get(&key) {
@@ -144,8 +151,9 @@ impl Book {
         self.stands.len()
     }
 
-    /// Tells the places of the latest section's members.
+    /// Tells the places of the latest section's members, as many as before.
     pub fn settle(&mut self, key: u64, places: Places)
+        requires { HasAsMany places (standing_under key self.old) }
         ensures { (earlier : List StandingData) (x : StandingData)
             → standing_under key self.old ≡ earlier ++ x ∷ []
             → Rewrites key (earlier ++ x ∷ [])

@@ -1,6 +1,7 @@
 //! The places of a section's members.
 
-ghost use Rattle.std.specs.Prelude.{◌≡◌, ◌*◌, ◌<◌, ◌≤◌, All, IfOk, IfErr, IsTrue, false, length};
+ghost use Rattle.std.specs.Prelude.{◌≡◌, ◌∷◌, [], ◌*◌, ◌<◌, ◌≤◌, All, IfOk, IfErr, IsTrue, false};
+ghost use Rattle.std.specs.Prelude.{length};
 ghost use Rattle.fde_writer.specs.PlaceForms.{places_of};
 ghost use Rattle.fde_writer.specs.Places.{PlaceData, all_registered, placed_members};
 ghost use Rattle.fde_writer.specs.Puttings.{IsPutFault, Puts};
@@ -90,6 +91,17 @@ impl Places {
         match &mut self.places {
             PlacesForm::One { place } => put_all(writer, slice::from_mut(place)),
             PlacesForm::Many { places } => put_all(writer, places),
+        }
+    }
+
+    /// The only one.
+    pub fn only(&self) -> Place
+        requires { length self.now ≡ 1 }
+        ensures { self.now ≡ result ∷ [] }
+    {
+        match &self.places {
+            PlacesForm::One { place } => *place,
+            PlacesForm::Many { places } => places[0],
         }
     }
 

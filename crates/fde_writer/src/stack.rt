@@ -1,17 +1,22 @@
 //! The sections that stand under one key, in the order in which they came.
 
-ghost use Rattle.std.specs.Prelude.{◌≡◌, ◌≢◌, ◌++◌, ◌∷◌, [], ◌≤◌, length, IfErr, OnOk, OnErr};
-ghost use Rattle.std.specs.Prelude.{IfSome, IfNone, List, IsTrue, ◌↔◌};
-ghost use Rattle.std.specs.Prelude.{vec_capacity};
+ghost use Rattle.std.specs.Prelude.{◌≡◌, ◌≢◌, ◌++◌, ◌∷◌, [], ◌<◌, ◌≤◌, length, IfErr, OnOk, OnErr};
+ghost use Rattle.std.specs.Prelude.{IfOk, IfSome, IfNone, List, IsTrue, ◌↔◌};
+ghost use Rattle.std.specs.Prelude.{vec_capacity, vec_len};
+ghost use Rattle.std.specs.Cow.{cow_value};
 ghost use Rattle.std.specs.Option.{option_to_list};
-ghost use Rattle.fde_writer.specs.Places.{PlaceData};
-ghost use Rattle.fde_writer.specs.Standing.{StandingData};
+ghost use Rattle.reg_model.specs.SpanData.{IsSpan};
+ghost use Rattle.fde_writer.specs.Places.{PlaceData, place_at};
+ghost use Rattle.fde_writer.specs.Standing.{HasAsMany, StandingData, bare_standing};
 
+use crate::place::Place;
 use crate::places::Places;
+use crate::seen::SeenSection;
 use crate::standing::Standing;
+use reg_model::{Half, NoMemory};
 use std::alloc::Global;
+use std::borrow::Cow;
 use std::marker::Model;
-use std::mem::replace;
 
 /// Sections that stand, of which the latest goes first.
 #[derive(Drop)]
@@ -19,31 +24,92 @@ pub struct Stack {
     layers: Layers,
 }
 
-/// Under most keys stands one section.
+/// Under most keys stands one section, with one member and no note. What it is kept by lies beside
+/// the word that tells it from the others.
 #[derive(Drop)]
 enum Layers {
-    One { only: Standing },
-    More { all: Vec<Standing> },
+    Bare {
+        section: SeenSection,
+        half: Half,
+        payload: u32,
+        first: u64,
+        last: u64,
+    },
+    More {
+        all: Box<Vec<Standing>>,
+    },
 }
+
+/// A map keeps so much for each key.
+const _: () = prove!(size_of::<Stack>() == 24);
 
 impl Model for Stack {
     ghost use Rattle.std.specs.Prelude.{List};
-    ghost use Rattle.fde_writer.specs.Layers.{layered};
+    ghost use Rattle.fde_writer.specs.Layers.{HasSpan, layered};
     ghost use Rattle.fde_writer.specs.Standing.{StandingData};
 
     ghost Value = { List StandingData };
 
     ghost view = { λ s. layered s.layers };
+
+    ghost invariant = { λ s. HasSpan s.layers };
 }
 
 impl Stack {
-    /// One section.
-    pub fn of(only: Standing) -> Stack
-        ensures { result ≡ only ∷ [] }
+    /// One section, which is given back where memory runs out.
+    pub fn of(alloc: Global, only: Standing) -> Result<Stack, Standing>
+        ensures ok { IfOk result (λ stack. stack ≡ only ∷ []) }
+        ensures back { IfErr result (λ x. x ≡ only) }
+    {
+        match only.bare_place() {
+            Some(place) => Ok(Stack::bare(only.section(), &place)),
+            None => Stack::one(alloc, only),
+        }
+    }
+
+    /// One section with one member and no note.
+    fn bare(section: SeenSection, place: &Place) -> Stack
+        ensures { result ≡ bare_standing section.section place.now ∷ [] }
     {
         Stack {
-            layers: Layers::One { only },
+            layers: Layers::Bare {
+                section,
+                half: place.half(),
+                payload: place.payload(),
+                first: place.first(),
+                last: place.last(),
+            },
         }
+    }
+
+    /// Any section, which is given back where memory runs out.
+    fn one(alloc: Global, only: Standing) -> Result<Stack, Standing>
+        ensures ok { IfOk result (λ stack. stack ≡ only ∷ []) }
+        ensures back { IfErr result (λ x. x ≡ only) }
+    {
+        let Ok(all) = room(alloc, 1) else {
+            return Err(only);
+        };
+        Ok(Stack {
+            layers: Layers::More {
+                all: with(all, only),
+            },
+        })
+    }
+
+    /// Two sections, of which the second is given back where memory runs out.
+    fn two(alloc: Global, first: Standing, second: Standing) -> Result<Stack, Standing>
+        ensures ok { IfOk result (λ stack. stack ≡ first ∷ second ∷ []) }
+        ensures back { IfErr result (λ x. x ≡ second) }
+    {
+        let Ok(all) = room(alloc, 2) else {
+            return Err(second);
+        };
+        Ok(Stack {
+            layers: Layers::More {
+                all: with(with(all, first), second),
+            },
+        })
     }
 
     /// Whether one section stands here, and no more.
@@ -51,7 +117,7 @@ impl Stack {
         ensures { IsTrue result ↔ (length self.now ≡ 1) }
     {
         match &self.layers {
-            Layers::One { .. } => true,
+            Layers::Bare { .. } => true,
             Layers::More { all } => all.len() == 1,
         }
     }
@@ -62,57 +128,56 @@ impl Stack {
         ensures back { IfErr result (λ x. x ≡ standing) }
         ensures err { OnErr result (self.new ≡ self.old) }
     {
-        match &mut self.layers {
-            Layers::One { .. } => {}
+        let only = match &mut self.layers {
+            Layers::Bare {
+                section,
+                half,
+                payload,
+                first,
+                last,
+            } => made(section, *half, *payload, *first, *last),
             Layers::More { all } => return add(all, standing),
+        };
+        match Stack::two(alloc, only, standing) {
+            Ok(stack) => *self = stack,
+            Err(standing) => return Err(standing),
         }
-        self.widen(alloc, standing)
-    }
-
-    /// Adds one to the only one.
-    fn widen(&mut self, alloc: Global, standing: Standing) -> Result<(), Standing>
-        requires { length self.old ≡ 1 }
-        ensures ok { OnOk result (self.new ≡ self.old ++ standing ∷ []) }
-        ensures back { IfErr result (λ x. x ≡ standing) }
-        ensures err { OnErr result (self.new ≡ self.old) }
-    {
-        let Ok(all) = Vec::with_capacity(alloc, 2) else {
-            return Err(standing);
-        };
-        let room = Layers::More {
-            all: Vec::new(alloc),
-        };
-        let first = replace(self, Stack { layers: room }).into_only();
-        *self = Stack {
-            layers: Layers::More {
-                all: pair(all, first, standing),
-            },
-        };
         Ok(())
     }
 
     /// The latest one.
-    pub fn latest(&self) -> Option<&Standing>
+    pub fn latest(&self) -> Option<Cow<'_, Standing>>
         ensures some { IfSome result (λ x. (earlier : List StandingData)
-            × (self.now ≡ earlier ++ x.now ∷ [])) }
+            × (self.now ≡ earlier ++ cow_value x ∷ [])) }
         ensures none { IfNone result (self.now ≡ []) }
     {
         match &self.layers {
-            Layers::One { only } => Some(only),
-            Layers::More { all } => last(all),
+            Layers::Bare {
+                section,
+                half,
+                payload,
+                first,
+                last,
+            } => Some(Cow::Owned(made(section, *half, *payload, *first, *last))),
+            Layers::More { all } => match last(all) {
+                Some(standing) => Some(Cow::Borrowed(standing)),
+                None => None,
+            },
         }
     }
 
-    /// Tells the places of the latest one's members.
+    /// Tells the places of the latest one's members, as many as before.
     pub fn settle(&mut self, places: Places)
+        requires { HasAsMany places self.old }
         ensures { (earlier : List StandingData) (x : StandingData)
             → self.old ≡ earlier ++ x ∷ []
             → self.new ≡ earlier ++ record x { places = places } ∷ [] }
     {
-        match &mut self.layers {
-            Layers::One { only } => only.settle(places),
-            Layers::More { all } => settle_last(all, places),
-        }
+        let section = match &mut self.layers {
+            Layers::Bare { section, .. } => section.same(),
+            Layers::More { all } => return settle_last(all, places),
+        };
+        *self = Stack::bare(section, &places.only());
     }
 
     /// Takes the latest one out, where it isn't kept alone.
@@ -122,7 +187,7 @@ impl Stack {
         ensures none { IfNone result (self.old ≡ []) }
     {
         match &mut self.layers {
-            Layers::One { .. } => unreachable!(),
+            Layers::Bare { .. } => unreachable!(),
             Layers::More { all } => all.pop(),
         }
     }
@@ -133,10 +198,50 @@ impl Stack {
         ensures { self ≡ result ∷ [] }
     {
         match self.layers {
-            Layers::One { only } => only,
-            Layers::More { all } => only_of(all),
+            Layers::Bare {
+                section,
+                half,
+                payload,
+                first,
+                last,
+            } => made(&section, half, payload, first, last),
+            Layers::More { all } => only_of(Box::into_inner(all)),
         }
     }
+}
+
+/// A section with one member and no note, of what it is kept by.
+fn made(section: &SeenSection, half: Half, payload: u32, first: u64, last: u64) -> Standing
+    requires { IsSpan (record { first = first; last = last }) }
+    ensures { result
+        ≡ bare_standing section.now.section (place_at first last payload half) }
+{
+    Standing::bare(section.same(), Place::of_parts(first, last, payload, half))
+}
+
+/// Room for so many sections, and none yet.
+fn room(alloc: Global, count: usize) -> Result<Box<Vec<Standing>>, NoMemory>
+    ensures empty { IfOk result (λ all. all.value.items ≡ []) }
+    ensures room { IfOk result (λ all. count ≤ vec_capacity all.value) }
+{
+    let Ok(all) = Vec::with_capacity(alloc, count) else {
+        return Err(NoMemory);
+    };
+    match Box::new(alloc, all) {
+        Ok(all) => Ok(all),
+        Err(_) => Err(NoMemory),
+    }
+}
+
+/// Some sections and one more, for which there is room.
+fn with(all: Box<Vec<Standing>>, standing: Standing) -> Box<Vec<Standing>>
+    requires { vec_len all.value < vec_capacity all.value }
+    ensures items { result.value.items ≡ all.value.items ++ standing ∷ [] }
+    ensures room { vec_capacity result.value ≡ vec_capacity all.value }
+{
+    let mut all = all;
+    all.push_reserved(standing);
+    all
 }
 
 fn add(all: &mut Vec<Standing>, standing: Standing) -> Result<(), Standing>
@@ -148,24 +253,6 @@ fn add(all: &mut Vec<Standing>, standing: Standing) -> Result<(), Standing>
         Ok(()) => Ok(()),
         Err(failed) => Err(failed.value),
     }
-}
-
-/// Two sections in an empty vector that has room for them.
-fn pair(all: Vec<Standing>, first: Standing, second: Standing) -> Vec<Standing>
-    requires empty { all.items ≡ [] }
-    requires room { 2 ≤ vec_capacity all }
-    ensures { result.items ≡ first ∷ second ∷ [] }
-{
-    let mut all = all;
-    match all.push(first) {
-        Ok(()) => {}
-        Err(_) => unreachable!(),
-    }
-    match all.push(second) {
-        Ok(()) => {}
-        Err(_) => unreachable!(),
-    }
-    all
 }
 
 fn last(all: &[Standing]) -> Option<&Standing>

@@ -1,7 +1,7 @@
 //! A section that stands.
 
-ghost use Rattle.std.specs.Prelude.{◌≡◌};
-ghost use Rattle.fde_writer.specs.Standing.{StandingData};
+ghost use Rattle.std.specs.Prelude.{◌≡◌, IfSome};
+ghost use Rattle.fde_writer.specs.Standing.{StandingData, bare_standing};
 
 use crate::place::Place;
 use crate::places::{Places, PlacesForm};
@@ -61,6 +61,29 @@ impl Standing {
             },
         };
         Standing { form }
+    }
+
+    /// One with one member and no note.
+    pub fn bare(section: SeenSection, place: Place) -> Standing
+        ensures { result ≡ bare_standing section.section place }
+    {
+        Standing {
+            form: Form::One {
+                section,
+                note: 0,
+                place,
+            },
+        }
+    }
+
+    /// The place of its only member, where it has no note.
+    pub fn bare_place(&self) -> Option<Place>
+        ensures { IfSome result (λ place. self.now ≡ bare_standing self.now.section place) }
+    {
+        match &self.form {
+            Form::One { note: 0, place, .. } => Some(*place),
+            _ => None,
+        }
     }
 
     pub fn note(&self) -> u64

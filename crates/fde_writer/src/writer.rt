@@ -273,7 +273,7 @@ impl FdeWriter {
             return Moving::Stuck;
         }
         let told = match self.book.latest(key) {
-            Some(standing) => into.take_in(key, self.low, standing),
+            Some(standing) => into.take_in(key, self.low, &standing),
             None => return Moving::Unknown,
         };
         match told {

@@ -1,7 +1,7 @@
 use Rattle.std.proofs.Common.{◌≡◌, ◌*◌, ◌∙◌, ap, sym, subst, List, length}
 use Rattle.fde_writer.specs.Places.{PlaceData, all_registered, placed_members}
 use Rattle.fde_writer.specs.Puttings.{IsPutFault, Puts}
-use Rattle.fde_writer.proofs.Entered.{entered, entered_alike, left}
+use Rattle.fde_writer.proofs.Entered.{as_many, entered, entered_alike, left}
 use Rattle.fde_writer.proofs.entering.enter.Goals as goal
 
 pub returns-then-is_one_registered-clause-enters : goal.returns-then-is_one_registered-clause-enters
@@ -10,6 +10,12 @@ returns-then-is_one_registered-clause-enters c =
     let puts = subst (λ (ps : List PlaceData). Puts (placed_members ps) (2 * length ps) new c.in-Ok-put.numbers c.args.client.now c.put.new.writer) c.requires.places c.in-Ok-put.ensures.put in
     let same : new ≡ c.args.standing.places = c.is_one_registered.ensures c.if-is_one_registered.true ∙ ap all_registered puts.whole ∙ sym c.requires.registered in
     entered_alike c.args.key c.args.standing c.in-Ok-put.numbers new c.args.client.now c.put.new.writer c.args.book.now c.push.new.self puts c.in-Ok.ensures.pushes same
+
+pub settle-requires : goal.settle-requires
+settle-requires c =
+    let new = c.put.new.self in
+    let puts = subst (λ (ps : List PlaceData). Puts (placed_members ps) (2 * length ps) new c.in-Ok-put.numbers c.args.client.now c.put.new.writer) c.requires.places c.in-Ok-put.ensures.put in
+    as_many c.args.key c.args.standing c.in-Ok-put.numbers new c.args.client.now c.put.new.writer c.args.book.now c.push.new.self puts c.in-Ok.ensures.pushes
 
 pub returns-else-is_one_registered-clause-enters : goal.returns-else-is_one_registered-clause-enters
 returns-else-is_one_registered-clause-enters c =
