@@ -11,8 +11,8 @@ pub record PlaceData : Type 0 where
   pub half : Half
 
 -- one of its parts
-abbrev pub place_at : ℕ → ℕ → ℕ → Half → PlaceData
-place_at first last payload half = record {
+abbrev pub place_of_parts : ℕ → ℕ → ℕ → Half → PlaceData
+place_of_parts first last payload half = record {
   member = record { span = record { first = first; last = last }; payload = payload };
   half = half;
 }

@@ -4,7 +4,8 @@ ghost use Rattle.std.specs.Prelude.{◌≡◌, ◌++◌, ◌∷◌, [], ◌<◌,
 ghost use Rattle.std.specs.Prelude.{slice_index_or};
 ghost use Rattle.reg_model.specs.SpanData.{IsSpan};
 ghost use Rattle.reg_model.specs.declared.answer.Half.TheVariants as half;
-ghost use Rattle.fde_writer.specs.Places.{PlaceData, all_registered, place_at, placed_members};
+ghost use Rattle.fde_writer.specs.Places.{PlaceData, all_registered, place_of_parts};
+ghost use Rattle.fde_writer.specs.Places.{placed_members};
 
 use reg_model::{Half, Member, NoMemory, Span};
 use std::alloc::Global;
@@ -59,7 +60,7 @@ impl Place {
     /// A place of its parts.
     pub fn of_parts(first: u64, last: u64, payload: u32, half: Half) -> Place
         requires { IsSpan (record { first = first; last = last }) }
-        ensures { result ≡ place_at first last payload half }
+        ensures { result ≡ place_of_parts first last payload half }
     {
         Place {
             first,

@@ -6,7 +6,7 @@ ghost use Rattle.std.specs.Prelude.{vec_capacity, vec_len};
 ghost use Rattle.std.specs.Cow.{cow_value};
 ghost use Rattle.std.specs.Option.{option_to_list};
 ghost use Rattle.reg_model.specs.SpanData.{IsSpan};
-ghost use Rattle.fde_writer.specs.Places.{PlaceData, place_at};
+ghost use Rattle.fde_writer.specs.Places.{PlaceData, place_of_parts};
 ghost use Rattle.fde_writer.specs.Standing.{HasAsMany, StandingData, bare_standing};
 
 use crate::place::Place;
@@ -214,7 +214,7 @@ impl Stack {
 fn made(section: &SeenSection, half: Half, payload: u32, first: u64, last: u64) -> Standing
     requires { IsSpan (record { first = first; last = last }) }
     ensures { result
-        ≡ bare_standing section.now.section (place_at first last payload half) }
+        ≡ bare_standing section.now.section (place_of_parts first last payload half) }
 {
     Standing::bare(section.same(), Place::of_parts(first, last, payload, half))
 }
