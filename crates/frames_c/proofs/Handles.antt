@@ -1,7 +1,6 @@
 -- The handles, as c_handle speaks of one.
 use mathlib.Core.Path.{refl}
-use Rattle.std.specs.Prelude.{Some}
-use Rattle.c_handle.proofs.HandleSteps.Form.{HandleType}
+use Rattle.c_handle.proofs.HandleSteps.Form.{HandleType, handles_to}
 use Rattle.frames_c.specs.contracts.share.SectionShare as SectionShare
 use Rattle.frames_c.proofs.share.SectionShare.TheLaws as share
 use Rattle.frames_c.specs.contracts.handle.SectionHandle as SectionHandle
@@ -16,69 +15,13 @@ use Rattle.frame_expr.proofs.memory.Memory.TheLaws as memory
 use Rattle.frames_c.specs.contracts.memory.MemoryHandle as MemoryHandle
 
 abbrev pub section_handle : HandleType
-section_handle = record {
-  value = SectionShare.the_row;
-  laws = share.the_row_laws;
-  name = SectionHandle.the_type.name;
-  row = SectionHandle.the_row;
-  at = λ h. h.at;
-  held = λ h. h.held;
-  made = λ p x. record { at = p; held = Some x };
-  held_made = λ p x. refl;
-  owned = λ d vs. refl;
-  owned_made = λ p x vs. refl;
-  apart = λ p vs. refl;
-  lasts = λ d. tt;
-  leaves_nothing = λ d w. refl;
-}
+section_handle = handles_to SectionShare.the_row share.the_row_laws SectionHandle.the_type (λ h. (h.at, h.held)) (λ at held. record { at = at; held = held }) (λ at held. refl)
 
 abbrev pub row_table_handle : HandleType
-row_table_handle = record {
-  value = TableShare.the_row;
-  laws = table.the_row_laws;
-  name = RowTableHandle.the_type.name;
-  row = RowTableHandle.the_row;
-  at = λ h. h.at;
-  held = λ h. h.held;
-  made = λ p x. record { at = p; held = Some x };
-  held_made = λ p x. refl;
-  owned = λ d vs. refl;
-  owned_made = λ p x vs. refl;
-  apart = λ p vs. refl;
-  lasts = λ d. tt;
-  leaves_nothing = λ d w. refl;
-}
+row_table_handle = handles_to TableShare.the_row table.the_row_laws RowTableHandle.the_type (λ h. (h.at, h.held)) (λ at held. record { at = at; held = held }) (λ at held. refl)
 
 abbrev pub modules_handle : HandleType
-modules_handle = record {
-  value = LoadedModules.the_row;
-  laws = modules.the_row_laws;
-  name = ModulesHandle.the_type.name;
-  row = ModulesHandle.the_row;
-  at = λ h. h.at;
-  held = λ h. h.held;
-  made = λ p x. record { at = p; held = Some x };
-  held_made = λ p x. refl;
-  owned = λ d vs. refl;
-  owned_made = λ p x vs. refl;
-  apart = λ p vs. refl;
-  lasts = λ d. tt;
-  leaves_nothing = λ d w. refl;
-}
+modules_handle = handles_to LoadedModules.the_row modules.the_row_laws ModulesHandle.the_type (λ h. (h.at, h.held)) (λ at held. record { at = at; held = held }) (λ at held. refl)
 
 abbrev pub memory_handle : HandleType
-memory_handle = record {
-  value = Memory.the_row;
-  laws = memory.the_row_laws;
-  name = MemoryHandle.the_type.name;
-  row = MemoryHandle.the_row;
-  at = λ h. h.at;
-  held = λ h. h.held;
-  made = λ p x. record { at = p; held = Some x };
-  held_made = λ p x. refl;
-  owned = λ d vs. refl;
-  owned_made = λ p x vs. refl;
-  apart = λ p vs. refl;
-  lasts = λ d. tt;
-  leaves_nothing = λ d w. refl;
-}
+memory_handle = handles_to Memory.the_row memory.the_row_laws MemoryHandle.the_type (λ h. (h.at, h.held)) (λ at held. record { at = at; held = held }) (λ at held. refl)

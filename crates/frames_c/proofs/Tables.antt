@@ -1,8 +1,9 @@
 -- Tables of FDEs whose ranges are apart: a search by halves finds the one that has the address, and it is the first that covers it.
 use Rattle.std.specs.Prelude.{◌⊎◌, slice_get, slice_set}
 use Rattle.std.proofs.lemmas.Option.{slice_get-get_or}
-use Rattle.std.proofs.lemmas.List.{take_more_set, append-nil}
-use Rattle.std.proofs.Common.{map, take, ◌≡◌, ℕ, zero, suc, ◌+◌, ◌-◌, ◌<◌, ◌≤◌, Bool, cond, List, [], ◌∷◌, ◌++◌, length, get_or, true, false, Some, None, nat_le, nat_lt, refl, sym, ap, subst, ◌∙◌, arith, inl, inr, leb-true, leb-false, ltb-true, le-ltb}
+use Rattle.std.proofs.lemmas.List.{take_more_set, append-nil, get_or_default, length-map}
+use Rattle.std.proofs.Math.ListN.{get_or-map}
+use Rattle.std.proofs.Common.{map, take, ◌≡◌, ℕ, zero, suc, ◌+◌, ◌-◌, ◌<◌, ◌≤◌, Bool, cond, List, [], ◌∷◌, ◌++◌, length, get_or, true, false, Some, None, ◌&&◌, nat_le, nat_lt, refl, sym, ap, subst, ◌∙◌, arith, inl, inr, leb-true, leb-false, ltb-true, le-ltb}
 use Rattle.std.proofs.lemmas.Bool.{and_parts, and_left, and_right, cases_lt, lt-leb, lt-ltb}
 use Rattle.std.proofs.lemmas.List.Elements.{filter_more, All-cons, All-nil}
 use Rattle.std.proofs.lemmas.List.Sorted.{Contains-permutation, All-permutation}
@@ -11,45 +12,36 @@ use Rattle.std.specs.List.Sorted.{IsPermutation}
 use Rattle.std.specs.Option.{option_map}
 use Rattle.frame_parse.specs.Entries.{FdeRecord}
 use Rattle.frame_parse.specs.Sections.{covers, first_cover}
+use Rattle.frame_parse.specs.Lookups.{are_apart}
+use Rattle.frame_parse.specs.declared.fde_lookup.CoveredRange.{CoveredRange}
+use Rattle.frame_parse.proofs.Lookups as lookups
 use Rattle.frames_c.specs.declared.table.FramesEntry.{FramesEntry}
 use Rattle.frames_c.specs.TableEntries.{entry_told, entries_told, entry_has, entries_apart, FindsAsSection, IsSearched}
 
+-- ---- as the ranges of frame_parse's lookups
+
+abbrev range_of : FramesEntry → CoveredRange
+range_of e = record { first = e.first; range = e.range; fde = e.place }
+
+ranges_apart : (es : List FramesEntry) → are_apart (map range_of es) ≡ entries_apart es
+ranges_apart [] = refl
+ranges_apart (a ∷ []) = refl
+ranges_apart (a ∷ b ∷ es) = ap (λ (x : Bool). nat_le (a.first + a.range) b.first && x) (ranges_apart (b ∷ es))
+
 pub few_apart : (es : List FramesEntry) → length es < 2 → entries_apart es ≡ true
-few_apart [] lt = refl
-few_apart (a ∷ []) lt = refl
-few_apart (a ∷ b ∷ es) lt = absurd (omega arith)
+few_apart es lt = sym (ranges_apart es) ∙ lookups.few_apart (map range_of es) (rw (length-map es range_of) lt)
 
 -- an entry ends before all after it begin
-above : (a : FramesEntry) (es : List FramesEntry) (j : ℕ) (d : FramesEntry) → entries_apart (a ∷ es) ≡ true → j < length es → a.first + a.range ≤ (get_or es j d).first
-above a [] j d h lt = absurd (omega arith)
-above a (b ∷ es) zero d h lt =
-    let parts = and_parts (nat_le (a.first + a.range) b.first) (entries_apart (b ∷ es)) h in
-    leb-true _ _ parts.0
-above a (b ∷ es) (suc j) d h lt =
-    let parts = and_parts (nat_le (a.first + a.range) b.first) (entries_apart (b ∷ es)) h in
-    let far = above b es j d parts.1 (omega arith) in
-    omega (arith, far, leb-true _ _ parts.0)
-
-behind : (a : FramesEntry) (es : List FramesEntry) → entries_apart (a ∷ es) ≡ true → entries_apart es ≡ true
-behind a [] h = refl
-behind a (b ∷ es) h = (and_parts (nat_le (a.first + a.range) b.first) (entries_apart (b ∷ es)) h).1
-
 apart : (es : List FramesEntry) (i j : ℕ) (d : FramesEntry) → entries_apart es ≡ true → i < j → j < length es → (get_or es i d).first + (get_or es i d).range ≤ (get_or es j d).first
-apart [] i j d h lt within = absurd (omega arith)
-apart (a ∷ es) i zero d h lt within = absurd (omega arith)
-apart (a ∷ es) zero (suc j) d h lt within = above a es j d h (omega arith)
-apart (a ∷ es) (suc i) (suc j) d h lt within = apart es i j d (behind a es h) (omega arith) (omega arith)
+apart es i j d h lt within =
+    let up = lookups.apart (map range_of es) i j (range_of d) (ranges_apart es ∙ h) lt (rw (length-map es range_of) within) in
+    rw (get_or-map range_of es i d, get_or-map range_of es j d) at up
 
 not_below : (pc : ℕ) (e : FramesEntry) → pc < e.first → entry_has pc e ≡ false
 not_below pc e lt = and_left _ _ (lt-leb e.first pc lt)
 
 not_above : (pc : ℕ) (e : FramesEntry) → e.first + e.range ≤ pc → entry_has pc e ≡ false
 not_above pc e le = and_right _ _ (le-ltb pc (e.first + e.range) le)
-
-pub any_default : (es : List FramesEntry) (k : ℕ) (c d : FramesEntry) → k < length es → get_or es k c ≡ get_or es k d
-any_default [] k c d lt = absurd (omega arith)
-any_default (e ∷ es) zero c d lt = refl
-any_default (e ∷ es) (suc k) c d lt = any_default es k c d (omega arith)
 
 -- ---- halving
 
@@ -69,7 +61,7 @@ upper_left es pc base size j d left lt reached =
       within = omega (arith, w);
       below = λ h k f kl.
           let up = apart es k (base + j) f h kl (omega (arith, w)) in
-          let same = any_default es (base + j) f d (omega (arith, w)) in
+          let same = get_or_default es (base + j) f d (omega (arith, w)) in
           not_above pc (get_or es k f) (omega (arith, up, ap (λ (e : FramesEntry). e.first) same, reached));
       above = λ h k f ge kl. left.above h k f (omega (arith, ge, w)) kl;
     }
@@ -84,11 +76,11 @@ lower_left es pc base size j more d left lt beyond le few =
           elim (cases_lt (base + j) k) [
             | inl past ↦
                 let up = apart es (base + j) k f h past kl in
-                let same = any_default es (base + j) f d (omega (arith, w)) in
+                let same = get_or_default es (base + j) f d (omega (arith, w)) in
                 not_below pc (get_or es k f) (omega (arith, up, ap (λ (e : FramesEntry). e.first) same, beyond))
             | inr here ↦
                 let same : k ≡ base + j = omega arith in
-                let one = any_default es k f d kl in
+                let one = get_or_default es k f d kl in
                 not_below pc (get_or es k f) (omega (arith, ap (λ (e : FramesEntry). e.first) (one ∙ ap (λ i. get_or es i d) same), beyond))
           ];
     }

@@ -23,40 +23,21 @@ use Rattle.frames_c.specs.declared.row.FramesRow.{FramesRow}
 
 -- ---- rules
 
-kind_told : {A B : Type 0} (rule : RuleWith A) (f : A → B) → rule_kind (rule_told f rule) ≡ rule_kind rule
-kind_told rules.Unset f = refl
-kind_told rules.Undefined f = refl
-kind_told rules.Same f = refl
-kind_told (rules.Offset n) f = refl
-kind_told (rules.ValOffset n) f = refl
-kind_told (rules.Register q) f = refl
-kind_told (rules.Expression e) f = refl
-kind_told (rules.ValExpression e) f = refl
+kind_and_number_told : {A B : Type 0} (rule : RuleWith A) (f : A → B) → (rule_kind (rule_told f rule) ≡ rule_kind rule) × (rule_number (rule_told f rule) ≡ rule_number rule)
+kind_and_number_told rules.Unset f = (refl, refl)
+kind_and_number_told rules.Undefined f = (refl, refl)
+kind_and_number_told rules.Same f = (refl, refl)
+kind_and_number_told (rules.Offset n) f = (refl, refl)
+kind_and_number_told (rules.ValOffset n) f = (refl, refl)
+kind_and_number_told (rules.Register q) f = (refl, refl)
+kind_and_number_told (rules.Expression e) f = (refl, refl)
+kind_and_number_told (rules.ValExpression e) f = (refl, refl)
 
-number_told : {A B : Type 0} (rule : RuleWith A) (f : A → B) → rule_number (rule_told f rule) ≡ rule_number rule
-number_told rules.Unset f = refl
-number_told rules.Undefined f = refl
-number_told rules.Same f = refl
-number_told (rules.Offset n) f = refl
-number_told (rules.ValOffset n) f = refl
-number_told (rules.Register q) f = refl
-number_told (rules.Expression e) f = refl
-number_told (rules.ValExpression e) f = refl
-
-cfa_kind_told : {A B : Type 0} (rule : CfaRuleWith A) (f : A → B) → cfa_rule_kind (cfa_rule_told f rule) ≡ cfa_rule_kind rule
-cfa_kind_told cfas.Missing f = refl
-cfa_kind_told (cfas.Offset q n) f = refl
-cfa_kind_told (cfas.Expression e) f = refl
-
-cfa_column_told : {A B : Type 0} (rule : CfaRuleWith A) (f : A → B) → cfa_rule_column (cfa_rule_told f rule) ≡ cfa_rule_column rule
-cfa_column_told cfas.Missing f = refl
-cfa_column_told (cfas.Offset q n) f = refl
-cfa_column_told (cfas.Expression e) f = refl
-
-cfa_offset_told : {A B : Type 0} (rule : CfaRuleWith A) (f : A → B) → cfa_rule_offset (cfa_rule_told f rule) ≡ cfa_rule_offset rule
-cfa_offset_told cfas.Missing f = refl
-cfa_offset_told (cfas.Offset q n) f = refl
-cfa_offset_told (cfas.Expression e) f = refl
+cfa_told : {A B : Type 0} (rule : CfaRuleWith A) (f : A → B)
+    → (cfa_rule_kind (cfa_rule_told f rule) ≡ cfa_rule_kind rule) × (cfa_rule_column (cfa_rule_told f rule) ≡ cfa_rule_column rule) × (cfa_rule_offset (cfa_rule_told f rule) ≡ cfa_rule_offset rule)
+cfa_told cfas.Missing f = (refl, refl, refl)
+cfa_told (cfas.Offset q n) f = (refl, refl, refl)
+cfa_told (cfas.Expression e) f = (refl, refl, refl)
 
 -- ---- rows
 
@@ -68,19 +49,19 @@ one_more_told rule f row column kind number kinds numbers are in_kinds in_number
       kind =
           below_more (λ (r : ℕ). slice_index (set kinds column kind) r ≡ rule_kind (column_rule row r)) column
           (λ r lt. get_or-set_other kinds column r kind 0 (other r lt) ∙ are.kind r lt)
-          (get_or-set_same kinds column kind 0 in_kinds ∙ kind_is ∙ sym (kind_told rule f) ∙ ap (λ (k : RuleData). rule_kind k) of_row);
+          (get_or-set_same kinds column kind 0 in_kinds ∙ kind_is ∙ sym (kind_and_number_told rule f).0 ∙ ap (λ (k : RuleData). rule_kind k) of_row);
       number =
           below_more (λ (r : ℕ). slice_index (set numbers column number) r ≡ rule_number (column_rule row r)) column
           (λ r lt. get_or-set_other numbers column r number 0 (other r lt) ∙ are.number r lt)
-          (get_or-set_same numbers column number 0 in_numbers ∙ number_is ∙ sym (number_told rule f) ∙ ap (λ (k : RuleData). rule_number k) of_row);
+          (get_or-set_same numbers column number 0 in_numbers ∙ number_is ∙ sym (kind_and_number_told rule f).1 ∙ ap (λ (k : RuleData). rule_number k) of_row);
     }
 
 pub row_is_told : {A : Type 0} (rule : CfaRuleWith A) (f : A → List ℕ) (row : RowData) (kind column offset : ℕ) (kinds numbers : List ℕ) → kind ≡ cfa_rule_kind rule → column ≡ cfa_rule_column rule → offset ≡ cfa_rule_offset rule → cfa_rule_told f rule ≡ row.cfa → AreToldRules row 17 kinds numbers
     → IsToldRow row (record { cfa = kind; cfa_column = column; cfa_offset = offset; rules = kinds; numbers = numbers })
 row_is_told rule f row kind column offset kinds numbers kind_is column_is offset_is of_row told = record {
-  cfa = kind_is ∙ sym (cfa_kind_told rule f) ∙ ap (λ (k : CfaRuleData). cfa_rule_kind k) of_row;
-  column = column_is ∙ sym (cfa_column_told rule f) ∙ ap (λ (k : CfaRuleData). cfa_rule_column k) of_row;
-  offset = offset_is ∙ sym (cfa_offset_told rule f) ∙ ap (λ (k : CfaRuleData). cfa_rule_offset k) of_row;
+  cfa = kind_is ∙ sym (cfa_told rule f).0 ∙ ap (λ (k : CfaRuleData). cfa_rule_kind k) of_row;
+  column = column_is ∙ sym (cfa_told rule f).1 ∙ ap (λ (k : CfaRuleData). cfa_rule_column k) of_row;
+  offset = offset_is ∙ sym (cfa_told rule f).2 ∙ ap (λ (k : CfaRuleData). cfa_rule_offset k) of_row;
   columns = told;
 }
 

@@ -1,6 +1,6 @@
 //! Sections are read, shared and freed.
 
-ghost use Rattle.std.specs.Prelude.{◌≡◌, [], true, false, length, None, IfOk, IfErr, IfSome};
+ghost use Rattle.std.specs.Prelude.{◌≡◌, [], true, false, length, None, Ok, IfOk, IfErr, IfSome};
 ghost use Rattle.frame_parse.specs.declared.fault.FrameFault.TheVariants.{NoMemory};
 ghost use Rattle.c_sections.specs.declared.refusal.LoadFault.TheVariants.{Frames};
 ghost use Rattle.c_sections.specs.Loads.{IsLoaded};
@@ -12,7 +12,7 @@ use crate::handle::SectionHandle;
 use crate::share::{LoadedSection, SectionShare};
 use c_sections::{FramesRefusal, LoadFault, read_section};
 use frame_parse::FrameFault;
-use std::alloc::Global;
+use std::alloc::{AllocError, Global};
 
 /// The first share of a section, in a box of its own.
 pub(crate) fn shared(
@@ -29,6 +29,16 @@ pub(crate) fn shared(
     match Box::new(alloc, share) {
         Ok(boxed) => Ok(boxed),
         Err(_) => Err(LoadFault::Frames(FrameFault::NoMemory)),
+    }
+}
+
+/// What was made, in a box of its own; none where memory runs out.
+pub(crate) fn boxed<T: Drop>(alloc: Global, made: Result<T, AllocError>) -> Option<Box<T, Global>>
+    ensures { IfSome result (λ boxed. made ≡ Ok boxed.value) }
+{
+    match made {
+        Ok(value) => Box::new(alloc, value).ok(),
+        Err(_) => None,
     }
 }
 
@@ -95,7 +105,7 @@ pub extern "C" fn frames_c_share(
     ensures nothing { result ≡ false → IsVacant out.new.held }
 {
     let share = section.open(alloc);
-    let shared = match another(alloc, &share) {
+    let shared = match boxed(alloc, share.another()) {
         Some(other) => {
             *out = SectionHandle::of(other);
             true
@@ -122,12 +132,4 @@ pub extern "C" fn frames_c_count(
     let count = share.loaded().section().count();
     *back = SectionHandle::of(share);
     count
-}
-
-/// Another share in a box of its own; none where memory runs out.
-fn another(alloc: Global, share: &SectionShare) -> Option<Box<SectionShare, Global>>
-    ensures { IfSome result (λ other. other.value ≡ share.now) }
-{
-    let other = share.another().ok()?;
-    Box::new(alloc, other).ok()
 }

@@ -1,6 +1,6 @@
 //! Row tables: they are made, shared and freed, and tell rows and steps.
 
-ghost use Rattle.std.specs.Prelude.{◌≡◌, ◌⊎◌, true, false, IfOk, IfErr, IfSome, [], ◌∷◌};
+ghost use Rattle.std.specs.Prelude.{◌≡◌, ◌⊎◌, true, false, IfOk, IfErr, [], ◌∷◌};
 ghost use Rattle.row_table.specs.Tables.{HasTooManyRows};
 ghost use Rattle.unwind_step.specs.Backtrace.{fde_in};
 ghost use Rattle.frames_c.specs.Held.{IsHeld, IsVacant, claim_in, held_loaded, held_section};
@@ -11,6 +11,7 @@ ghost use Rattle.frames_c.specs.Rows.{AnswersRow};
 ghost use Rattle.frames_c.specs.RowTables.{table_fault_told, AnswersRowTable};
 
 use crate::handle::SectionHandle;
+use crate::load::boxed;
 use crate::memory::MemoryHandle;
 use crate::row::FramesRow;
 use crate::row_handle::RowTableHandle;
@@ -81,14 +82,6 @@ pub extern "C" fn frames_c_row_table_free(alloc: Global, table: RowTableHandle)
     drop(table.open(alloc));
 }
 
-/// Another share in a box of its own; none where memory runs out.
-fn another(alloc: Global, share: &TableShare) -> Option<Box<TableShare, Global>>
-    ensures { IfSome result (λ other. other.value ≡ share.now) }
-{
-    let other = share.another().ok()?;
-    Box::new(alloc, other).ok()
-}
-
 /// Another share of the table, for another thread; false where memory runs out.
 #[unsafe(no_mangle)]
 pub extern "C" fn frames_c_row_table_share(
@@ -105,7 +98,7 @@ pub extern "C" fn frames_c_row_table_share(
     ensures nothing { result ≡ false → IsVacant out.new.held }
 {
     let share = table.open(alloc);
-    let shared = match another(alloc, &share) {
+    let shared = match boxed(alloc, share.another()) {
         Some(other) => {
             *out = RowTableHandle::of(other);
             true

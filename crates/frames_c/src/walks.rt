@@ -1,7 +1,6 @@
 //! Modules are listed, and stacks walked over them.
 
 ghost use Rattle.std.specs.Prelude.{◌≡◌, ◌<◌, ◌≤◌, [], ◌∷◌, true, false, Some, length, take, drop};
-ghost use Rattle.std.specs.Prelude.{IfSome};
 ghost use Rattle.frames_c.specs.Held.{IsHeld, IsVacant, held_loaded};
 ghost use Rattle.frames_c.specs.StackLines.{AnswersModule, AnswersWalk, frame_given, modules_in};
 ghost use Rattle.frames_c.specs.StackLines.{module_loaded, module_with, missing_after};
@@ -9,6 +8,7 @@ ghost use Rattle.frames_c.specs.StackLines.{walk_end_told};
 
 use crate::handle::SectionHandle;
 use crate::lines::{FramesLine, told_address};
+use crate::load::boxed;
 use crate::modules::{LoadedModules, ModuleRows};
 use crate::modules_handle::ModulesHandle;
 use crate::row_handle::RowTableHandle;
@@ -96,14 +96,6 @@ pub extern "C" fn frames_c_modules_add_rows(
     added
 }
 
-/// The same modules in a box of their own; none where memory runs out.
-fn another(alloc: Global, modules: &LoadedModules) -> Option<Box<LoadedModules, Global>>
-    ensures { IfSome result (λ other. other.value ≡ modules.now) }
-{
-    let other = modules.another(alloc).ok()?;
-    Box::new(alloc, other).ok()
-}
-
 /// Another list of the same modules, each with another share, for another thread; false where
 /// memory runs out. What is added to one of both lists isn't in the other.
 #[unsafe(no_mangle)]
@@ -121,7 +113,7 @@ pub extern "C" fn frames_c_modules_share(
     ensures nothing { result ≡ false → IsVacant out.new.held }
 {
     let list = modules.open(alloc);
-    let shared = match another(alloc, &list) {
+    let shared = match boxed(alloc, list.another(alloc)) {
         Some(other) => {
             *out = ModulesHandle::of(other);
             true

@@ -1,7 +1,8 @@
 use Rattle.std.proofs.Common.{◌≡◌, ◌/◌, false, sym, subst, ◌∙◌, get_or, arith}
 use Rattle.frames_c.specs.declared.table.FramesEntry.{FramesEntry}
 use Rattle.frames_c.specs.TableEntries.{entry_has}
-use Rattle.frames_c.proofs.Tables.{any_default, half_left, found_here, found_none}
+use Rattle.std.proofs.lemmas.List.{get_or_default}
+use Rattle.frames_c.proofs.Tables.{half_left, found_here, found_none}
 use Rattle.frames_c.proofs.table.searched.Goals as goal
 use Rattle.frames_c.proofs.table.searched.Goals.{else-base-entries-via-then-base-entries+else-has, else-base-entries-via-else-base-entries}
 
@@ -17,7 +18,7 @@ pub returns-then-has : goal.returns-then-has
 returns-then-has c =
     let was = c.loop-size in
     let e = get_or c.args.entries.now was.base nothing in
-    found_here c.args.entries.now c.args.pc was.base was.size e was.invariant (omega arith) (omega arith) (any_default c.args.entries.now was.base e nothing (omega arith)) (sym c.has.ensures ∙ c.if-has.true)
+    found_here c.args.entries.now c.args.pc was.base was.size e was.invariant (omega arith) (omega arith) (get_or_default c.args.entries.now was.base e nothing (omega arith)) (sym c.has.ensures ∙ c.if-has.true)
 
 pub returns-else-base-entries : goal.returns-else-base-entries
 returns-else-base-entries c =
@@ -25,6 +26,6 @@ returns-else-base-entries c =
     found_none c.args.entries.now c.args.pc was.base was.size was.invariant (omega arith) (λ d lt.
     elim c.else-base-entries.branch [
       | else-base-entries-via-then-base-entries+else-has w ↦
-          subst (λ (e : FramesEntry). entry_has c.args.pc e ≡ false) (any_default c.args.entries.now was.base nothing d lt) (sym w.has.ensures ∙ w.if-has.false)
+          subst (λ (e : FramesEntry). entry_has c.args.pc e ≡ false) (get_or_default c.args.entries.now was.base nothing d lt) (sym w.has.ensures ∙ w.if-has.false)
       | else-base-entries-via-else-base-entries w ↦ let beyond = w.if-base-entries in absurd (omega (arith, beyond, lt))
     ])
