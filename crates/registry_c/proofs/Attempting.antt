@@ -9,7 +9,9 @@ use Rattle.reg_model.specs.declared.answer.Replaced.TheVariants as replaced
 use Rattle.reg_model.specs.declared.answer.Loading.{Loading}
 use Rattle.reg_model.specs.declared.answer.Loading.TheVariants as loading
 use Rattle.registry_core.specs.Begun.{TriesLoad}
-use Rattle.word_rule.specs.CallerData.{CallerData, due}
+use Rattle.word_rule.specs.CallerData.{CallerData, WordsData, due}
+use Rattle.word_rule.specs.declared.log.Terms.{Terms}
+use Rattle.reg_model.specs.declared.span.Member.{Member}
 use Rattle.btree_change.specs.Paths.{IsLeftOut}
 use Rattle.btree_change.specs.Updates.{GivesUp}
 use Rattle.node_store.specs.declared.locking.Busy.{Busy}
@@ -17,12 +19,19 @@ use Rattle.node_store.specs.declared.locking.Busy.TheVariants as busy
 use Rattle.word_rule.specs.Callers.{IsIdle}
 use Rattle.registry_c.proofs.Caches.{GoOnToFit, adds_none, goes_on}
 use Rattle.registry_c.specs.Clients.{ClientData, IsClient, begun_count}
-use Rattle.registry_c.specs.Members.{given_member}
+use Rattle.registry_c.specs.Members.{IsGivenMember, given_member}
 use Rattle.registry_c.specs.Tries.{Begins, TriesCall, is_lost}
 use Rattle.registry_c.specs.Updates.{Loads, MayAdd, Registers, Replaces}
 use Rattle.registry_c.specs.declared.attempt.Attempt.TheVariants as attempt
 use Rattle.registry_c.specs.declared.attempt.Attempt.TheVariants.{Answered}
 use Rattle.registry_c.specs.declared.member.RegistryMember.{RegistryMember}
+
+pub may_add : (r : RegistryMember) (v c : ClientData) (payloads : ℕ) → payloads ≡ v.words.terms.payloads → v ≡ c → IsGivenMember payloads r → MayAdd c r
+may_add r v c payloads has same is = subst (λ n. IsGivenMember n r) (has ∙ ap (λ (z : ClientData). z.words.terms.payloads) same) is
+
+-- an answer of a member in a registry's words, by what both are
+pub answer_of : (step : Terms → Member → Type 0) (w v : WordsData) (m n : Member) → w ≡ v → m ≡ n → step w.terms m → step v.terms n
+answer_of step w v m n same is s = subst (λ (z : WordsData). step z.terms n) same (subst (step w.terms) is s)
 
 module _ (r : RegistryMember) (c mid : ClientData) (k : CallerData) (may : MayAdd c r) (b : Begins c mid) where
   abbrev pub answered : ClientData

@@ -122,14 +122,11 @@ GoOnToFit = (c : CacheData) (v w : Log) (more : List Receipt) → w.receipts.own
 pub still_fits : GoOnToFit → (half : Half) (c : CacheData) (k k' : CallerData) → AddsReceipts k k' → IsCacheOf half c k.log → IsCacheOf half c k'.log
 still_fits law half c k k' adds is = (is.0, law c k.log k'.log adds.0 adds.1 is.1)
 
+pub is_client : (c : ClientData) → c.me.table ≡ c.words.table → c.me.log.holdings.held ≡ [] → c.me.log.loader ≡ None → (c.lost ≡ false → c.me.log.holdings.out ≡ []) → c.me.left + begun_count c.begun ≤ c.me.log.budget.allowance
+    → IsCacheOf Registered c.registered c.me.log → IsCacheOf Loaded c.loaded c.me.log → IsClient c
+is_client c home held loader out owed registered loaded = record { home = home; held = held; loader = loader; out = out; owed = owed; registered = registered; loaded = loaded }
+
 -- a client after a step of its caller that adds receipts: what is left to show is of the caller alone
 pub goes_on : GoOnToFit → (c : ClientData) (k : CallerData) (begun lost : Bool) → AddsReceipts c.me k → IsClient c → k.table ≡ c.words.table → k.log.holdings.held ≡ [] → k.log.loader ≡ None → (lost ≡ false → k.log.holdings.out ≡ []) → k.left + begun_count begun ≤ k.log.budget.allowance → IsClient (record c { me = k; begun = begun; lost = lost })
-goes_on law c k begun lost adds is home held loader out owed = record {
-  home = home;
-  held = held;
-  loader = loader;
-  out = out;
-  owed = owed;
-  registered = still_fits law Registered c.registered c.me k adds is.registered;
-  loaded = still_fits law Loaded c.loaded c.me k adds is.loaded;
-}
+goes_on law c k begun lost adds is home held loader out owed =
+    is_client (record c { me = k; begun = begun; lost = lost }) home held loader out owed (still_fits law Registered c.registered c.me k adds is.registered) (still_fits law Loaded c.loaded c.me k adds is.loaded)

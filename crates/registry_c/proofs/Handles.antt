@@ -1,7 +1,6 @@
 -- The handles, as c_handle speaks of one.
 use mathlib.Core.Path.{refl}
-use Rattle.std.specs.Prelude.{Some}
-use Rattle.c_handle.proofs.HandleSteps.Form.{HandleType}
+use Rattle.c_handle.proofs.HandleSteps.Form.{HandleType, handles_to}
 use Rattle.registry_c.specs.contracts.client.Client as Client
 use Rattle.registry_c.proofs.client.Client.TheLaws as client
 use Rattle.registry_c.specs.contracts.handle.ClientHandle as ClientHandle
@@ -10,35 +9,7 @@ use Rattle.registry_c.proofs.reader.RegistryReader.TheLaws as reader
 use Rattle.registry_c.specs.contracts.reader_handle.ReaderHandle as ReaderHandle
 
 abbrev pub client_handle : HandleType
-client_handle = record {
-  value = Client.the_row;
-  laws = client.the_row_laws;
-  name = ClientHandle.the_type.name;
-  row = ClientHandle.the_row;
-  at = λ h. h.at;
-  held = λ h. h.held;
-  made = λ p x. record { at = p; held = Some x };
-  held_made = λ p x. refl;
-  owned = λ d vs. refl;
-  owned_made = λ p x vs. refl;
-  apart = λ p vs. refl;
-  lasts = λ d. tt;
-  leaves_nothing = λ d w. refl;
-}
+client_handle = handles_to Client.the_row client.the_row_laws ClientHandle.the_type (λ h. (h.at, h.held)) (λ at held. record { at = at; held = held }) (λ at held. refl)
 
 abbrev pub reader_handle : HandleType
-reader_handle = record {
-  value = RegistryReader.the_row;
-  laws = reader.the_row_laws;
-  name = ReaderHandle.the_type.name;
-  row = ReaderHandle.the_row;
-  at = λ h. h.at;
-  held = λ h. h.held;
-  made = λ p x. record { at = p; held = Some x };
-  held_made = λ p x. refl;
-  owned = λ d vs. refl;
-  owned_made = λ p x vs. refl;
-  apart = λ p vs. refl;
-  lasts = λ d. tt;
-  leaves_nothing = λ d w. refl;
-}
+reader_handle = handles_to RegistryReader.the_row reader.the_row_laws ReaderHandle.the_type (λ h. (h.at, h.held)) (λ at held. record { at = at; held = held }) (λ at held. refl)

@@ -189,24 +189,6 @@ impl Client {
     }
 }
 
-fn tell_registered(client: &mut Client, pc: u64, found: &mut RegistryFound)
-    ensures { TellsFind AsksRegistered found_told pc found.new client.old client.new }
-{
-    *found = RegistryFound::of(client.try_registered(pc));
-}
-
-fn tell_loaded(client: &mut Client, pc: u64, found: &mut RegistryFound)
-    ensures { TellsFind AsksLoaded found_told pc found.new client.old client.new }
-{
-    *found = RegistryFound::of(client.try_loaded(pc));
-}
-
-fn tell_place(client: &mut Client, how: LookupBy, pc: u64, place: &mut RegistryPlace)
-    ensures { TellsFind (FindsOnce how) place_told pc place.new client.old client.new }
-{
-    *place = RegistryPlace::of(client.find(how, pc));
-}
-
 /// Looks an address up once among the registered members: a miss or a hit at a stamp, or again
 /// where the tree was changed or locked on the way.
 #[unsafe(no_mangle)]
@@ -223,7 +205,7 @@ pub extern "C" fn registry_c_try_registered(
         back.new.held }
 {
     let mut open = client.open(alloc);
-    tell_registered(&mut open, pc, found);
+    *found = RegistryFound::of(open.try_registered(pc));
     *back = ClientHandle::of(open);
 }
 
@@ -242,7 +224,7 @@ pub extern "C" fn registry_c_try_loaded(
     ensures { HandsBack (TellsFind AsksLoaded found_told pc found.new) client.held back.new.held }
 {
     let mut open = client.open(alloc);
-    tell_loaded(&mut open, pc, found);
+    *found = RegistryFound::of(open.try_loaded(pc));
     *back = ClientHandle::of(open);
 }
 
@@ -262,7 +244,7 @@ pub extern "C" fn registry_c_find(
         back.new.held }
 {
     let mut open = client.open(alloc);
-    tell_place(&mut open, LookupBy::Tables, pc, place);
+    *place = RegistryPlace::of(open.find(LookupBy::Tables, pc));
     *back = ClientHandle::of(open);
 }
 
@@ -282,6 +264,6 @@ pub extern "C" fn registry_c_find_cached(
         back.new.held }
 {
     let mut open = client.open(alloc);
-    tell_place(&mut open, LookupBy::Caches, pc, place);
+    *place = RegistryPlace::of(open.find(LookupBy::Caches, pc));
     *back = ClientHandle::of(open);
 }

@@ -41,24 +41,6 @@ fn make_another(reader: &mut RegistryReader, alloc: Global, out: &mut ReaderHand
     }
 }
 
-fn tell_registered(reader: &mut RegistryReader, pc: u64, found: &mut RegistryFound)
-    ensures { TellsFind ReaderAsksRegistered found_told pc found.new reader.old reader.new }
-{
-    *found = RegistryFound::of(reader.try_registered(pc));
-}
-
-fn tell_loaded(reader: &mut RegistryReader, pc: u64, found: &mut RegistryFound)
-    ensures { TellsFind ReaderAsksLoaded found_told pc found.new reader.old reader.new }
-{
-    *found = RegistryFound::of(reader.try_loaded(pc));
-}
-
-fn tell_place(reader: &mut RegistryReader, pc: u64, place: &mut RegistryPlace)
-    ensures { TellsFind ReaderFinds place_told pc place.new reader.old reader.new }
-{
-    *place = RegistryPlace::of(reader.find(pc));
-}
-
 /// Makes a reader that has seen what a client has, which stays as it was. Whether `out` has it: it
 /// hasn't where memory ran out.
 #[unsafe(no_mangle)]
@@ -126,7 +108,7 @@ pub extern "C" fn registry_c_reader_try_registered(
         back.new.held }
 {
     let mut open = reader.open(alloc);
-    tell_registered(&mut open, pc, found);
+    *found = RegistryFound::of(open.try_registered(pc));
     *back = ReaderHandle::of(open);
 }
 
@@ -146,7 +128,7 @@ pub extern "C" fn registry_c_reader_try_loaded(
         back.new.held }
 {
     let mut open = reader.open(alloc);
-    tell_loaded(&mut open, pc, found);
+    *found = RegistryFound::of(open.try_loaded(pc));
     *back = ReaderHandle::of(open);
 }
 
@@ -165,6 +147,6 @@ pub extern "C" fn registry_c_reader_find(
     ensures { HandsBack (TellsFind ReaderFinds place_told pc place.new) reader.held back.new.held }
 {
     let mut open = reader.open(alloc);
-    tell_place(&mut open, pc, place);
+    *place = RegistryPlace::of(open.find(pc));
     *back = ReaderHandle::of(open);
 }

@@ -169,37 +169,6 @@ impl Client {
     }
 }
 
-fn tell_registration(client: &mut Client, member: &RegistryMember, answer: &mut RegistryAnswer)
-    ensures { TellsAttempt (Registers member.now) insertion_told answer.new client.old client.new }
-{
-    *answer = RegistryAnswer::of_insertion(client.register(member));
-}
-
-fn tell_deregistration(client: &mut Client, base: u64, answer: &mut RegistryAnswer)
-    ensures { TellsAttempt (Deregisters base) removal_told answer.new client.old client.new }
-{
-    *answer = RegistryAnswer::of_removal(client.deregister(base));
-}
-
-fn tell_replacement(client: &mut Client, member: &RegistryMember, answer: &mut RegistryAnswer)
-    ensures { TellsAttempt (Replaces member.now) (replacement_told member.now) answer.new client.old
-        client.new }
-{
-    *answer = RegistryAnswer::of_replacement(member, client.replace(member));
-}
-
-fn tell_load(client: &mut Client, member: &RegistryMember, answer: &mut RegistryAnswer)
-    ensures { TellsAttempt (Loads member.now) loading_told answer.new client.old client.new }
-{
-    *answer = RegistryAnswer::of_load(client.load(member));
-}
-
-fn tell_unload(client: &mut Client, base: u64, answer: &mut RegistryAnswer)
-    ensures { TellsAttempt (Unloads base) removal_told answer.new client.old client.new }
-{
-    *answer = RegistryAnswer::of_removal(client.unload(base));
-}
-
 /// Tries to register a member.
 #[unsafe(no_mangle)]
 pub extern "C" fn registry_c_register(
@@ -215,7 +184,7 @@ pub extern "C" fn registry_c_register(
         back.new.held }
 {
     let mut open = client.open(alloc);
-    tell_registration(&mut open, member, answer);
+    *answer = RegistryAnswer::of_insertion(open.register(member));
     *back = ClientHandle::of(open);
 }
 
@@ -234,7 +203,7 @@ pub extern "C" fn registry_c_deregister(
         back.new.held }
 {
     let mut open = client.open(alloc);
-    tell_deregistration(&mut open, base, answer);
+    *answer = RegistryAnswer::of_removal(open.deregister(base));
     *back = ClientHandle::of(open);
 }
 
@@ -254,7 +223,7 @@ pub extern "C" fn registry_c_replace(
         client.held back.new.held }
 {
     let mut open = client.open(alloc);
-    tell_replacement(&mut open, member, answer);
+    *answer = RegistryAnswer::of_replacement(member, open.replace(member));
     *back = ClientHandle::of(open);
 }
 
@@ -273,7 +242,7 @@ pub extern "C" fn registry_c_load(
         back.new.held }
 {
     let mut open = client.open(alloc);
-    tell_load(&mut open, member, answer);
+    *answer = RegistryAnswer::of_load(open.load(member));
     *back = ClientHandle::of(open);
 }
 
@@ -292,6 +261,6 @@ pub extern "C" fn registry_c_unload(
         back.new.held }
 {
     let mut open = client.open(alloc);
-    tell_unload(&mut open, base, answer);
+    *answer = RegistryAnswer::of_removal(open.unload(base));
     *back = ClientHandle::of(open);
 }

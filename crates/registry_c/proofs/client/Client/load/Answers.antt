@@ -1,11 +1,9 @@
-use Rattle.std.proofs.Common.{rules, ap, subst, sym, ◌∙◌}
+use Rattle.std.proofs.Common.{rules, ap, subst, sym}
 use Rattle.registry_c.proofs.Caches.{adds_none, by_load, goes_on}
 use Rattle.registry_core.specs.Begun.{TriesLoad}
-use Rattle.registry_c.proofs.Attempting.{loaded}
-use Rattle.registry_c.specs.Clients.{ClientData}
-use Rattle.registry_c.specs.Members.{IsGivenMember, given_member}
+use Rattle.registry_c.proofs.Attempting.{answer_of, loaded, may_add}
 use Rattle.registry_c.specs.Tries.{Begins}
-use Rattle.word_rule.specs.CallerData.{CallerData, WordsData}
+use Rattle.word_rule.specs.CallerData.{CallerData}
 use Rattle.registry_c.proofs.client.Client.load.Goals as goal
 
 pub invariant_of-self : goal.invariant_of-self
@@ -20,10 +18,8 @@ invariant_of-self-in-Err-load_by c =
 
 pub returns-in-Ok-load_by : goal.returns-in-Ok-load_by
 returns-in-Ok-load_by c =
-    let r = c.args.told.now in
     let k = c.load_by.new.me in
-    let member = c.in-Ok.ensures.member in
-    let may = subst (λ payloads. IsGivenMember payloads r) (c.self.invariant.1 ∙ ap (λ (z : ClientData). z.words.terms.payloads) c.self.view_is) member.1 in
+    let told = c.in-Ok.ensures.member in
+    let may = may_add c.args.told.now _ c.args.self.now _ c.self.invariant.1 c.self.view_is told.1 in
     let begun = subst (Begins c.args.self.now) (sym c.self-2.view_is) c.if-not-begin.ensures in
-    let answer = subst (λ m. TriesLoad c.deref.result.now.terms m c.self-2.inside.me k c.in-Ok-load_by.loading) member.0 c.in-Ok-load_by.ensures.answer in
-    loaded r c.args.self.now _ k may begun c.in-Ok-load_by.loading (subst (λ (z : WordsData). TriesLoad z.terms (given_member r) c.self-2.inside.me k c.in-Ok-load_by.loading) c.deref.ensures answer)
+    loaded c.args.told.now c.args.self.now _ k may begun c.in-Ok-load_by.loading (answer_of (λ t m. TriesLoad t m c.self-2.inside.me k c.in-Ok-load_by.loading) _ _ _ _ c.deref.ensures told.0 c.in-Ok-load_by.ensures.answer)

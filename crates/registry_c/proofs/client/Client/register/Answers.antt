@@ -1,11 +1,8 @@
-use Rattle.std.proofs.Common.{rules, ap, subst, sym, ◌∙◌}
+use Rattle.std.proofs.Common.{rules, subst, sym}
 use Rattle.registry_c.proofs.Caches.{by_insertion, goes_on}
 use Rattle.btree_change.specs.Insertion.{TriesInsertion}
-use Rattle.registry_c.proofs.Attempting.{gave_up, registered}
-use Rattle.registry_c.specs.Clients.{ClientData}
-use Rattle.registry_c.specs.Members.{IsGivenMember, given_member}
+use Rattle.registry_c.proofs.Attempting.{answer_of, gave_up, may_add, registered}
 use Rattle.registry_c.specs.Tries.{Begins}
-use Rattle.word_rule.specs.CallerData.{WordsData}
 use Rattle.registry_c.proofs.client.Client.register.Goals as goal
 
 pub invariant_of-self : goal.invariant_of-self
@@ -19,10 +16,8 @@ invariant_of-self-in-Err-register_by c =
 
 pub returns-in-Ok-register_by : goal.returns-in-Ok-register_by
 returns-in-Ok-register_by c =
-    let r = c.args.told.now in
     let k = c.register_by.new.me in
-    let member = c.in-Ok.ensures.member in
-    let may = subst (λ payloads. IsGivenMember payloads r) (c.self.invariant.1 ∙ ap (λ (z : ClientData). z.words.terms.payloads) c.self.view_is) member.1 in
+    let told = c.in-Ok.ensures.member in
+    let may = may_add c.args.told.now _ c.args.self.now _ c.self.invariant.1 c.self.view_is told.1 in
     let begun = subst (Begins c.args.self.now) (sym c.self-2.view_is) c.if-not-begin.ensures in
-    let answer = subst (λ m. TriesInsertion c.deref.result.now.terms m c.self-2.inside.me k c.in-Ok-register_by.inserted) member.0 c.in-Ok-register_by.ensures.answer in
-    registered r c.args.self.now _ k may begun c.in-Ok-register_by.inserted (subst (λ (z : WordsData). TriesInsertion z.terms (given_member r) c.self-2.inside.me k c.in-Ok-register_by.inserted) c.deref.ensures answer)
+    registered c.args.told.now c.args.self.now _ k may begun c.in-Ok-register_by.inserted (answer_of (λ t m. TriesInsertion t m c.self-2.inside.me k c.in-Ok-register_by.inserted) _ _ _ _ c.deref.ensures told.0 c.in-Ok-register_by.ensures.answer)

@@ -1,11 +1,8 @@
-use Rattle.std.proofs.Common.{rules, ap, subst, sym, ◌∙◌}
+use Rattle.std.proofs.Common.{rules, subst, sym}
 use Rattle.registry_c.proofs.Caches.{by_replacement, goes_on}
 use Rattle.btree_change.specs.Replacement.{TriesReplacement}
-use Rattle.registry_c.proofs.Attempting.{gave_up, given}
-use Rattle.registry_c.specs.Clients.{ClientData}
-use Rattle.registry_c.specs.Members.{IsGivenMember, given_member}
+use Rattle.registry_c.proofs.Attempting.{answer_of, gave_up, given, may_add}
 use Rattle.registry_c.specs.Tries.{Begins}
-use Rattle.word_rule.specs.CallerData.{WordsData}
 use Rattle.registry_c.proofs.client.Client.replace.Goals as goal
 
 pub invariant_of-self : goal.invariant_of-self
@@ -19,10 +16,8 @@ invariant_of-self-in-Err-replace_by c =
 
 pub returns-in-Ok-replace_by : goal.returns-in-Ok-replace_by
 returns-in-Ok-replace_by c =
-    let r = c.args.told.now in
     let k = c.replace_by.new.me in
-    let member = c.in-Ok.ensures.member in
-    let may = subst (λ payloads. IsGivenMember payloads r) (c.self.invariant.1 ∙ ap (λ (z : ClientData). z.words.terms.payloads) c.self.view_is) member.1 in
+    let told = c.in-Ok.ensures.member in
+    let may = may_add c.args.told.now _ c.args.self.now _ c.self.invariant.1 c.self.view_is told.1 in
     let begun = subst (Begins c.args.self.now) (sym c.self-2.view_is) c.if-not-begin.ensures in
-    let answer = subst (λ m. TriesReplacement c.deref.result.now.terms m c.self-2.inside.me k c.in-Ok-replace_by.replaced) member.0 c.in-Ok-replace_by.ensures.answer in
-    given r c.args.self.now _ k may begun c.in-Ok-replace_by.replaced (subst (λ (z : WordsData). TriesReplacement z.terms (given_member r) c.self-2.inside.me k c.in-Ok-replace_by.replaced) c.deref.ensures answer)
+    given c.args.told.now c.args.self.now _ k may begun c.in-Ok-replace_by.replaced (answer_of (λ t m. TriesReplacement t m c.self-2.inside.me k c.in-Ok-replace_by.replaced) _ _ _ _ c.deref.ensures told.0 c.in-Ok-replace_by.ensures.answer)
