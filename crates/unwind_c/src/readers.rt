@@ -26,12 +26,6 @@ fn make_another(reader: &mut FdeReader, alloc: Global, out: &mut FdeReaderHandle
     }
 }
 
-fn tell_found(reader: &mut FdeReader, pc: u64, found: &mut UnwindFound)
-    ensures { TellsFde pc found.new reader.old reader.new }
-{
-    *found = UnwindFound::of(reader.find(pc));
-}
-
 /// Makes another reader, which has seen what one has. Whether `out` has it: it hasn't where memory
 /// ran out.
 #[unsafe(no_mangle)]
@@ -77,6 +71,6 @@ pub extern "C" fn unwind_c_find(
     ensures { HandsBack (TellsFde pc found.new) reader.held back.new.held }
 {
     let mut open = reader.open(alloc);
-    tell_found(&mut open, pc, found);
+    *found = UnwindFound::of(open.find(pc));
     *back = FdeReaderHandle::of(open);
 }

@@ -49,33 +49,6 @@ fn register(
     Ok(Placed { answer, reach })
 }
 
-fn tell_registration(
-    writer: &mut FdeWriter,
-    alloc: Global,
-    given: &Given,
-    bytes: &[u8],
-    told: &mut UnwindTold,
-)
-    ensures { TellsSection
-        (RegistersBytes given.now.key given.now.note given.now.address bytes.now) bytes_told
-        told.new writer.old writer.new }
-{
-    *told = UnwindTold::of_bytes(register(writer, alloc, given, bytes));
-}
-
-fn tell_deregistration(writer: &mut FdeWriter, key: u64, told: &mut UnwindTold)
-    ensures { TellsSection (IsDeregistration key) deregistration_told told.new writer.old
-        writer.new }
-{
-    *told = UnwindTold::of_deregistration(writer.deregister(key));
-}
-
-fn tell_move(writer: &mut FdeWriter, into: &mut FdeWriter, key: u64, told: &mut UnwindTold)
-    ensures { TellsMove key into.old into.new told.new writer.old writer.new }
-{
-    *told = UnwindTold::of_moving(writer.move_to(into, key));
-}
-
 /// Registers the section whose bytes stand at an address, all of its FDEs that have addresses or
 /// none, under a key and with a note of the program's own.
 #[unsafe(no_mangle)]
@@ -96,7 +69,7 @@ pub extern "C" fn unwind_c_register(
 {
     let given = Given { key, note, address };
     let mut open = writer.open(alloc);
-    tell_registration(&mut open, alloc, &given, bytes, told);
+    *told = UnwindTold::of_bytes(register(&mut open, alloc, &given, bytes));
     *back = FdeWriterHandle::of(open);
 }
 
@@ -115,7 +88,7 @@ pub extern "C" fn unwind_c_deregister(
         writer.held back.new.held }
 {
     let mut open = writer.open(alloc);
-    tell_deregistration(&mut open, key, told);
+    *told = UnwindTold::of_deregistration(open.deregister(key));
     *back = FdeWriterHandle::of(open);
 }
 
@@ -140,7 +113,7 @@ pub extern "C" fn unwind_c_move(
 {
     let mut open = writer.open(alloc);
     let mut other = into.open(alloc);
-    tell_move(&mut open, &mut other, key, told);
+    *told = UnwindTold::of_moving(open.move_to(&mut other, key));
     *back = FdeWriterHandle::of(open);
     *into_back = FdeWriterHandle::of(other);
 }
