@@ -1,13 +1,14 @@
 /* The libraries that keep sections, in order: a section goes into the first that has room for it
- * and from which its FDEs are near. A full one is emptied into one eight times as large behind it,
- * each section put there before it is taken here: so a lookup, which goes along them, finds it. */
+ * and from which its FDEs are near. A full one is emptied into a larger one behind it, each section
+ * put there before it is taken here: so a lookup, which goes along them, finds it. One of the
+ * largest stays, and behind it one of MANY_NODES begins. */
 #include "dropin.h"
 #include <sched.h>
 #include <stdalign.h>
 #include <string.h>
 
-enum { FEWEST_NODES = 64, MOST_NODES = 16384, TIMES = 8, MOST_LOADS = 1024, MOST_LIBRARIES = 14 };
-enum { PATIENCE = 64, KEYS = 256 }; /* so many keys are listed at once */
+enum { FEWEST_NODES = 64, MANY_NODES = 4096, MOST_NODES = 16384, MOST_LOADS = 1024 };
+enum { MOST_LIBRARIES = 14, PATIENCE = 64, KEYS = 256 }; /* so many keys are listed at once */
 /* A library's FDEs stand so far above its `low` from their code: NEAR is within 2 GB of it. */
 static const uint64_t WINDOW = UINT32_MAX, HALF = (uint64_t)1 << 31, NEAR = -((uint64_t)1 << 31);
 
@@ -91,6 +92,15 @@ static void move_all(struct library *from, struct library *into) {
   }
 }
 
+/* How many nodes the library behind a full one gets. Their memory is taken at once, so where there
+ * are many not too many more. What is spent has to have room there, and what is largest stays. */
+static uint32_t nodes_behind(const struct library *full) {
+  const uint32_t nodes = full->limits.nodes;
+  if (nodes < MANY_NODES) return nodes * 8;
+  if (nodes < MOST_NODES / 3) return nodes * 3;
+  return nodes == MOST_NODES && full->refuses == UNWIND_FULL ? MANY_NODES : MOST_NODES;
+}
+
 /* How many bytes a section has, with the length of 0 at its end. */
 static size_t length_of(const struct record *begin) {
   const struct record *at = begin;
@@ -135,7 +145,7 @@ bool put_section(const struct section *section) {
       if (at->refuses != 0) {
         full = at;
         low = at->limits.low;
-        nodes = at->limits.nodes < MOST_NODES / TIMES ? at->limits.nodes * TIMES : MOST_NODES;
+        nodes = nodes_behind(at);
       } else if (told.kind == UNWIND_FAR && full == NULL) {
         const uint64_t distance = at->limits.low + told.distance;
         low = distance - NEAR < WINDOW ? NEAR : distance - HALF;
