@@ -1,5 +1,5 @@
 -- What is a lawful journal: records that hold, in any order.
-use Rattle.std.proofs.Common.{◌≡◌, ℕ, ◌+◌, List, [], ◌∷◌, length, map, sym, ◌∙◌, ap, subst, max}
+use Rattle.std.proofs.Common.{◌≡◌, ℕ, ◌+◌, List, [], ◌∷◌, length, sym, ◌∙◌, ap, subst, max}
 use Rattle.std.specs.List.{All, AllByRecursion, AllZip, flat_map}
 use Rattle.std.proofs.lemmas.List.Elements.{All-head, All-tail}
 use Rattle.reg_model.specs.State.{State}
@@ -15,7 +15,7 @@ use Rattle.event_script.specs.declared.script.Event.{Event}
 use Rattle.event_script.specs.Lawful.{IsLawfulJournal, AnswersEvent, IsUnfolded, thread_receipts, in_one, start_of, RoundsHold, AreInRounds, done_after}
 use Rattle.event_script.specs.declared.journal.Answer.{Answer}
 use Rattle.run_engine.specs.Played.{IsRightAnswer}
-use Rattle.run_engine.proofs.Lists.{AllZip-map, AllZip-weaker, AllZip-second}
+use Rattle.run_engine.proofs.Lists.{AllZip-weaker, AllZip-second}
 use Rattle.word_rule.proofs.Each.{all_append}
 
 -- the receipts of a round, thread by thread
@@ -58,11 +58,6 @@ records_lawful tell script journal history answered count is numbered holds roun
       rounds = rounds;
       unfolded = unfolded;
     }
-
-pub answered_play : {T U : Type 0} {E : Type 0} (R : E → Answer → Type 0) (answers_of : T → List Answer) (threads_of : U → List T) (events : List (List (List E))) (rounds : List U) → AllZip (λ threads round. AllZip (λ events thread. AllZip R events (answers_of thread)) threads (threads_of round)) events rounds → AllZip (AllZip (AllZip R)) events (map (λ round. map answers_of (threads_of round)) rounds)
-answered_play {T} {U} R answers_of threads_of events rounds answered =
-    AllZip-map (AllZip (AllZip R)) (λ round. map answers_of (threads_of round)) events rounds
-    (AllZip-weaker _ _ (λ threads round zipped. AllZip-map (AllZip R) answers_of threads (threads_of round) zipped) events rounds answered)
 
 -- right answers are their events', and their traces unfold
 module _ (sections : List SectionData) (snapshots : List SnapshotData) where

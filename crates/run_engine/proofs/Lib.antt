@@ -1,6 +1,6 @@
 pub mod Numbered
-pub mod Played
 pub mod Lists
+pub mod Told
 pub mod Chains
 pub mod Sharing
 pub mod Teams

@@ -1,5 +1,5 @@
 -- Lists beside lists.
-use Rattle.std.proofs.Common.{◌≡◌, ◌≤◌, ℕ, take, length-take, List, [], ◌∷◌, ◌++◌, length, map, refl, arith}
+use Rattle.std.proofs.Common.{◌≡◌, List, [], ◌∷◌, ◌++◌, length, refl, arith}
 use Rattle.std.specs.List.{All, AllZip}
 use Rattle.std.proofs.lemmas.List.Elements.{All-cons, All-from_recursion}
 
@@ -8,12 +8,6 @@ AllZip-more R [] [] a b front last = (last, tt)
 AllZip-more R (x ∷ xs) (y ∷ ys) a b front last = (front.0, AllZip-more R xs ys a b front.1 last)
 AllZip-more R [] (y ∷ ys) a b front last = absurd front
 AllZip-more R (x ∷ xs) [] a b front last = absurd front
-
-pub AllZip-map : {A B C : Type 0} (R : A → C → Type 0) (f : B → C) (xs : List A) (ys : List B) → AllZip (λ x y. R x (f y)) xs ys → AllZip R xs (map f ys)
-AllZip-map R f [] [] all = tt
-AllZip-map R f (x ∷ xs) (y ∷ ys) all = (all.0, AllZip-map R f xs ys all.1)
-AllZip-map R f [] (y ∷ ys) all = absurd all
-AllZip-map R f (x ∷ xs) [] all = absurd all
 
 pub AllZip-weaker : {A B : Type 0} (P R : A → B → Type 0) (weaker : (a : A) (b : B) → P a b → R a b) (xs : List A) (ys : List B) → AllZip P xs ys → AllZip R xs ys
 AllZip-weaker P R weaker [] [] all = tt
@@ -33,7 +27,3 @@ AllZip-second R P from [] [] all = All-from_recursion P [] tt
 AllZip-second R P from (x ∷ xs) (y ∷ ys) all = All-cons P y ys (from x y all.0) (AllZip-second R P from xs ys all.1)
 AllZip-second R P from [] (y ∷ ys) all = absurd all
 AllZip-second R P from (x ∷ xs) [] all = absurd all
-
--- beside the first items, at most as many as all of them
-pub AllZip-front : {A B : Type 0} (R : A → B → Type 0) (i : ℕ) (xs : List A) (ys : List B) → AllZip R (take i xs) ys → length ys ≤ length xs
-AllZip-front R i xs ys all = (let same = AllZip-length R (take i xs) ys all in let front = length-take i xs in omega arith)

@@ -1,4 +1,5 @@
 pub mod Statuses
 pub mod Outcome
 pub mod Played
+pub mod Kept
 pub mod Shared

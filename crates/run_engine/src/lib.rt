@@ -8,12 +8,14 @@
 #![tactic(auto)]
 
 mod gate;
+mod kept;
 mod rounds;
 mod running;
 mod scripts;
 mod setting;
 mod shared;
 mod status;
+mod telling;
 mod threads;
 mod writing;
 

@@ -5,16 +5,16 @@ ghost use Rattle.std.specs.List.{AllZip};
 ghost use Rattle.event_script.specs.Lawful.{receipts_of};
 ghost use Rattle.event_script.specs.ScriptData.{IsRound};
 ghost use Rattle.event_script.specs.declared.limits.TheConstants.{MOST_EVENTS, MOST_ROUNDS};
-ghost use Rattle.event_script.specs.declared.limits.TheConstants.{MOST_THREADS};
 ghost use Rattle.registry_core.specs.Rounds.{IsAfterRound, IsBetweenRounds};
-ghost use Rattle.run_engine.specs.Played.{AreImages, IsPlayedThread, IsRightAnswer};
-ghost use Rattle.run_engine.specs.Played.{round_updates, updates_in, updates_of};
+ghost use Rattle.run_engine.specs.Kept.{IsKeptRight, round_told, rounds_told};
+ghost use Rattle.run_engine.specs.Played.{AreImages, round_updates, updates_in, updates_of};
 ghost use Rattle.run_engine.specs.Shared.{IsAfterRounds, IsReady};
 
 use crate::gate::Gate;
+use crate::kept::KeptRound;
 use crate::setting::Setting;
 use crate::threads::{PlayedRound, Team, play_threads};
-use event_script::{Answer, Event, Round, Thread};
+use event_script::{Event, Round, Thread};
 use reg_model::NoMemory;
 use registry_core::Registry;
 use registry_core::laws::{
@@ -76,7 +76,7 @@ fn play_round<R: Threads + Wait + Sync, G: Gate + Sync>(
     registry: &Registry,
     me: &mut Caller,
     round: NumberedRound<'_>,
-) -> Result<Vec<Vec<Answer>>, NoMemory>
+) -> Result<KeptRound, NoMemory>
     requires images { AreImages setting.images.now setting.sections.now }
     requires round { IsRound (record {
       version = setting.version;
@@ -86,16 +86,14 @@ fn play_round<R: Threads + Wait + Sync, G: Gate + Sync>(
     requires ready { IsReady (length setting.images.now) registry.now me.old }
     requires between { IsBetweenRounds me.old }
     requires left { round_updates ≤ me.old.left }
-    ensures answered { IfOk result (λ answers. AllZip
-        (λ events thread. AllZip
-        (IsRightAnswer setting.entry.sections.now setting.entry.snapshots.now) events thread.items)
-        round.entry.threads.now answers.items) }
-    ensures after { IfOk result (λ answers. IsAfterRound
-        (map (λ thread. flat_map (receipts_of setting.entry.images.now) thread.items) answers.items)
+    ensures answered { IfOk result (λ kept. AllZip
+        (AllZip (IsKeptRight setting.entry.images.now setting.entry.sections.now
+        setting.entry.snapshots.now))
+        round.entry.threads.now kept) }
+    ensures after { IfOk result (λ kept. IsAfterRound
+        (map (λ answers. flat_map (receipts_of setting.entry.images.now) answers)
+        (round_told setting.entry.images.now round.entry.threads.now kept))
         me.old me.new) }
-    ensures played { IfOk result
-        (λ answers. (length answers.items ≤ MOST_THREADS)
-        × All (λ thread. IsPlayedThread thread.items) answers.items) }
     ensures left { IfOk result (λ _. me.old.left ≤ me.new.left + round_updates) }
 {
     // The laws that this rests on; they take no step.
@@ -107,9 +105,9 @@ fn play_round<R: Threads + Wait + Sync, G: Gate + Sync>(
     let callers = registry.split_each(alloc, me, &gives)?;
     let team = Team { registry, callers };
     let played = play_threads(rt, alloc, gate, number, setting, team, threads)?;
-    let PlayedRound { answers, callers } = played;
+    let PlayedRound { kept, callers } = played;
     registry.join_each(alloc, me, callers)?;
-    Ok(answers)
+    Ok(KeptRound { threads: kept })
 }
 
 /// Plays rounds, one after another.
@@ -121,7 +119,7 @@ pub fn play_shared<R: Threads + Wait + Sync, G: Gate + Sync>(
     registry: &Registry,
     me: &mut Caller,
     rounds: &[Round],
-) -> Result<Vec<Vec<Vec<Answer>>>, NoMemory>
+) -> Result<Vec<KeptRound>, NoMemory>
     requires images { AreImages setting.images.now setting.sections.now }
     requires rounds { (length rounds.now ≤ MOST_ROUNDS) × All (IsRound (record {
       version = setting.version;
@@ -131,33 +129,26 @@ pub fn play_shared<R: Threads + Wait + Sync, G: Gate + Sync>(
     requires ready { IsReady (length setting.images.now) registry.now me.old }
     requires between { IsBetweenRounds me.old }
     requires left { round_updates * length rounds.now ≤ me.old.left }
-    ensures answered { IfOk result (λ answers. AllZip
-        (λ threads round. AllZip
-        (λ events thread. AllZip
-        (IsRightAnswer setting.entry.sections.now setting.entry.snapshots.now) events thread.items)
-        threads round.items)
-        rounds.now answers.items) }
-    ensures after { IfOk result (λ answers. IsAfterRounds
+    ensures answered { IfOk result (λ kept. AllZip
+        (AllZip (AllZip (IsKeptRight setting.entry.images.now setting.entry.sections.now
+        setting.entry.snapshots.now)))
+        rounds.now kept.items) }
+    ensures after { IfOk result (λ kept. IsAfterRounds
         (map
-        (λ round. map
-        (λ thread. flat_map (receipts_of setting.entry.images.now) thread.items) round.items)
-        answers.items)
+        (λ round. map (λ answers. flat_map (receipts_of setting.entry.images.now) answers) round)
+        (rounds_told setting.entry.images.now rounds.now kept.items))
         me.old me.new) }
-    ensures played { IfOk result
-        (λ answers. (length answers.items ≤ MOST_ROUNDS)
-        × All (λ round. (length round.items ≤ MOST_THREADS)
-        × All (λ thread. IsPlayedThread thread.items) round.items) answers.items) }
 {
     // What held in earlier rounds goes on to hold; a law that takes no step.
     records_stay();
-    let mut answers = Vec::new(alloc);
+    let mut kept = Vec::new(alloc);
     for (index, round) in rounds.iter().enumerate() {
         let round = NumberedRound {
             number: index as u32 + 1,
             threads: &round.threads,
         };
         let played = play_round(rt, alloc, gate, setting, registry, me, round)?;
-        answers.push(played)?;
+        kept.push(played)?;
     }
-    Ok(answers)
+    Ok(kept)
 }

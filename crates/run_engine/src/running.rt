@@ -14,7 +14,7 @@ ghost use Rattle.run_engine.specs.Statuses.{ending_of};
 ghost use Rattle.run_ports.specs.declared.reading.TheConstants.{SCRIPT_LIMIT};
 
 use crate::gate::Gate;
-use crate::scripts::play_script;
+use crate::scripts::{play_kept, play_script};
 use crate::status::Status;
 use crate::writing::{write_journal, write_summary};
 use command_line::{Command, command_of};
@@ -168,11 +168,11 @@ fn run_source<R: Threads + Wait + Sync, S: Source, K: Sink, G: Gate + Sync>(
         Err(ScriptFault::NoMemory) => return Status::NoMemory,
     };
     drop(bytes);
-    let journal = match play_script(rt, alloc, gate, &script) {
-        Ok(journal) => journal,
+    let kept = match play_kept(rt, alloc, gate, &script) {
+        Ok(kept) => kept,
         Err(_) => return Status::NoMemory,
     };
-    match write_journal(alloc, sink, &journal) {
+    match write_journal(alloc, sink, &script, &kept) {
         Ok(()) => Status::Done,
         Err(SinkFault::Failed) => Status::WriteFault,
         Err(SinkFault::NoMemory) => Status::NoMemory,

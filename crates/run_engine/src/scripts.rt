@@ -1,16 +1,20 @@
 //! Plays a script against a registry that its threads share.
 
 ghost use Rattle.std.specs.Prelude.{◌≡◌, IfOk, OnOk, flat_map};
+ghost use Rattle.std.specs.List.{AllZip};
 ghost use Rattle.event_script.specs.Lawful.{IsLawfulJournal, thread_receipts};
 ghost use Rattle.registry_core.specs.Rounds.{IsBetweenRounds, joined_lists};
+ghost use Rattle.run_engine.specs.Kept.{IsKeptPrintable, journal_told};
 ghost use Rattle.run_engine.specs.Played.{IsPlayed};
 ghost use Rattle.run_engine.specs.Shared.{script_terms};
 ghost use Rattle.word_rule.specs.Logs.{first_log};
 ghost use Rattle.word_rule.specs.Places.{ALLOWANCE};
 
 use crate::gate::Gate;
+use crate::kept::KeptJournal;
 use crate::rounds::play_shared;
 use crate::setting::Setting;
+use crate::telling::tell_journal;
 use event_script::{Journal, Script, members_of};
 use reg_model::NoMemory;
 use reg_model::laws::numbers_tell_histories;
@@ -45,6 +49,38 @@ pub fn run_script<R: Threads + Wait + Sync, G: Gate + Sync>(
     ensures receipts { IfOk result (λ journal. joined_lists me.new.log.receipts
         ≡ flat_map (λ round. round) (thread_receipts script.now.images journal)) }
 {
+    let kept = run_kept(rt, alloc, script, registry, me, gate)?;
+    tell_journal(alloc, script, kept)
+}
+
+/// Plays a script, and keeps of its journal what the script doesn't tell.
+fn run_kept<R: Threads + Wait + Sync, G: Gate + Sync>(
+    rt: &R,
+    alloc: Global,
+    script: &Script,
+    registry: &Registry,
+    me: &mut Caller,
+    gate: &G,
+) -> Result<KeptJournal, NoMemory>
+    requires terms { registry.now.terms ≡ script_terms script.now }
+    requires caller { me.old
+        ≡ record {
+          table = registry.now.table;
+          left = ALLOWANCE;
+          log = first_log registry.now.terms;
+        } }
+    requires between { IsBetweenRounds me.old }
+    ensures lawful { IfOk result
+        (λ kept. IsLawfulJournal script.now (journal_told script.now kept)) }
+    ensures played { IfOk result (λ kept. IsPlayed (journal_told script.now kept).rounds) }
+    ensures printable { IfOk result
+        (λ kept. AllZip (AllZip (AllZip (IsKeptPrintable script.now.images))) script.now.rounds
+        kept.rounds) }
+    ensures between { OnOk result (IsBetweenRounds me.new) }
+    ensures receipts { IfOk result (λ kept. joined_lists me.new.log.receipts
+        ≡ flat_map (λ round. round)
+        (thread_receipts script.now.images (journal_told script.now kept))) }
+{
     // The laws that this rests on; they take no step.
     numbers_tell_histories();
     whole_logs_are_numbered();
@@ -56,7 +92,7 @@ pub fn run_script<R: Threads + Wait + Sync, G: Gate + Sync>(
     };
     let rounds = play_shared(rt, alloc, gate, setting, registry, me, &script.rounds)?;
     let updates = me.seen();
-    Ok(Journal { rounds, updates })
+    Ok(KeptJournal { rounds, updates })
 }
 
 /// Plays a script against a new registry, which its threads share.
@@ -69,8 +105,26 @@ pub fn play_script<R: Threads + Wait + Sync, G: Gate + Sync>(
     ensures lawful { IfOk result (λ journal. IsLawfulJournal script.now journal) }
     ensures played { IfOk result (λ journal. IsPlayed journal.rounds) }
 {
+    let kept = play_kept(rt, alloc, gate, script)?;
+    tell_journal(alloc, script, kept)
+}
+
+/// Plays a script against a new registry, and keeps of its journal what the script doesn't tell.
+pub fn play_kept<R: Threads + Wait + Sync, G: Gate + Sync>(
+    rt: &R,
+    alloc: Global,
+    gate: &G,
+    script: &Script,
+) -> Result<KeptJournal, NoMemory>
+    ensures lawful { IfOk result
+        (λ kept. IsLawfulJournal script.now (journal_told script.now kept)) }
+    ensures played { IfOk result (λ kept. IsPlayed (journal_told script.now kept).rounds) }
+    ensures printable { IfOk result
+        (λ kept. AllZip (AllZip (AllZip (IsKeptPrintable script.now.images))) script.now.rounds
+        kept.rounds) }
+{
     let fixed = members_of(alloc, &script.images, &script.fixed)?;
     let images = script.images.len() as u32;
     let (registry, mut me) = Registry::new(alloc, script.nodes, script.loads, images, fixed)?;
-    run_script(rt, alloc, script, &registry, &mut me, gate)
+    run_kept(rt, alloc, script, &registry, &mut me, gate)
 }

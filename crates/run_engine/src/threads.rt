@@ -1,6 +1,6 @@
 //! Plays the threads of a round side by side.
 
-ghost use Rattle.std.specs.Prelude.{◌≤◌, All, IfOk, flat_map, length, map};
+ghost use Rattle.std.specs.Prelude.{◌≡◌, ◌≤◌, IfOk, flat_map, length, map};
 ghost use Rattle.std.specs.List.{AllZip};
 ghost use Rattle.std.specs.Thread.{IsSync};
 ghost use Rattle.reg_model.specs.Chain.{Chain};
@@ -8,14 +8,15 @@ ghost use Rattle.event_script.specs.Lawful.{receipts_of};
 ghost use Rattle.event_script.specs.ScriptData.{IsRound, IsThread};
 ghost use Rattle.registry_core.specs.Calls.{Answered, Receives};
 ghost use Rattle.registry_core.specs.Rounds.{AreAnswered};
-ghost use Rattle.run_engine.specs.Played.{AreImages, IsPlayedThread, IsRightAnswer};
-ghost use Rattle.run_engine.specs.Played.{updates_in};
+ghost use Rattle.run_engine.specs.Kept.{IsKeptRight, round_told, thread_told};
+ghost use Rattle.run_engine.specs.Played.{AreImages, updates_in};
 ghost use Rattle.run_engine.specs.Shared.{AreManned, IsReady};
 
 use crate::gate::Gate;
+use crate::kept::{KeptThread, keep};
 use crate::setting::Setting;
 use crate::shared::SharedPlayer;
-use event_script::{Answer, Event, Thread};
+use event_script::{Event, Thread};
 use reg_model::NoMemory;
 use registry_core::Registry;
 use registry_core::laws::calls_follow;
@@ -31,7 +32,7 @@ pub struct ThreadNumber {
     pub thread: u32,
 }
 
-/// Plays the events of one thread, in order.
+/// Plays the events of one thread, in order. The gate sees each whole answer.
 fn play_thread<R: Wait, G: Gate>(
     rt: &R,
     alloc: Global,
@@ -40,7 +41,7 @@ fn play_thread<R: Wait, G: Gate>(
     setting: Setting<'_>,
     player: &mut SharedPlayer<'_>,
     events: &[Event],
-) -> Result<Vec<Answer>, NoMemory>
+) -> Result<KeptThread, NoMemory>
     requires images { AreImages setting.images.now setting.sections.now }
     requires thread { IsThread (record {
       version = setting.version;
@@ -50,12 +51,12 @@ fn play_thread<R: Wait, G: Gate>(
     requires left { updates_in events.now ≤ player.old.me.left }
     requires ready { IsReady (length setting.images.now) player.old.registry player.old.me }
     ensures answered { IfOk result
-        (λ answers. AllZip (IsRightAnswer setting.entry.sections.now setting.entry.snapshots.now)
-        events.now answers.items) }
+        (λ kept. AllZip (IsKeptRight setting.entry.images.now setting.entry.sections.now
+        setting.entry.snapshots.now) events.now kept) }
     ensures calls { IfOk result
-        (λ answers. Chain Receives player.old.me
-        (flat_map (receipts_of setting.entry.images.now) answers.items) player.new.me) }
-    ensures played { IfOk result (λ answers. IsPlayedThread answers.items) }
+        (λ kept. Chain Receives player.old.me
+        (flat_map (receipts_of setting.entry.images.now)
+        (thread_told setting.entry.images.now events.now kept)) player.new.me) }
 {
     let ThreadNumber { round, thread } = number;
     let mut answers = Vec::with_capacity(alloc, events.len())?;
@@ -64,9 +65,10 @@ fn play_thread<R: Wait, G: Gate>(
         gate.pass(rt, round, thread, count, None);
         let answer = player.play(rt, alloc, setting, *event)?;
         gate.pass(rt, round, thread, count, Some(&answer));
-        answers.push(answer)?;
+        let kept = keep(alloc, setting.images, answer)?;
+        answers.push(kept)?;
     }
-    Ok(answers)
+    Ok(KeptThread { answers })
 }
 
 /// Those who play a round: one caller of the registry for each thread.
@@ -76,17 +78,17 @@ pub struct Team<'a> {
     pub callers: Vec<Caller>,
 }
 
-/// What came of one thread: its answers, and its caller.
+/// What came of one thread: what is kept of its answers, and its caller.
 #[derive(Drop)]
 pub struct PlayedThread {
-    pub answers: Vec<Answer>,
+    pub kept: KeptThread,
     pub caller: Caller,
 }
 
-/// What came of a round: the answers of each thread, and its caller.
+/// What came of a round: what is kept of the answers of each thread, and its caller.
 #[derive(Drop)]
 pub struct PlayedRound {
-    pub answers: Vec<Vec<Answer>>,
+    pub kept: Vec<KeptThread>,
     pub callers: Vec<Caller>,
 }
 
@@ -109,20 +111,20 @@ fn play_alone<R: Wait, G: Gate>(
     requires ready { IsReady (length setting.images.now) player.registry player.me }
     requires left { updates_in events.now ≤ player.me.left }
     ensures answered { IfOk result
-        (λ played. AllZip (IsRightAnswer setting.entry.sections.now setting.entry.snapshots.now)
-        events.now played.answers.items) }
+        (λ played. AllZip (IsKeptRight setting.entry.images.now setting.entry.sections.now
+        setting.entry.snapshots.now) events.now played.kept) }
     ensures calls { IfOk result
         (λ played. Answered
-        (flat_map (receipts_of setting.entry.images.now) played.answers.items) player.entry.me
-        played.caller) }
-    ensures played { IfOk result (λ played. IsPlayedThread played.answers.items) }
+        (flat_map (receipts_of setting.entry.images.now)
+        (thread_told setting.entry.images.now events.now played.kept))
+        player.entry.me played.caller) }
 {
     // The law that this rests on; it takes no step.
     calls_follow();
     let mut player = player;
-    let answers = play_thread(rt, alloc, gate, number, setting, &mut player, events)?;
+    let kept = play_thread(rt, alloc, gate, number, setting, &mut player, events)?;
     let caller = player.into_caller();
-    Ok(PlayedThread { answers, caller })
+    Ok(PlayedThread { kept, caller })
 }
 
 /// Plays the threads of a round side by side: the last one here, and those before it beside it.
@@ -145,16 +147,14 @@ pub fn play_threads<R: Threads + Wait + Sync, G: Gate + Sync>(
         team.callers.items }
     ensures answered { IfOk result
         (λ played. AllZip
-        (λ events thread. AllZip
-        (IsRightAnswer setting.entry.sections.now setting.entry.snapshots.now) events thread.items)
-        threads.now played.answers.items) }
+        (AllZip (IsKeptRight setting.entry.images.now setting.entry.sections.now
+        setting.entry.snapshots.now))
+        threads.now played.kept.items) }
     ensures calls { IfOk result
         (λ played. AreAnswered
-        (map (λ thread. flat_map (receipts_of setting.entry.images.now) thread.items)
-        played.answers.items)
+        (map (λ answers. flat_map (receipts_of setting.entry.images.now) answers)
+        (round_told setting.entry.images.now threads.now played.kept.items))
         team.entry.callers.items played.callers.items) }
-    ensures played { IfOk result
-        (λ played. All (λ thread. IsPlayedThread thread.items) played.answers.items) }
 {
     let Setting {
         version,
@@ -168,7 +168,7 @@ pub fn play_threads<R: Threads + Wait + Sync, G: Gate + Sync>(
     } = team;
     let [before @ .., thread] = threads else {
         return Ok(PlayedRound {
-            answers: Vec::new(alloc),
+            kept: Vec::new(alloc),
             callers,
         });
     };
@@ -193,16 +193,13 @@ pub fn play_threads<R: Threads + Wait + Sync, G: Gate + Sync>(
                 (length images.now) registry.now before.now callers.items }
             ensures answered { IfOk result
                 (λ played. AllZip
-                (λ events thread. AllZip (IsRightAnswer sections.entry.now snapshots.entry.now)
-                events thread.items)
-                before.entry.now played.answers.items) }
+                (AllZip (IsKeptRight images.entry.now sections.entry.now snapshots.entry.now))
+                before.entry.now played.kept.items) }
             ensures calls { IfOk result
                 (λ played. AreAnswered
-                (map (λ thread. flat_map (receipts_of images.entry.now) thread.items)
-                played.answers.items)
+                (map (λ answers. flat_map (receipts_of images.entry.now) answers)
+                (round_told images.entry.now before.entry.now played.kept.items))
                 callers.items played.callers.items) }
-            ensures played { IfOk result
-                (λ played. All (λ thread. IsPlayedThread thread.items) played.answers.items) }
         {
             let setting = Setting {
                 version,
@@ -223,12 +220,14 @@ pub fn play_threads<R: Threads + Wait + Sync, G: Gate + Sync>(
                 events.now × IsReady (length images.now)
                 registry.now me × (updates_in events.now ≤ me.left) }
             ensures answered { IfOk result
-                (λ played. AllZip (IsRightAnswer sections.entry.now snapshots.entry.now)
-                events.entry.now played.answers.items) }
+                (λ played. AllZip
+                (IsKeptRight images.entry.now sections.entry.now snapshots.entry.now)
+                events.entry.now played.kept) }
             ensures calls { IfOk result
                 (λ played. Answered
-                (flat_map (receipts_of images.entry.now) played.answers.items) me played.caller) }
-            ensures played { IfOk result (λ played. IsPlayedThread played.answers.items) }
+                (flat_map (receipts_of images.entry.now)
+                (thread_told images.entry.now events.entry.now played.kept))
+                me played.caller) }
         {
             let setting = Setting {
                 version,
@@ -242,9 +241,9 @@ pub fn play_threads<R: Threads + Wait + Sync, G: Gate + Sync>(
     );
     let others = others?;
     let own = own?;
-    let mut answers = others.answers;
+    let mut kept = others.kept;
     let mut callers = others.callers;
-    answers.push(own.answers)?;
+    kept.push(own.kept)?;
     callers.push(own.caller)?;
-    Ok(PlayedRound { answers, callers })
+    Ok(PlayedRound { kept, callers })
 }

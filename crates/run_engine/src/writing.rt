@@ -1,16 +1,22 @@
 //! Writes a journal, a piece for each line.
 
-ghost use Rattle.std.specs.Prelude.{◌≡◌, ◌≢◌, ◌<◌, ◌≤◌, [], length, map, slice_index_or};
-ghost use Rattle.std.specs.Prelude.{All, OnOk, OnErr, Err};
-ghost use Rattle.event_script.specs.declared.limits.TheConstants.{MOST_ROUNDS, MOST_THREADS};
+ghost use Rattle.std.specs.Prelude.{◌≡◌, ◌≢◌, ◌<◌, [], length, map, slice_index_or};
+ghost use Rattle.std.specs.Prelude.{OnOk, OnErr, Err};
 ghost use Rattle.event_script.specs.Text.{IsPrintable, numbered, answer_text, thread_text};
+ghost use Rattle.event_script.specs.Text.{round_text};
 ghost use Rattle.event_script.specs.Text.{journal_text, answer_lines, event_line};
-ghost use Rattle.std.specs.List.{flat_map};
+ghost use Rattle.std.specs.List.{AllZip, flat_map};
 ghost use Rattle.script_generator.specs.Summaries.{summary_of, summary_text, IsCountable};
 ghost use Rattle.run_ports.specs.Ports.{Rose, Gains, GainsPart};
-ghost use Rattle.run_engine.specs.Played.{IsPlayedThread, IsPlayed};
+ghost use Rattle.run_engine.specs.Kept.{IsKeptPrintable, told, thread_told, round_told};
+ghost use Rattle.run_engine.specs.Kept.{rounds_told, journal_told};
 
-use event_script::{Answer, EventNumber, Journal, line_count, print_updates, put_event_line};
+use crate::kept::{KeptAnswer, KeptJournal, KeptRound, KeptThread, tell_short};
+use event_script::{
+    Answer, Event, EventNumber, Journal, Round, Script, Thread, line_count, print_updates,
+    put_event_line,
+};
+use reg_model::Span;
 use run_ports::{Sink, SinkFault, write_lines, write_piece};
 use script_generator::{print_summary, summary};
 use std::alloc::Global;
@@ -73,33 +79,86 @@ fn write_answer<K: Sink>(
     Ok(())
 }
 
-/// Writes the answers of a thread.
-fn write_thread<K: Sink>(
+/// An event, and what is kept of its answer.
+#[derive(Clone, Copy)]
+struct KeptEvent<'a> {
+    images: &'a [Span],
+    event: Event,
+    kept: &'a KeptAnswer,
+}
+
+/// Writes the lines of an event. A short form is told again for them.
+fn write_event<K: Sink>(
     text: &mut String,
     sink: &mut K,
-    round: usize,
-    thread: usize,
-    answers: &[Answer],
+    number: EventNumber,
+    event: KeptEvent<'_>,
 ) -> Result<(), SinkFault>
-    requires played { IsPlayedThread answers.now }
+    requires printable { IsKeptPrintable event.images.now event.event event.kept.now }
     requires sink { K.can_write sink.old }
     ensures goes_on { OnOk result (K.can_write sink.new) }
     ensures ok { OnOk result
         (Gains (K.written sink.old) (K.written sink.new)
-        (thread_text round thread answers.now)) }
+        (answer_text number.round number.thread number.event
+        (told event.entry.images.now event.entry.event event.entry.kept.now))) }
     ensures err { OnErr result
         (GainsPart (K.written sink.old) (K.written sink.new)
-        (thread_text round thread answers.now)) }
+        (answer_text number.round number.thread number.event
+        (told event.entry.images.now event.entry.event event.entry.kept.now))) }
     ensures failed { result ≡ Err SinkFault.Failed → Rose (K.faults sink.old) (K.faults sink.new) }
     ensures sound { result ≢ Err SinkFault.Failed → K.faults sink.new ≡ K.faults sink.old }
 {
-    for (index, answer) in answers.iter().enumerate() {
+    match event.kept {
+        KeptAnswer::Whole { answer } => write_answer(text, sink, number, answer),
+        _ => {
+            let told = tell_short(event.images, event.event, event.kept);
+            write_answer(text, sink, number, &told)
+        }
+    }
+}
+
+/// The events of a thread, and what is kept of their answers. Rounds and threads count from 1.
+#[derive(Clone, Copy)]
+struct ThreadPart<'a> {
+    round: usize,
+    thread: usize,
+    images: &'a [Span],
+    events: &'a [Event],
+    kept: &'a [KeptAnswer],
+}
+
+/// Writes the answers of a thread.
+fn write_thread<K: Sink>(
+    text: &mut String,
+    sink: &mut K,
+    part: ThreadPart<'_>,
+) -> Result<(), SinkFault>
+    requires printable { AllZip (IsKeptPrintable part.images.now) part.events.now part.kept.now }
+    requires sink { K.can_write sink.old }
+    ensures goes_on { OnOk result (K.can_write sink.new) }
+    ensures ok { OnOk result
+        (Gains (K.written sink.old) (K.written sink.new)
+        (thread_text part.entry.round part.entry.thread
+        (thread_told part.entry.images.now part.entry.events.now part.entry.kept.now))) }
+    ensures err { OnErr result
+        (GainsPart (K.written sink.old) (K.written sink.new)
+        (thread_text part.entry.round part.entry.thread
+        (thread_told part.entry.images.now part.entry.events.now part.entry.kept.now))) }
+    ensures failed { result ≡ Err SinkFault.Failed → Rose (K.faults sink.old) (K.faults sink.new) }
+    ensures sound { result ≢ Err SinkFault.Failed → K.faults sink.new ≡ K.faults sink.old }
+{
+    for (index, event) in part.events.iter().enumerate() {
         let number = EventNumber {
-            round,
-            thread,
+            round: part.round,
+            thread: part.thread,
             event: index + 1,
         };
-        match write_answer(text, sink, number, answer) {
+        let event = KeptEvent {
+            images: part.images,
+            event: *event,
+            kept: &part.kept[index],
+        };
+        match write_event(text, sink, number, event) {
             Ok(()) => {}
             Err(fault) => return Err(fault),
         }
@@ -107,28 +166,46 @@ fn write_thread<K: Sink>(
     Ok(())
 }
 
+/// The threads of a round, and what is kept of their answers. Rounds count from 1.
+#[derive(Clone, Copy)]
+struct RoundPart<'a> {
+    round: usize,
+    images: &'a [Span],
+    threads: &'a [Thread],
+    kept: &'a [KeptThread],
+}
+
 /// Writes the answers of a round.
 fn write_round<K: Sink>(
     text: &mut String,
     sink: &mut K,
-    round: usize,
-    threads: &[Vec<Answer>],
+    part: RoundPart<'_>,
 ) -> Result<(), SinkFault>
-    requires played { (length threads.now ≤ MOST_THREADS)
-        × All (λ answers. IsPlayedThread answers.items) threads.now }
+    requires printable { AllZip (AllZip (IsKeptPrintable part.images.now)) part.threads.now
+        part.kept.now }
     requires sink { K.can_write sink.old }
     ensures goes_on { OnOk result (K.can_write sink.new) }
     ensures ok { OnOk result
-        (Gains (K.written sink.old) (K.written sink.new) (numbered
-        (λ thread answers. thread_text round thread answers.items) 1 threads.now)) }
+        (Gains (K.written sink.old) (K.written sink.new)
+        (round_text part.entry.round
+        (round_told part.entry.images.now part.entry.threads.now part.entry.kept.now))) }
     ensures err { OnErr result
-        (GainsPart (K.written sink.old) (K.written sink.new) (numbered
-        (λ thread answers. thread_text round thread answers.items) 1 threads.now)) }
+        (GainsPart (K.written sink.old) (K.written sink.new)
+        (round_text part.entry.round
+        (round_told part.entry.images.now part.entry.threads.now part.entry.kept.now))) }
     ensures failed { result ≡ Err SinkFault.Failed → Rose (K.faults sink.old) (K.faults sink.new) }
     ensures sound { result ≢ Err SinkFault.Failed → K.faults sink.new ≡ K.faults sink.old }
 {
-    for (index, answers) in threads.iter().enumerate() {
-        match write_thread(text, sink, round, index + 1, answers) {
+    for (index, thread) in part.threads.iter().enumerate() {
+        let kept = &part.kept[index];
+        let events = ThreadPart {
+            round: part.round,
+            thread: index + 1,
+            images: part.images,
+            events: &thread.events,
+            kept: &kept.answers,
+        };
+        match write_thread(text, sink, events) {
             Ok(()) => {}
             Err(fault) => return Err(fault),
         }
@@ -137,31 +214,34 @@ fn write_round<K: Sink>(
 }
 
 /// Writes the answers of all rounds.
-fn write_rounds<K: Sink>(
+fn write_rounds<'a, K: Sink>(
     text: &mut String,
     sink: &mut K,
-    rounds: &[Vec<Vec<Answer>>],
+    images: &'a [Span],
+    rounds: &'a [Round],
+    kept: &'a [KeptRound],
 ) -> Result<(), SinkFault>
-    requires played { (length rounds.now ≤ MOST_ROUNDS)
-        × All (λ threads. (length threads.items ≤ MOST_THREADS)
-        × All (λ answers. IsPlayedThread answers.items) threads.items) rounds.now }
+    requires printable { AllZip (AllZip (AllZip (IsKeptPrintable images.now))) rounds.now kept.now }
     requires sink { K.can_write sink.old }
     ensures goes_on { OnOk result (K.can_write sink.new) }
     ensures ok { OnOk result
-        (Gains (K.written sink.old) (K.written sink.new) (numbered
-        (λ round threads. numbered
-        (λ thread answers. thread_text round thread answers.items) 1 threads.items) 1
-        rounds.now)) }
+        (Gains (K.written sink.old) (K.written sink.new)
+        (numbered round_text 1 (rounds_told images.now rounds.now kept.now))) }
     ensures err { OnErr result
-        (GainsPart (K.written sink.old) (K.written sink.new) (numbered
-        (λ round threads. numbered
-        (λ thread answers. thread_text round thread answers.items) 1 threads.items) 1
-        rounds.now)) }
+        (GainsPart (K.written sink.old) (K.written sink.new)
+        (numbered round_text 1 (rounds_told images.now rounds.now kept.now))) }
     ensures failed { result ≡ Err SinkFault.Failed → Rose (K.faults sink.old) (K.faults sink.new) }
     ensures sound { result ≢ Err SinkFault.Failed → K.faults sink.new ≡ K.faults sink.old }
 {
-    for (index, threads) in rounds.iter().enumerate() {
-        match write_round(text, sink, index + 1, threads) {
+    for (index, round) in rounds.iter().enumerate() {
+        let kept_round = &kept[index];
+        let threads = RoundPart {
+            round: index + 1,
+            images,
+            threads: &round.threads,
+            kept: &kept_round.threads,
+        };
+        match write_round(text, sink, threads) {
             Ok(()) => {}
             Err(fault) => return Err(fault),
         }
@@ -169,27 +249,37 @@ fn write_rounds<K: Sink>(
     Ok(())
 }
 
-/// Writes a journal, and at its end the number of updates.
+/// Writes the journal of a script by what was kept of it, and at its end the number of updates.
 pub fn write_journal<K: Sink>(
     alloc: Global,
     sink: &mut K,
-    journal: &Journal,
+    script: &Script,
+    kept: &KeptJournal,
 ) -> Result<(), SinkFault>
-    requires played { IsPlayed journal.now.rounds }
+    requires printable { AllZip (AllZip (AllZip (IsKeptPrintable script.now.images)))
+        script.now.rounds kept.now.rounds }
     requires sink { K.can_write sink.old }
     ensures ok { OnOk result
-        (Gains (K.written sink.old) (K.written sink.new) (journal_text journal.now)) }
+        (Gains (K.written sink.old) (K.written sink.new)
+        (journal_text (journal_told script.now kept.now))) }
     ensures err { OnErr result
-        (GainsPart (K.written sink.old) (K.written sink.new) (journal_text journal.now)) }
+        (GainsPart (K.written sink.old) (K.written sink.new)
+        (journal_text (journal_told script.now kept.now))) }
     ensures failed { result ≡ Err SinkFault.Failed → Rose (K.faults sink.old) (K.faults sink.new) }
     ensures sound { result ≢ Err SinkFault.Failed → K.faults sink.new ≡ K.faults sink.old }
 {
     let mut text = String::new(alloc);
-    match write_rounds(&mut text, sink, &journal.rounds) {
+    match write_rounds(
+        &mut text,
+        sink,
+        &script.images,
+        &script.rounds,
+        &kept.rounds,
+    ) {
         Ok(()) => {}
         Err(fault) => return Err(fault),
     }
-    let last = match print_updates(alloc, journal.updates) {
+    let last = match print_updates(alloc, kept.updates) {
         Ok(last) => last,
         Err(_) => return Err(SinkFault::NoMemory),
     };

@@ -1,7 +1,4 @@
-use Rattle.std.proofs.Common.{◌∙◌, arith}
-use Rattle.std.specs.List.{AllZip}
-use Rattle.run_engine.specs.Played.{IsRightAnswer}
-use Rattle.run_engine.proofs.Lists.{AllZip-length}
+use Rattle.std.proofs.Common.{◌∙◌}
 use Rattle.run_engine.proofs.Teams.{given_room, round_left, split_table, team_manned}
 use Rattle.run_engine.proofs.rounds.play_round.Goals as goal
 
@@ -15,11 +12,6 @@ play_threads-requires-clause-manned g c κs within =
 
 pub join_each-requires-clause-table : goal.join_each-requires-clause-table
 join_each-requires-clause-table g c = split_table c.deref.result.now c.args.registry.now c.args.me.now c.split_each.new.me c.in_ok-callers.ensures.me c.requires.ready.table
-
-pub returns-clause-played : goal.returns-clause-played
-returns-clause-played g c =
-    let count = AllZip-length (λ events thread. AllZip (IsRightAnswer c.args.setting.sections.now c.args.setting.snapshots.now) events thread.items) c.args.round.threads.now c.in_ok-played.played.answers.items c.in_ok-played.ensures.answered in
-    (let few = c.requires.round.0 in omega (arith, count, few), c.in_ok-played.ensures.played)
 
 pub returns-clause-left : goal.returns-clause-left
 returns-clause-left g c =

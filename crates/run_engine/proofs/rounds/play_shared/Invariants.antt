@@ -1,17 +1,16 @@
 use Rattle.std.proofs.Common.{◌+◌, ◌*◌, ◌≤◌, length, map, take}
-use Rattle.std.specs.List.{All, AllZip, flat_map}
+use Rattle.std.specs.List.{AllZip, flat_map}
 use Rattle.event_script.specs.Lawful.{receipts_of}
-use Rattle.event_script.specs.declared.limits.TheConstants.{MOST_THREADS}
-use Rattle.run_engine.specs.Played.{IsPlayedThread, IsRightAnswer, round_updates}
+use Rattle.run_engine.specs.Kept.{IsKeptRight, rounds_told}
+use Rattle.run_engine.specs.Played.{round_updates}
 use Rattle.run_engine.specs.Shared.{IsAfterRounds, IsReady}
 use Rattle.run_engine.proofs.rounds.play_shared.Given as goal
 
 -- the rounds so far are answered, and joined again
 abbrev pub invariant-loop-index : goal.invariant-loop-index
 invariant-loop-index g l = record {
-  answered : AllZip (λ threads round. AllZip (λ events thread. AllZip (IsRightAnswer l.setting.sections.now l.setting.snapshots.now) events thread.items) threads round.items) (take l.index l.rounds) l.answers.items;
-  after : IsAfterRounds (map (λ round. map (λ thread. flat_map (receipts_of l.setting.images.now) thread.items) round.items) l.answers.items) l.fn.me l.me;
-  played : All (λ round. (length round.items ≤ MOST_THREADS) × All (λ thread. IsPlayedThread thread.items) round.items) l.answers.items;
+  answered : AllZip (AllZip (AllZip (IsKeptRight l.setting.images.now l.setting.sections.now l.setting.snapshots.now))) (take l.index l.rounds) l.kept.items;
+  after : IsAfterRounds (map (λ round. map (λ answers. flat_map (receipts_of l.setting.images.now) answers) round) (rounds_told l.setting.images.now l.rounds l.kept.items)) l.fn.me l.me;
   ready : IsReady (length l.setting.images.now) l.registry l.me;
   left : l.fn.me.left ≤ l.me.left + round_updates * l.index;
 }

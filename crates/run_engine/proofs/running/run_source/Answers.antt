@@ -7,6 +7,7 @@ use Rattle.run_ports.specs.declared.reading.TheConstants.{SCRIPT_LIMIT}
 use Rattle.command_line.specs.CommandLine.{IsCommandLine}
 use Rattle.command_line.specs.declared.taking.Command.TheVariants.{Run}
 use Rattle.run_engine.specs.declared.status.Status.TheVariants as status
+use Rattle.run_engine.specs.Kept.{journal_told}
 use Rattle.run_engine.specs.Outcome.{IsDue}
 use Rattle.run_engine.specs.Statuses.{ending_of}
 use Rattle.run_ports.proofs.Endings.{ends_concluded}
@@ -40,15 +41,15 @@ returns-in-Err-Failed-write_journal-clause-ends g c = λ words is.
       failed refl,
       inr (
         status.Done,
-        journal_text c.in-Ok-play_script.journal,
+        journal_text (journal_told c.in-Ok-read.script c.in-Ok-play_kept.kept),
         (
           Run,
           is,
           record {
             script = c.in-Ok-read.script;
-            journal = c.in-Ok-play_script.journal;
+            journal = journal_told c.in-Ok-read.script c.in-Ok-play_kept.kept;
             spelled = IfSome-same _ bytes.items P (c.in-Ok.ensures.all within) (short, rw (← c.deref.ensures.value) c.in-Ok-read.ensures.ok);
-            lawful = c.in-Ok-play_script.ensures.lawful;
+            lawful = c.in-Ok-play_kept.ensures.lawful;
             text_is = refl;
           },
         ),
@@ -64,15 +65,15 @@ returns-clause-ends g c = λ words is.
     let P : List ℕ → Type 0 = λ had. (length had ≤ SCRIPT_LIMIT) × IsScript had c.in-Ok-read.script in
     inr (
       status.Done,
-      journal_text c.in-Ok-play_script.journal,
+      journal_text (journal_told c.in-Ok-read.script c.in-Ok-play_kept.kept),
       (
         Run,
         is,
         record {
           script = c.in-Ok-read.script;
-          journal = c.in-Ok-play_script.journal;
+          journal = journal_told c.in-Ok-read.script c.in-Ok-play_kept.kept;
           spelled = IfSome-same _ bytes.items P (c.in-Ok.ensures.all within) (short, rw (← c.deref.ensures.value) c.in-Ok-read.ensures.ok);
-          lawful = c.in-Ok-play_script.ensures.lawful;
+          lawful = c.in-Ok-play_kept.ensures.lawful;
           text_is = refl;
         },
       ),

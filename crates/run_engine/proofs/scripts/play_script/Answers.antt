@@ -1,25 +1,14 @@
-use Rattle.std.proofs.Common.{◌≡◌, ◌<◌, ℕ, List, length, map, ap₂, subst, sym, ◌∙◌, arith}
-use Rattle.std.specs.List.{AllByRecursion}
-use Rattle.reg_model.specs.SpanData.{SpanData, IsSpan}
-use Rattle.reg_model.specs.declared.span.Member.{Member}
-use Rattle.segment_array.specs.Ascending.{AscendFrom}
-use Rattle.event_script.specs.Lawful.{image_member}
-use Rattle.run_engine.proofs.Opening.{fixed_ascend, fixed_known}
+use Rattle.std.proofs.Common.{subst, sym}
+use Rattle.std.proofs.lemmas.Result.{IfOk-weaker}
+use Rattle.event_script.specs.JournalData.{JournalData}
+use Rattle.event_script.specs.Lawful.{IsLawfulJournal}
+use Rattle.run_engine.specs.Played.{IsPlayed}
 use Rattle.run_engine.proofs.scripts.play_script.Goals as goal
 
-pub new-requires-clause-ascending : goal.new-requires-clause-ascending
-new-requires-clause-ascending g c =
-    let images = c.script.inside.images.items in
-    let numbers = c.script.inside.fixed.items in
-    let fixed = c.in_ok-fixed.ensures ∙ ap₂ (λ (images : List SpanData) (numbers : List ℕ). map (image_member images) numbers) c.deref.ensures.value c.deref-2.ensures.value in
-    subst (AscendFrom 0) (sym fixed) (fixed_ascend images c.script.invariant.images.1 numbers c.script.invariant.fixed)
+pub returns-clause-lawful : goal.returns-clause-lawful
+returns-clause-lawful g c =
+    IfOk-weaker c.tell_journal.result _ _ (λ journal is. subst (IsLawfulJournal c.args.script.now) (sym is) c.in_ok-kept.ensures.lawful) c.tell_journal.ensures
 
-pub new-requires-clause-members : goal.new-requires-clause-members
-new-requires-clause-members g c =
-    let images = c.script.inside.images.items in
-    let numbers = c.script.inside.fixed.items in
-    let fixed = c.in_ok-fixed.ensures ∙ ap₂ (λ (images : List SpanData) (numbers : List ℕ). map (image_member images) numbers) c.deref.ensures.value c.deref-2.ensures.value in
-    let count : c.len-images.result ≡ length images = (let n = c.len-images.ensures in omega (arith, n, c.script.inside.images.ok.0)) in
-    let P : ℕ → Type 0 = λ n. AllByRecursion (λ (m : Member). IsSpan m.span × (m.payload < n)) c.in_ok-fixed.fixed.items in
-    let Q : List Member → Type 0 = λ members. AllByRecursion (λ (m : Member). IsSpan m.span × (m.payload < length images)) members in
-    subst P (sym count) (subst Q (sym fixed) (fixed_known images c.script.invariant.images.1 numbers c.script.invariant.fixed))
+pub returns-clause-played : goal.returns-clause-played
+returns-clause-played g c =
+    IfOk-weaker c.tell_journal.result _ _ (λ journal is. subst (λ (j : JournalData). IsPlayed j.rounds) (sym is) c.in_ok-kept.ensures.played) c.tell_journal.ensures

@@ -1,25 +1,20 @@
-use Rattle.std.proofs.Common.{◌≡◌, ap, ◌∙◌}
-use Rattle.word_rule.specs.CallerData.{CallerData}
-use Rattle.word_rule.specs.Logs.{first_log}
+use Rattle.std.proofs.Common.{◌≡◌, subst, sym}
+use Rattle.std.specs.List.{flat_map}
+use Rattle.std.proofs.lemmas.Result.{IfOk-weaker}
+use Rattle.event_script.specs.JournalData.{JournalData}
+use Rattle.event_script.specs.Lawful.{IsLawfulJournal, thread_receipts}
 use Rattle.registry_core.specs.Rounds.{joined_lists}
-use Rattle.run_engine.specs.Shared.{script_terms}
-use Rattle.run_engine.proofs.Played.{played_play}
-use Rattle.run_engine.proofs.SharedLawfulness.{receipts_joined, shared_lawful}
+use Rattle.run_engine.specs.Played.{IsPlayed}
 use Rattle.run_engine.proofs.scripts.run_script.Goals as goal
 
 pub returns-clause-lawful : goal.returns-clause-lawful
 returns-clause-lawful g c =
-    let first : c.args.me.now.log ≡ first_log (script_terms c.args.script.now) = ap (λ (k : CallerData). k.log) c.requires.caller ∙ ap first_log c.requires.terms in
-    let first' = rw (← c.script.view_is) at first in
-    rw (← c.script.view_is) (shared_lawful c.numbers_tell_histories.ensures c.whole_logs_are_numbered.ensures.numbers (λ thread. thread.items) (λ round. round.items) _ c.in_ok-rounds.rounds.items c.seen-updates.result c.args.me.now c.play_shared.new.me
-    first'
-    (rw (← c.deref-2.ensures.value, ← c.deref-3.ensures.value, ← c.deref-4.ensures.value) c.in_ok-rounds.ensures.answered)
-    (rw (← c.deref.ensures.value) c.in_ok-rounds.ensures.after)
-    c.seen-updates.ensures)
+    IfOk-weaker c.tell_journal.result _ _ (λ journal is. subst (IsLawfulJournal c.args.script.now) (sym is) c.in_ok-kept.ensures.lawful) c.tell_journal.ensures
 
 pub returns-clause-played : goal.returns-clause-played
-returns-clause-played g c = played_play (λ thread. thread.items) (λ round. round.items) c.in_ok-rounds.rounds.items c.in_ok-rounds.ensures.played
+returns-clause-played g c =
+    IfOk-weaker c.tell_journal.result _ _ (λ journal is. subst (λ (j : JournalData). IsPlayed j.rounds) (sym is) c.in_ok-kept.ensures.played) c.tell_journal.ensures
 
 pub returns-clause-receipts : goal.returns-clause-receipts
 returns-clause-receipts g c =
-    rw (← c.script.view_is) (receipts_joined c.script.inside.images.items (λ thread. thread.items) (λ round. round.items) c.in_ok-rounds.rounds.items c.seen-updates.result c.args.me.now c.play_shared.new.me (ap (λ (k : CallerData). joined_lists k.log.receipts) c.requires.caller) (rw (← c.deref.ensures.value) c.in_ok-rounds.ensures.after))
+    IfOk-weaker c.tell_journal.result _ _ (λ journal is. subst (λ (j : JournalData). joined_lists c.run_kept.new.me.log.receipts ≡ flat_map (λ round. round) (thread_receipts c.args.script.now.images j)) (sym is) c.in_ok-kept.ensures.receipts) c.tell_journal.ensures

@@ -1,0 +1,55 @@
+use Rattle.std.proofs.Common.{◌≡◌, ap, ◌∙◌}
+use Rattle.std.specs.List.{AllZip}
+use Rattle.word_rule.specs.CallerData.{CallerData}
+use Rattle.word_rule.specs.Logs.{first_log}
+use Rattle.registry_core.specs.Rounds.{joined_lists}
+use Rattle.run_engine.specs.Kept.{IsKeptRight, rounds_told}
+use Rattle.run_engine.specs.Shared.{script_terms}
+use Rattle.run_engine.proofs.SharedLawfulness.{receipts_joined, shared_lawful}
+use Rattle.run_engine.proofs.Told.{rounds_played, rounds_printable, rounds_right}
+use Rattle.run_engine.proofs.scripts.run_kept.Goals as goal
+
+pub returns-clause-lawful : goal.returns-clause-lawful
+returns-clause-lawful g c =
+    let images = c.script.inside.images.items in
+    let sections = c.script.inside.sections.items in
+    let snapshots = c.script.inside.snapshots.items in
+    let rounds = c.script.inside.rounds.items in
+    let kept = c.in_ok-rounds.rounds.items in
+    let first : c.args.me.now.log ≡ first_log (script_terms c.args.script.now) = ap (λ (k : CallerData). k.log) c.requires.caller ∙ ap first_log c.requires.terms in
+    let first' = rw (← c.script.view_is) at first in
+    let right : AllZip (AllZip (AllZip (IsKeptRight images sections snapshots))) rounds kept =
+    rw (← c.deref.ensures.value, ← c.deref-2.ensures.value, ← c.deref-3.ensures.value, ← c.deref-4.ensures.value) c.in_ok-rounds.ensures.answered in
+    rw (← c.script.view_is) (shared_lawful c.numbers_tell_histories.ensures c.whole_logs_are_numbered.ensures.numbers _ (rounds_told images rounds kept) c.seen-updates.result c.args.me.now c.play_shared.new.me
+    first'
+    (rounds_right images sections snapshots rounds kept right)
+    (rw (← c.deref.ensures.value, ← c.deref-4.ensures.value) c.in_ok-rounds.ensures.after)
+    c.seen-updates.ensures)
+
+pub returns-clause-played : goal.returns-clause-played
+returns-clause-played g c =
+    let images = c.script.inside.images.items in
+    let sections = c.script.inside.sections.items in
+    let snapshots = c.script.inside.snapshots.items in
+    let rounds = c.script.inside.rounds.items in
+    let kept = c.in_ok-rounds.rounds.items in
+    let right : AllZip (AllZip (AllZip (IsKeptRight images sections snapshots))) rounds kept =
+    rw (← c.deref.ensures.value, ← c.deref-2.ensures.value, ← c.deref-3.ensures.value, ← c.deref-4.ensures.value) c.in_ok-rounds.ensures.answered in
+    rw (← c.script.view_is) (rounds_played images sections snapshots _ rounds kept c.script.invariant.rounds right)
+
+pub returns-clause-printable : goal.returns-clause-printable
+returns-clause-printable g c =
+    let images = c.script.inside.images.items in
+    let sections = c.script.inside.sections.items in
+    let snapshots = c.script.inside.snapshots.items in
+    let rounds = c.script.inside.rounds.items in
+    let kept = c.in_ok-rounds.rounds.items in
+    let right : AllZip (AllZip (AllZip (IsKeptRight images sections snapshots))) rounds kept =
+    rw (← c.deref.ensures.value, ← c.deref-2.ensures.value, ← c.deref-3.ensures.value, ← c.deref-4.ensures.value) c.in_ok-rounds.ensures.answered in
+    rw (← c.script.view_is) (rounds_printable images sections snapshots rounds kept right)
+
+pub returns-clause-receipts : goal.returns-clause-receipts
+returns-clause-receipts g c =
+    let images = c.script.inside.images.items in
+    rw (← c.script.view_is) (receipts_joined images (rounds_told images c.script.inside.rounds.items c.in_ok-rounds.rounds.items) c.seen-updates.result c.args.me.now c.play_shared.new.me (ap (λ (k : CallerData). joined_lists k.log.receipts) c.requires.caller)
+    (rw (← c.deref.ensures.value, ← c.deref-4.ensures.value) c.in_ok-rounds.ensures.after))
