@@ -1,5 +1,5 @@
 -- What contracts see of the words, of a caller and of a note.
-use Rattle.std.specs.Prelude.{ℕ, ◌-◌, ◌*◌}
+use Rattle.std.specs.Prelude.{◌≡◌, ℕ, ◌-◌, ◌*◌}
 use Rattle.atomic_table.specs.Seated.{TableId}
 use Rattle.word_rule.specs.declared.log.Terms.{Terms}
 use Rattle.word_rule.specs.declared.log.Log.{Log}
@@ -23,6 +23,23 @@ due c = c.log.budget.allowance - c.left
 -- the releases that it may make beside those of the update calls that it may still begin
 abbrev pub surplus : CallerData → ℕ
 surplus c = c.log.budget.credit - CALL_CREDIT * c.left
+
+-- Whose a caller is stays as it was, and what it may begin: its table, its calls, its terms, its
+-- role, its names and whom it split off. It may have seen, loaded, stored, spent and locked more.
+pub record KeepsCaller (k k' : CallerData) : Type 0 where
+  pub table : k'.table ≡ k.table
+  pub left : k'.left ≡ k.left
+  pub terms : k'.log.terms ≡ k.log.terms
+  pub role : k'.log.role ≡ k.log.role
+  pub loader : k'.log.loader ≡ k.log.loader
+  pub made : k'.log.made ≡ k.log.made
+  pub lineage : k'.log.lineage ≡ k.log.lineage
+
+-- and what it has seen of the history, and its receipts
+pub record KeepsCalls (k k' : CallerData) : Type 0 where
+  pub caller : KeepsCaller k k'
+  pub past : k'.log.past ≡ k.log.past
+  pub receipts : k'.log.receipts ≡ k.log.receipts
 
 -- a note
 pub record NoteData : Type 0 where
