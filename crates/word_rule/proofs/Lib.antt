@@ -7,6 +7,7 @@ pub mod Spells
 pub mod Standing
 pub mod Lineages
 pub mod CallersFrame
+pub mod CallersKept
 pub mod NodesFrame
 pub mod ObservationsFrame
 pub mod Frames
