@@ -9,7 +9,7 @@ ghost use Rattle.btree_lookup.specs.Visits.{IsEntry, Way, entry_member};
 use crate::entry::{self, Entry};
 use crate::visit::{self, Visit};
 use reg_model::{Again, Found};
-use word_rule::places::{COUNT, LOWER};
+use word_rule::places::{COUNT, updates_at};
 use word_rule::{Ask, Looker, Words};
 
 /// The answer at a stamp.
@@ -48,7 +48,7 @@ fn leaf<L: Looker>(words: &Words, me: &mut L, visit: Visit, pc: u64) -> Result<F
     if second != visit.version {
         return Err(visit::changed(words, visit, second));
     }
-    Ok(answer(entry, (clock % LOWER) as u32))
+    Ok(answer(entry, updates_at(clock)))
 }
 
 /// Looks an address up once among the registered members: the one that contains it, at the stamp

@@ -11,7 +11,7 @@ ghost use Rattle.word_rule.specs.TreeRefusals.{AppendsRefusal};
 
 use crate::caller::Caller;
 use crate::log::{Ask, Log, Role};
-use crate::places::{CLOCK, LOWER};
+use crate::places::{CLOCK, LOWER, updates_at};
 use crate::rule::{Asking, LoadsClock, LoadsCopy, Publishes, StoresCopy, Updating};
 use crate::words::Words;
 use atomic_table::Seat;
@@ -48,7 +48,7 @@ impl Words {
         ensures rest { me.new ≡ record me.old { log = me.new.log } }
     {
         let found = self.load_clock_for::<Brand>(&mut me.seat, ask);
-        me.seen = (found % LOWER) as u32;
+        me.seen = updates_at(found);
         found
     }
 
@@ -103,7 +103,7 @@ impl Words {
         ensures rest { me.new ≡ record me.old { log = me.new.log } }
     {
         let found = self.publish_for::<Brand>(&mut me.seat, update);
-        me.seen = (found % LOWER) as u32 + 1;
+        me.seen = updates_at(found) + 1;
         me.seen
     }
 }

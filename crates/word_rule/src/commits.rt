@@ -6,7 +6,7 @@ ghost use Rattle.word_rule.specs.Commits.{AfterCommit, MayCommit};
 use crate::caller::Caller;
 use crate::clock::CLOCK_WORD;
 use crate::log::{Log, Role};
-use crate::places::LOWER;
+use crate::places::updates_at;
 use crate::rule::{Commits, Updating};
 use crate::words::Words;
 use atomic_table::Seat;
@@ -47,7 +47,7 @@ impl Words {
         ensures rest { me.new ≡ record me.old { log = me.new.log } }
     {
         let found = self.commit_for::<Brand>(&mut me.seat, update);
-        me.seen = (found % LOWER) as u32 + 1;
+        me.seen = updates_at(found) + 1;
         me.seen
     }
 }

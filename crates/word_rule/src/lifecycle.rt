@@ -9,7 +9,7 @@ ghost use Rattle.word_rule.specs.Callers.{IsAlone, IsWhole};
 
 use crate::caller::Caller;
 use crate::initial::initial_words;
-use crate::places::LOWER;
+use crate::places::updates_at;
 use crate::rule::Made;
 use crate::share::Share;
 use crate::words::Words;
@@ -85,6 +85,6 @@ impl Words {
         let closed = table.close_with(seat);
         let clock = closed.word(0);
         closed.free();
-        (clock % LOWER) as u32
+        updates_at(clock)
     }
 }

@@ -1,6 +1,8 @@
 //! The words of a node by their numbers, the kinds of nodes, the halves of the clock, and the bits
 //! of a version lock. Where each word of the table stands is stated in `specs/Places`, and what a
 //! node's words spell in `specs/Spelling`.
+ghost use Rattle.std.specs.Prelude.{◌≡◌};
+ghost use Rattle.word_rule.specs.Places.{lower};
 
 /// A node's words after its version: its kind, its level, its fences and its count.
 pub const KIND: u32 = 1;
@@ -37,6 +39,13 @@ pub const CLOCK: u32 = 0;
 /// What the lower half of the clock counts up to: accepted updates stand in it, publications of the
 /// loader in the upper half.
 pub const LOWER: u64 = 1 << 32;
+
+/// How many updates were accepted at a value of the clock.
+pub fn updates_at(clock: u64) -> u32
+    ensures { result ≡ lower clock }
+{
+    (clock % LOWER) as u32
+}
 
 /// The bit of a version word that is set while it is locked, and that which is set while threads
 /// sleep on it.

@@ -13,7 +13,7 @@ ghost use Rattle.word_rule.specs.Places.{copy_place, word_count};
 use crate::caller::Caller;
 use crate::clock::CLOCK_WORD;
 use crate::log::{Ask, Log};
-use crate::places::LOWER;
+use crate::places::updates_at;
 use crate::rule::{Enters, LoadsCopy, Reads};
 use crate::words::Words;
 use atomic_table::Seat;
@@ -81,7 +81,7 @@ impl Words {
         let (found, seat) = self.table.shared.load_new_seat::<Enters>(CLOCK_WORD);
         Reader {
             seat,
-            seen: (found % LOWER) as u32,
+            seen: updates_at(found),
         }
     }
 
@@ -93,7 +93,7 @@ impl Words {
         ensures rest { me.new ≡ record me.old { log = me.new.log } }
     {
         let found = self.load_clock_for::<Brand>(&mut me.seat, ask);
-        me.seen = (found % LOWER) as u32;
+        me.seen = updates_at(found);
         found
     }
 

@@ -1,4 +1,4 @@
-use Rattle.std.proofs.Common.{sym, subst}
+use Rattle.std.proofs.Common.{sym, subst, ◌∙◌}
 use Rattle.btree_lookup.specs.Tries.{EndsAgain}
 use Rattle.btree_lookup.proofs.Answering.{leaf_alone, leaf_changed, leaf_entry, leaf_found, terms}
 use Rattle.btree_lookup.proofs.lookup.leaf.Goals as goal
@@ -21,7 +21,7 @@ returns-clause-tries g c k bottom way =
     c.load_version-second.result (g.L.Looker.known c.load_version-second.new.self) c.load_version-second.ensures.log c.if-second-visit.false c.load_version-second.ensures.tells c.answer.result
     (c.answer.ensures.member (leaf_entry c.args.words.now.terms c.args.pc k c.args.visit bottom c.entry_at-entry.result (g.L.Looker.known c.entry_at-entry.new.me) w c.load_clock-clock.result (g.L.Looker.known c.load_clock-clock.new.self) c.load_clock-clock.ensures.log c.load_clock-clock.ensures.rest
     c.load_version-second.result (g.L.Looker.known c.load_version-second.new.self) c.load_version-second.ensures.log c.if-second-visit.false c.load_version-second.ensures.tells))
-    c.answer.ensures.stamp
+    (c.answer.ensures.stamp ∙ c.updates_at.ensures)
 
 pub returns-clause-terms : goal.returns-clause-terms
 returns-clause-terms g c k bottom way _ =
