@@ -36,10 +36,9 @@ use Rattle.btree_lookup.specs.Visits.{Agrees, IsEntry, Sees, SeesEntry, entry_me
 use Rattle.btree_lookup.specs.Ways.{AreLed}
 use Rattle.btree_lookup.specs.declared.entry.Entry.{Entry}
 use Rattle.btree_lookup.specs.declared.visit.Visit.{Visit}
-use Rattle.btree_lookup.proofs.Descending.{mark_keeps}
 use Rattle.btree_lookup.proofs.Loading.{come_in_order, last_loaded, led_more, more, still_led, version_led}
 use Rattle.btree_lookup.proofs.Visiting.{agrees, still_found, told_again}
-use Rattle.word_rule.proofs.NodeSights.{found_is, sight_changed}
+use Rattle.word_rule.proofs.NodeSights.{found_is, mark_keeps, sight_changed}
 
 -- what holds of all members holds of one that is found
 found_known : (P : Member → Type 0) (pc : ℕ) (members : List Member) (m : Member) → AllByRecursion P members → member_at pc members ≡ Some m → P m

@@ -1,5 +1,5 @@
 -- The step of a lookup from a node to its child, from what its loads of versions tell.
-use Rattle.std.proofs.Common.{◌≡◌, ◌≢◌, ℕ, ◌+◌, ◌%◌, ◌<◌, ◌==◌, Bool, true, false, cond, List, [], ◌∷◌, ◌++◌, length, length-append, map, option_map, Some, None, IfSome, refl, ap, sym, ◌∙◌, subst, arith, eq-eqb, ne_eqb, if◌then◌else◌}
+use Rattle.std.proofs.Common.{◌≡◌, ◌≢◌, ℕ, ◌+◌, ◌%◌, ◌<◌, ◌==◌, cond, List, [], ◌∷◌, ◌++◌, length, length-append, map, option_map, Some, None, IfSome, refl, ap, sym, ◌∙◌, subst, arith, eq-eqb, ne_eqb, if◌then◌else◌}
 use Rattle.std.proofs.lemmas.List.Elements.{Contains-append_left}
 use Rattle.reg_model.specs.declared.answer.Again.TheVariants.{Changed, Locked}
 use Rattle.word_rule.specs.declared.log.Ask.TheVariants as ask
@@ -21,14 +21,7 @@ use Rattle.btree_lookup.specs.declared.visit.Visit.{Visit}
 use Rattle.btree_lookup.proofs.Loading.{come_in_order, last_loaded, led_more, looked, sight_loaded, sights_then, still_led, version_led, version_loaded}
 use Rattle.btree_lookup.proofs.Sighting.{node_of_sight}
 use Rattle.btree_lookup.proofs.Visiting.{fails_so, none_held, still_found}
-use Rattle.word_rule.proofs.NodeSights.{sight_changed, without_other}
-
-pub mark_keeps : (parent s : NodeSight) → (mark_child parent s).node ≡ s.node
-mark_keeps parent s = go (s.node == parent.node)
-  where
-    go : (b : Bool) → (if b then s else record s { mark = or_mark (place_under s.node parent (place_of parent)) s.mark }).node ≡ s.node
-    go true = refl
-    go false = refl
+use Rattle.word_rule.proofs.NodeSights.{mark_keeps, sight_changed, without_other}
 
 module _ (t : Terms) (pc : ℕ) (k : CallerData) (visit : Visit) (counted child : ℕ) (k1 : CallerData) (c : SeesChild t pc k visit counted child k1) (inside : child < t.nodes) (version : ℕ) (k2 : CallerData)
     (begun : k2 ≡ record k1 { log = after_node_begin child version k1.log }) where

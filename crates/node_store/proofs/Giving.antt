@@ -23,7 +23,8 @@ use Rattle.node_store.specs.Locking.{FoundBusy}
 use Rattle.node_store.specs.declared.locking.Busy.TheVariants as busy
 use Rattle.node_store.proofs.Rounds.{contains_more}
 use Rattle.node_store.specs.Free.{GivesFree, IsSettled, IsUnlinked, LeavesOthers, LosesNode, PushesNode, StaysOut, after_freeing, after_links, after_setting, held_word, word_of_lock}
-use Rattle.node_store.proofs.HeldWrites.{and_false, held_changed, held_edited, plain_store}
+use Rattle.word_rule.proofs.Exchanging.{and_false}
+use Rattle.node_store.proofs.HeldWrites.{held_changed, held_edited, plain_store}
 use Rattle.node_store.proofs.Settled.{ExchangeLaw, freed_settled, settles_free, without_settled}
 
 -- A log has a node out that it holds, whose words are these.

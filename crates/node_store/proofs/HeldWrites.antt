@@ -11,6 +11,7 @@ use Rattle.word_rule.specs.Exchange.{after_exchange, group_of, is_lawful, settle
 use Rattle.word_rule.specs.Held.{edited, held_of, marked_in}
 use Rattle.word_rule.specs.Spelling.{node_word}
 use Rattle.word_rule.specs.Steps.{MayStore, after_node_store, frees, store_in, stored_log}
+use Rattle.word_rule.proofs.Exchanging.{and_false}
 use Rattle.node_store.specs.declared.writing.Store.{Store}
 use Rattle.node_store.specs.Holding.{AgreeUpto, after_node_stores}
 use Rattle.node_store.specs.Sights.{after_words}
@@ -84,10 +85,6 @@ IsStill s t = (t ≤ 33) ⊎ (kind_of_body s.body ≢ 2)
 
 above_one : (t : ℕ) → t ≤ 32 → place_in_turn t ≢ 1
 above_one t few e = never_again (place_in_turn t) (place_in_turn 33) (comes_before t 33 (omega (arith, few)) (omega arith)) e
-
-pub and_false : (b : Bool) → (b && false) ≡ false
-and_false true = refl
-and_false false = refl
 
 can_store : (s : NodeData) (words : List ℕ) (t : ℕ) (x : Store) → t < 35 → store_in_turn s words t ≡ Some x → IsStill s t
 can_store s words t x less is = go (nat_le t 33) refl

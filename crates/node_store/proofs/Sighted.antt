@@ -18,7 +18,7 @@ use Rattle.word_rule.specs.Spelling.{node_word, spelled, SpellsNode}
 use Rattle.node_store.specs.declared.sight.Sight.{Sight}
 use Rattle.node_store.specs.Sights.{AreLoaded, IsKept, IsLiveAs, after_words}
 use Rattle.word_rule.proofs.NodeVersions.{loaded_is}
-use Rattle.word_rule.proofs.NodeSights.{sight_changed, without_other, word_keeps}
+use Rattle.word_rule.proofs.NodeSights.{mark_keeps, sight_changed, without_other, word_keeps}
 
 -- two lists of words that agree on each
 same_words : (words others : List ℕ) → length words ≡ CONTENT_WORDS → length others ≡ CONTENT_WORDS → ((at : ℕ) → 1 ≤ at → at ≤ CONTENT_WORDS → node_word words at ≡ node_word others at) → words ≡ others
@@ -74,13 +74,6 @@ word_more n words at found v inside =
     ∙ ap (after_node_load n (suc at) found) others
     ∙ ap (λ value. after_node_load n (suc at) value (after_words n (set words at found) at v)) (sym here)
     ∙ ap (λ k. after_words n (set words at found) k v) (sym next)
-
-mark_keeps : (parent s : NodeSight) → (mark_child parent s).node ≡ s.node
-mark_keeps parent s = go (nat_eq s.node parent.node)
-  where
-    go : (b : Bool) → (if b then s else record s { mark = or_mark (place_under s.node parent (place_of parent)) s.mark }).node ≡ s.node
-    go true = refl
-    go false = refl
 
 mark_same : (parent s : NodeSight) → (mark_child parent s).version ≡ s.version
 mark_same parent s = go (nat_eq s.node parent.node)

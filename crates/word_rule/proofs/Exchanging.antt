@@ -13,7 +13,7 @@ use Rattle.tree_shape.specs.Numbers.{times, once, is_among}
 use Rattle.tree_shape.specs.Lawful.{IsTree, IsLawfulTree, IsFilled}
 use Rattle.tree_shape.specs.LocalChange.{either, reached_nodes, live_after, IsLocalChange, IsLawfulChange, IsSameChange, EntriesBecome}
 use Rattle.tree_shape.proofs.Reach.{within_set}
-use Rattle.tree_shape.proofs.Times.{times-append}
+use Rattle.tree_shape.proofs.Times.{times-append, once_most}
 use Rattle.word_rule.specs.declared.log.Terms.{Terms}
 use Rattle.word_rule.specs.declared.log.Holding.{Holding}
 use Rattle.word_rule.specs.declared.log.Log.{Log}
@@ -22,7 +22,7 @@ use Rattle.word_rule.specs.Held.{held_of, settled_shape, settled_in, now_in, is_
 use Rattle.word_rule.specs.Exchange.{is_fresh, exchanged_in, reached_in, is_reached, node_of, out_after, IsLawfulExchange}
 use Rattle.word_rule.specs.Callers.{total}
 use Rattle.word_rule.specs.Nodes.{Shadow, NodesHold, HoldsNode, IsPlaced}
-use Rattle.word_rule.proofs.Facts.{once_small, part_of_total}
+use Rattle.word_rule.proofs.Facts.{part_of_total}
 use Rattle.word_rule.proofs.Each.{held_is}
 use Rattle.word_rule.proofs.NodeLoads.{ltb_true}
 
@@ -35,7 +35,11 @@ pub record ChangeLaws : Type 0 where
   pub lawful : (f : Contents) (live : ℕ → Bool) (top : ℕ) (group fresh : ℕ → Bool) (g : Contents) → IsLawfulTree f live → IsLocalChange f live top group fresh g → AllByRecursion (λ n. IsFilled n (g n)) (reached_nodes top group fresh g) → IsLawfulTree g (live_after live top group fresh g)
   pub update : (f : Contents) (live : ℕ → Bool) (top : ℕ) (group fresh : ℕ → Bool) (g : Contents) (update : Option Update) → IsLawfulTree f live → IsLawfulChange f live top group fresh g update → EntriesBecome update (HasEntry f live) (HasEntry g (live_after live top group fresh g))
 
-both_true : (a b : Bool) → (a && b) ≡ true → (a ≡ true) × (b ≡ true)
+pub and_false : (b : Bool) → (b && false) ≡ false
+and_false true = refl
+and_false false = refl
+
+pub both_true : (a b : Bool) → (a && b) ≡ true → (a ≡ true) × (b ≡ true)
 both_true true b h = (refl, h)
 both_true false b h = absurd (true≢false (sym h))
 
@@ -187,7 +191,7 @@ module _ (laws : ChangeLaws) (t : Terms) (words : NodeWords) (views : List Log) 
       let some_times = among v.holdings.out k parts.1 in
       let below = part_of_total (λ z. times k z.holdings.out) views id v at in
       let all = r.each_once k in
-      let most = once_small (nat_lt k t.nodes) in
+      let most = once_most (nat_lt k t.nodes) in
       (by_live (tested (shadow.live k)) some_times below all most, omega (arith, some_times, below, all, most), omega (arith, some_times, below, all, most), omega (arith, some_times, below, all, most), omega (arith, some_times, below, all, most))
     where
       by_live : (shadow.live k ≡ true) ⊎ (shadow.live k ≡ false) → 0 < times k v.holdings.out → times k v.holdings.out ≤ total (λ z. times k z.holdings.out) views → once (shadow.live k) + times k shadow.free + total (λ z. times k z.holdings.out) views ≡ once (nat_lt k t.nodes) → once (nat_lt k t.nodes) ≤ 1 → shadow.live k ≡ false
@@ -316,7 +320,7 @@ module _ (laws : ChangeLaws) (t : Terms) (words : NodeWords) (views : List Log) 
         go (inl g) (inl f) reach o = absurd (true≢false (sym (group_lock k g).1.1 ∙ (fresh_out k f).0))
         go (inl g) (inr f) reach o =
             let lock = group_lock k g in let live_one : once (shadow.live k) ≡ 1 = ap once lock.1.1 in
-            let all = r.each_once k in let below = part_of_total (λ z. times k z.holdings.out) views id v at in let most = once_small (nat_lt k t.nodes) in
+            let all = r.each_once k in let below = part_of_total (λ z. times k z.holdings.out) views id v at in let most = once_most (nat_lt k t.nodes) in
             let none_out : times k v.holdings.out ≡ 0 = omega (arith, all, below, most, live_one) in
             let few = once_held k in let found = found_once k v.holdings.held (subst (λ o. IsSome o) (sym lock.1.0) refl) in let nodes = times_nodes k v.holdings.held in
             group_case g live_one none_out (omega (arith, few, found, nodes)) reach o f

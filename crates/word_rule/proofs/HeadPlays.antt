@@ -8,6 +8,7 @@ use Rattle.tree_shape.specs.NodeData.{NodeData, Link}
 use Rattle.tree_shape.specs.Trees.{Contents}
 use Rattle.tree_shape.specs.Numbers.{times, once}
 use Rattle.tree_shape.specs.Lawful.{IsTree}
+use Rattle.tree_shape.proofs.Times.{once_most}
 use Rattle.word_rule.specs.declared.log.Role.TheVariants as role
 use Rattle.word_rule.specs.declared.log.Terms.{Terms}
 use Rattle.word_rule.specs.declared.log.Holding.{Holding}
@@ -22,7 +23,7 @@ use Rattle.word_rule.specs.Nodes.{Shadow, HoldsNode, HoldingsHold, IsChain}
 use Rattle.word_rule.specs.TableInvariant.{TableInvariant}
 use Rattle.word_rule.specs.Plays.{Seated, FindsHead, pops, pushes}
 use prog.Atomic.{either}
-use Rattle.word_rule.proofs.Facts.{once_small, total_set, part_of_total, after_step}
+use Rattle.word_rule.proofs.Facts.{total_set, part_of_total, after_step}
 use Rattle.word_rule.proofs.Each.{all_map}
 use Rattle.word_rule.proofs.Memories.{by_same, set_head}
 use Rattle.word_rule.proofs.HeadLoads.{EntriesLaw, head_within, looked}
@@ -144,14 +145,14 @@ module _ (t : Terms) (slots id : ℕ) (me : Seated) (caller : me.0.role ≡ role
     out_once : times n me.0.holdings.out ≡ 1
     out_once =
         let some_times = ltb_true 0 (times n me.0.holdings.out) may.1 in let below = part_of_total (λ v. times n v.holdings.out) s.views id me.0 at in let all = r.memory.nodes.each_once n in
-        let most : once (nat_lt n t.nodes) ≤ 1 = once_small (nat_lt n t.nodes) in omega (arith, some_times, below, all, most)
+        let most : once (nat_lt n t.nodes) ≤ 1 = once_most (nat_lt n t.nodes) in omega (arith, some_times, below, all, most)
 
     not_root : n ≢ 0
     not_root e =
         let below = part_of_total (λ v. times 0 v.holdings.out) s.views id me.0 at in let all = r.memory.nodes.each_once 0 in
         let mine_once : times 0 me.0.holdings.out ≡ 1 = ap (λ k. times k me.0.holdings.out) (sym e) ∙ out_once in
         let live : once (r.memory.shadow.live 0) ≡ 1 = ap once (root r.memory.shadow.settled r.memory.shadow.live r.memory.nodes.lawful.tree) in
-        let most : once (nat_lt 0 t.nodes) ≤ 1 = once_small (nat_lt 0 t.nodes) in omega (arith, below, all, mine_once, live, most)
+        let most : once (nat_lt 0 t.nodes) ≤ 1 = once_most (nat_lt 0 t.nodes) in omega (arith, below, all, mine_once, live, most)
 
     chain : (memory_of t s.words).nodes.head ≡ first → IsChain (memory_of t s.words).nodes.contents n (n ∷ r.memory.shadow.free)
     chain head =

@@ -6,6 +6,7 @@ use Rattle.reg_model.specs.declared.answer.Update.{Update}
 use Rattle.std.specs.List.{AllByRecursion}
 use Rattle.tree_shape.specs.declared.node.Frame.{Frame}
 use Rattle.tree_shape.specs.Numbers.{once, times}
+use Rattle.tree_shape.proofs.Times.{once_most}
 use Rattle.word_rule.specs.declared.log.Terms.{Terms}
 use Rattle.word_rule.specs.declared.log.Holding.{Holding}
 use Rattle.word_rule.specs.declared.log.Log.{Log}
@@ -13,7 +14,7 @@ use Rattle.word_rule.specs.Memory.{NodeWords}
 use Rattle.word_rule.specs.Held.{held_of}
 use Rattle.word_rule.specs.Nodes.{Shadow, NodesHold, HoldsNode, IsPlaced}
 use Rattle.word_rule.specs.NodeTells.{KnowsTree, IsHeldNode, IsLiveNode, OutTells}
-use Rattle.word_rule.proofs.Facts.{once_small, part_of_total}
+use Rattle.word_rule.proofs.Facts.{part_of_total}
 use Rattle.word_rule.proofs.Each.{all_map}
 use Rattle.word_rule.proofs.Standing.{held_by}
 use Rattle.word_rule.proofs.NodeLoads.{ltb_true}
@@ -28,7 +29,7 @@ module _ (t : Terms) (words : NodeWords) (views : List Log) (history : List Upda
       go : (b : Bool) → shadow.live n ≡ b → shadow.live n ≡ false
       go false e = e
       go true e =
-          let below = part_of_total (λ v. times n v.holdings.out) views j u at in let all = r.each_once n in let most : once (nat_lt n t.nodes) ≤ 1 = once_small (nat_lt n t.nodes) in
+          let below = part_of_total (λ v. times n v.holdings.out) views j u at in let all = r.each_once n in let most : once (nat_lt n t.nodes) ≤ 1 = once_most (nat_lt n t.nodes) in
           let one : once (shadow.live n) ≡ 1 = ap once e in absurd (omega (arith, below, all, most, one, out))
 
   -- so it has no mark, and isn't the root

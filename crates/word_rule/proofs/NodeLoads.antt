@@ -15,6 +15,7 @@ use Rattle.tree_shape.specs.NodeData.{EntriesWithin, pairs_of, entries_of}
 use Rattle.tree_shape.specs.Trees.{Contents, nodes, entries, HasEntry}
 use Rattle.tree_shape.specs.Numbers.{times, once}
 use Rattle.tree_shape.specs.Lawful.{IsTree, IsLawfulTree}
+use Rattle.tree_shape.proofs.Times.{once_most}
 use Rattle.word_rule.specs.declared.log.Terms.{Terms}
 use Rattle.word_rule.specs.declared.log.Holding.{Holding}
 use Rattle.word_rule.specs.declared.log.CopySight.{CopySight}
@@ -41,7 +42,6 @@ use Rattle.word_rule.proofs.CallersFrame.{idle_stays}
 use Rattle.word_rule.proofs.ObservationsFrame.{observations_own, longer_length}
 use Rattle.word_rule.proofs.Frames.{Sit, still_after_load}
 use Rattle.word_rule.proofs.Quiet.{quiet}
-use Rattle.word_rule.proofs.Facts.{once_small}
 
 pub leb_true : (a b : ℕ) → nat_le a b ≡ true → a ≤ b
 leb_true a b h = go (dec_le a b)
@@ -148,7 +148,7 @@ module _ (t : Terms) (slots id : ℕ) (me : Seated) (live : is_gone me.0.role �
   few_nodes : (s : Sit) (r : Holds s) → length (nodes r.memory.shadow.settled) ≤ t.nodes
   few_nodes s r =
       let all = tally_all (nodes r.memory.shadow.settled) t.nodes (λ k far. let one = each_live k in let past : once (nat_lt k t.nodes) ≡ 0 = ap once (le-ltb k t.nodes far) in omega (arith, one, past)) in
-      let few = tally_ones (λ k. times k (nodes r.memory.shadow.settled)) t.nodes (λ k. let one = each_live k in let small = once_small (nat_lt k t.nodes) in omega (arith, one, small)) in omega (arith, all, few)
+      let few = tally_ones (λ k. times k (nodes r.memory.shadow.settled)) t.nodes (λ k. let one = each_live k in let small = once_most (nat_lt k t.nodes) in omega (arith, one, small)) in omega (arith, all, few)
     where
       each_live : (k : ℕ) → times k (nodes r.memory.shadow.settled) ≤ once (nat_lt k t.nodes)
       each_live k = let reached = r.memory.nodes.lawful.tree.reached k in let all = r.memory.nodes.each_once k in omega (arith, reached, all)

@@ -5,7 +5,7 @@ use Rattle.reg_model.specs.Receipt.{member_of, stamp_of}
 use Rattle.reg_model.specs.declared.answer.Found.{Found}
 use Rattle.reg_model.specs.declared.answer.Found.TheVariants.{Hit, Miss}
 use Rattle.reg_model.specs.declared.answer.Receipt.{Receipt}
-use Rattle.word_rule.specs.Sights.{found_at, receipts_after_version, sight_of, try_receipts, with_word, without_sight}
+use Rattle.word_rule.specs.Sights.{found_at, mark_child, or_mark, place_of, place_under, receipts_after_version, sight_of, try_receipts, with_word, without_sight}
 use Rattle.word_rule.specs.declared.log.Ask.TheVariants as ask
 use Rattle.word_rule.specs.declared.log.Log.{Log}
 use Rattle.word_rule.specs.declared.log.NodeSight.{NodeSight}
@@ -24,6 +24,14 @@ pub word_keeps : (n at value : ℕ) (s : NodeSight) → (with_word n at value s)
 word_keeps n at value s = go (nat_eq s.node n)
   where
     go : (b : Bool) → (if b then record s { words = record { at = at; value = value } ∷ s.words } else s).node ≡ s.node
+    go true = refl
+    go false = refl
+
+-- a sight that its parent's sight marks
+pub mark_keeps : (parent s : NodeSight) → (mark_child parent s).node ≡ s.node
+mark_keeps parent s = go (nat_eq s.node parent.node)
+  where
+    go : (b : Bool) → (if b then s else record s { mark = or_mark (place_under s.node parent (place_of parent)) s.mark }).node ≡ s.node
     go true = refl
     go false = refl
 

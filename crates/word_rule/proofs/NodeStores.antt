@@ -8,6 +8,7 @@ use Rattle.atomic_table.specs.Table.{step, keeps, Allows}
 use Rattle.atomic_table.proofs.Lists.{set_here}
 use Rattle.tree_shape.specs.declared.node.Frame.{Frame}
 use Rattle.tree_shape.specs.Numbers.{times, once, is_among}
+use Rattle.tree_shape.proofs.Times.{once_most}
 use Rattle.word_rule.specs.declared.log.Role.TheVariants as role
 use Rattle.word_rule.specs.declared.log.Terms.{Terms}
 use Rattle.word_rule.specs.declared.log.Holding.{Holding}
@@ -24,7 +25,7 @@ use Rattle.word_rule.specs.Nodes.{Shadow, NodesHold, HoldsNode, HoldingsHold, Is
 use Rattle.word_rule.specs.Observations.{SightHolds}
 use Rattle.word_rule.specs.TableInvariant.{TableInvariant}
 use Rattle.word_rule.specs.Plays.{Seated, stores_node}
-use Rattle.word_rule.proofs.Facts.{once_small, total_same, part_of_total, after_step, set_twice, within}
+use Rattle.word_rule.proofs.Facts.{total_same, part_of_total, after_step, set_twice, within}
 use Rattle.word_rule.proofs.Each.{all_both, all_map, some_with}
 use Rattle.word_rule.proofs.Memories.{set_content}
 use Rattle.word_rule.proofs.Standing.{locked_is_odd, held_by}
@@ -93,13 +94,13 @@ module _ (t : Terms) (id : ℕ) (v : Log) (caller : v.role ≡ role.Caller) (n a
       dead : (b : Bool) → r.memory.shadow.live n ≡ b → 0 < times n v.holdings.out → r.memory.shadow.live n ≡ false
       dead false e out = e
       dead true e out =
-          let below = part_of_total (λ u. times n u.holdings.out) s.views id v here in let all = r.memory.nodes.each_once n in let most : once (nat_lt n t.nodes) ≤ 1 = once_small (nat_lt n t.nodes) in
+          let below = part_of_total (λ u. times n u.holdings.out) s.views id v here in let all = r.memory.nodes.each_once n in let most : once (nat_lt n t.nodes) ≤ 1 = once_most (nat_lt n t.nodes) in
           let one : once (r.memory.shadow.live n) ≡ 1 = ap once e in absurd (omega (arith, below, all, most, one, out))
 
   -- so it isn't free
   not_free : times n r.memory.shadow.free ≡ 0
   not_free =
-      let below = part_of_total (λ u. times n u.holdings.out) s.views id v here in let all = r.memory.nodes.each_once n in let most : once (nat_lt n t.nodes) ≤ 1 = once_small (nat_lt n t.nodes) in
+      let below = part_of_total (λ u. times n u.holdings.out) s.views id v here in let all = r.memory.nodes.each_once n in let most : once (nat_lt n t.nodes) ≤ 1 = once_most (nat_lt n t.nodes) in
       ⊎_elim (λ (l : IsTrue (r.memory.shadow.live n)). (let one : once (r.memory.shadow.live n) ≡ 1 = ap once l in omega (arith, below, all, most, one)))
       (λ (o : (0 < times n v.holdings.out) × (r.memory.shadow.live n ≡ false)). (let out = o.0 in omega (arith, below, all, most, out))) place_is
 
@@ -136,7 +137,7 @@ module _ (t : Terms) (id : ℕ) (v : Log) (caller : v.role ≡ role.Caller) (n a
           out_live : IsTrue (r.memory.shadow.live n) → IsTrue (is_among v.holdings.out n) → ⊥
           out_live l o =
               let some_times = ltb_true 0 (times n v.holdings.out) o in
-              let below = part_of_total (λ u. times n u.holdings.out) s.views id v here in let all = r.memory.nodes.each_once n in let most : once (nat_lt n t.nodes) ≤ 1 = once_small (nat_lt n t.nodes) in
+              let below = part_of_total (λ u. times n u.holdings.out) s.views id v here in let all = r.memory.nodes.each_once n in let most : once (nat_lt n t.nodes) ≤ 1 = once_most (nat_lt n t.nodes) in
               let one : once (r.memory.shadow.live n) ≡ 1 = ap once l in omega (arith, some_times, below, all, most, one)
       go (no ne) = rw (ne_eqb h.node n ne) (other_lock id h ne k)
         where
