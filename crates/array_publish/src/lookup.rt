@@ -9,7 +9,7 @@ ghost use Rattle.array_publish.specs.Lookup.{LooksUp};
 use crate::fixed;
 use crate::walk::{self, Listed};
 use reg_model::{Again, Found};
-use word_rule::places::{CLOCK, LOWER};
+use word_rule::places::{CLOCK, LOWER, updates_at};
 use word_rule::{Ask, Looker, Words};
 
 /// The fixed member that contains the address, or else the one that a copy lists.
@@ -62,5 +62,5 @@ pub fn try_object<L: Looker>(words: &Words, me: &mut L, pc: u64) -> Result<Found
             second,
         });
     }
-    Ok(answer(object, (second % LOWER) as u32))
+    Ok(answer(object, updates_at(second)))
 }

@@ -15,7 +15,7 @@ use crate::writing::{
     ActiveCopy, Change, active_member, active_word, ending_below, starts_of, write_copy,
 };
 use reg_model::{Loading, Member, Removed, Span, Update};
-use word_rule::places::LOWER;
+use word_rule::places::{LOWER, updates_at};
 use word_rule::{Ask, Caller, Words};
 
 /// The active copy, and how many members it lists. The other one is a publication behind it, as
@@ -153,13 +153,13 @@ pub fn load_held(words: &Words, me: &mut Caller, member: &Member) -> Loading
         let clock = words.load_clock(me, Ask::Refused { update });
         return Loading::Overlap {
             member: other,
-            stamp: (clock % LOWER) as u32,
+            stamp: updates_at(clock),
         };
     }
     if active.count == words.loads() {
         let clock = words.load_clock(me, Ask::Refused { update });
         return Loading::LoadFull {
-            stamp: (clock % LOWER) as u32,
+            stamp: updates_at(clock),
         };
     }
     let change = Change::Put {
@@ -186,7 +186,7 @@ pub fn unload_held(words: &Words, me: &mut Caller, base: u64) -> Removed
     let Some(member) = beginning_at(words, me, &active, place, base) else {
         let clock = words.load_clock(me, Ask::Refused { update });
         return Removed::NotFound {
-            stamp: (clock % LOWER) as u32,
+            stamp: updates_at(clock),
         };
     };
     let change = Change::Take { place };

@@ -2,10 +2,12 @@ use Rattle.std.proofs.Common.{◌≡◌, ◌<◌, ◌⊎◌, inr, List, sym, ap,
 use Rattle.std.proofs.lemmas.List.Elements.{All-append}
 use Rattle.reg_model.specs.SpanData.{Overlaps}
 use Rattle.reg_model.specs.declared.span.Member.{Member}
+use Rattle.reg_model.specs.declared.answer.Loading.TheVariants as loading
 use Rattle.reg_model.specs.declared.answer.Update.TheVariants as update
 use Rattle.word_rule.specs.CallerData.{CallerData, WordsData}
 use Rattle.word_rule.specs.Copies.{IsBehind, ListsMembers}
 use Rattle.array_publish.specs.Holders.{active_words, member_in, spare_words}
+use Rattle.array_publish.specs.Update.{AnswersLoad}
 use Rattle.array_publish.specs.Writing.{EndsBelow}
 use Rattle.array_publish.specs.declared.writing.ActiveCopy.{ActiveCopy}
 use Rattle.array_publish.proofs.Answering.{may_refuse, overlap_so, full_so, published_so, may_publish, free_listed, works_then, is_held, holds_of, stays_clean}
@@ -25,8 +27,9 @@ returns-in-Some-clause-answer c =
     let two = knows_stays w a (spare_words k1.log.loader) k1 k2 one c.ending_below-place.ensures.same (spare_wide w a.starts.copy k1 one.holder) in
     let three = knows_stays w a (spare_words k2.log.loader) k2 k3 two c.lowest_overlap.ensures.same (spare_wide w a.starts.copy k2 two.holder) in
     let works = works_then (spare_words k2.log.loader) c.args.me.now k2 k3 (works_then (spare_words k1.log.loader) c.args.me.now k1 k2 c.active_copy-active.ensures.works c.ending_below-place.ensures.same) c.lowest_overlap.ensures.same in
-    overlap_so w.terms c.args.me.now k3 c.load_clock-clock.new.me c.load_clock-clock.result c.args.member.now works (stays_clean c.args.me.now k1 k2 k3 c.active_copy-active.ensures.kept c.ending_below-place.ensures.kept c.lowest_overlap.ensures.kept c.requires.clean) c.load_clock-clock.ensures.log c.load_clock-clock.ensures.rest c.in-Some.other
-    (λ xs lists. c.in-Some.ensures.found xs (subst (λ ws. ListsMembers ws xs) (spells_active (spare_words k2.log.loader) k2 k3 c.lowest_overlap.ensures.same) lists))
+    subst (λ stamp. AnswersLoad w.terms c.args.member.now c.args.me.now c.load_clock-clock.new.me (loading.Overlap c.in-Some.other stamp)) (sym c.updates_at.ensures)
+    (overlap_so w.terms c.args.me.now k3 c.load_clock-clock.new.me c.load_clock-clock.result c.args.member.now works (stays_clean c.args.me.now k1 k2 k3 c.active_copy-active.ensures.kept c.ending_below-place.ensures.kept c.lowest_overlap.ensures.kept c.requires.clean) c.load_clock-clock.ensures.log c.load_clock-clock.ensures.rest c.in-Some.other
+    (λ xs lists. c.in-Some.ensures.found xs (subst (λ ws. ListsMembers ws xs) (spells_active (spare_words k2.log.loader) k2 k3 c.lowest_overlap.ensures.same) lists)))
 
 pub load_clock-clock-requires-then-active-loads-clause-ask : goal.load_clock-clock-requires-then-active-loads-clause-ask
 load_clock-clock-requires-then-active-loads-clause-ask c =
@@ -55,10 +58,11 @@ returns-then-active-loads-clause-answer c =
     let active2 = spells_active (spare_words k1.log.loader) k1 k2 c.ending_below-place.ensures.same in
     let active3 = spells_active (spare_words k2.log.loader) k2 k3 c.lowest_overlap.ensures.same in
     let begin = subst (λ ws. (c.ending_below-place.result ≡ a.count) ⊎ (c.args.member.now.span.last < (member_in ws c.ending_below-place.result).span.first)) active2 none.1 in
-    full_so w.terms c.args.me.now k3 c.load_clock-clock-then-active-loads.new.me c.load_clock-clock-then-active-loads.result c.args.member.now works (stays_clean c.args.me.now k1 k2 k3 c.active_copy-active.ensures.kept c.ending_below-place.ensures.kept c.lowest_overlap.ensures.kept c.requires.clean) c.load_clock-clock-then-active-loads.ensures.log c.load_clock-clock-then-active-loads.ensures.rest
+    subst (λ stamp. AnswersLoad w.terms c.args.member.now c.args.me.now c.load_clock-clock-then-active-loads.new.me (loading.LoadFull stamp)) (sym c.updates_at-then-active-loads.ensures)
+    (full_so w.terms c.args.me.now k3 c.load_clock-clock-then-active-loads.new.me c.load_clock-clock-then-active-loads.result c.args.member.now works (stays_clean c.args.me.now k1 k2 k3 c.active_copy-active.ensures.kept c.ending_below-place.ensures.kept c.lowest_overlap.ensures.kept c.requires.clean) c.load_clock-clock-then-active-loads.ensures.log c.load_clock-clock-then-active-loads.ensures.rest
     (λ xs lists.
     let mine = subst (λ ws. ListsMembers ws xs) (active3 ∙ active2) lists in
-    All-append (λ x. ¬ Overlaps x.span c.args.member.now.span) w.terms.fixed xs none.0 (free_listed (active_words k1.log.loader) xs a.count c.ending_below-place.result c.args.member.now.span c.args.member.now mine (counted_so w a k1 xs one mine) c.ending_below-place.ensures.inside below begin))
+    All-append (λ x. ¬ Overlaps x.span c.args.member.now.span) w.terms.fixed xs none.0 (free_listed (active_words k1.log.loader) xs a.count c.ending_below-place.result c.args.member.now.span c.args.member.now mine (counted_so w a k1 xs one mine) c.ending_below-place.ensures.inside below begin)))
 
 pub write_copy-requires-clause-number : goal.write_copy-requires-clause-number
 write_copy-requires-clause-number c =

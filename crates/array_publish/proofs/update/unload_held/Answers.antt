@@ -1,10 +1,12 @@
 use Rattle.std.proofs.Common.{◌≡◌, ap, ◌∙◌, sym, subst, arith}
+use Rattle.reg_model.specs.declared.answer.Removed.TheVariants as removed
 use Rattle.reg_model.specs.declared.answer.Update.TheVariants as update
 use Rattle.reg_model.specs.declared.span.Member.{Member}
 use Rattle.word_rule.specs.CallerData.{CallerData, WordsData}
 use Rattle.word_rule.specs.Callers.{IsMemberOf}
 use Rattle.word_rule.specs.Copies.{IsBehind, ListsMembers}
 use Rattle.array_publish.specs.Holders.{active_words, member_in, spare_words}
+use Rattle.array_publish.specs.Update.{AnswersUnload}
 use Rattle.array_publish.specs.Writing.{EndsBelow, EndsFrom}
 use Rattle.array_publish.specs.declared.writing.ActiveCopy.{ActiveCopy}
 use Rattle.array_publish.proofs.Answering.{may_refuse, not_found_so, unpublished_so, works_then, is_held, holds_of, stays_clean}
@@ -38,7 +40,8 @@ returns-in_default-clause-answer c =
     let two = knows_stays w a (spare_words k1.log.loader) k1 k2 one c.ending_below-place.ensures.same (spare_wide w a.starts.copy k1 one.holder) in
     let three = knows_stays w a (spare_words k2.log.loader) k2 k3 two c.in_default.ensures.same (spare_wide w a.starts.copy k2 two.holder) in
     let works = works_then (spare_words k2.log.loader) c.args.me.now k2 k3 (works_then (spare_words k1.log.loader) c.args.me.now k1 k2 c.active_copy-active.ensures.works c.ending_below-place.ensures.same) c.in_default.ensures.same in
-    not_found_so w.terms c.args.me.now k3 c.load_clock-clock.new.me c.load_clock-clock.result c.args.base works (stays_clean c.args.me.now k1 k2 k3 c.active_copy-active.ensures.kept c.ending_below-place.ensures.kept c.in_default.ensures.kept c.requires.clean) c.load_clock-clock.ensures.log c.load_clock-clock.ensures.rest
+    subst (λ stamp. AnswersUnload w.terms c.args.base c.args.me.now c.load_clock-clock.new.me (removed.NotFound stamp)) (sym c.updates_at.ensures)
+    (not_found_so w.terms c.args.me.now k3 c.load_clock-clock.new.me c.load_clock-clock.result c.args.base works (stays_clean c.args.me.now k1 k2 k3 c.active_copy-active.ensures.kept c.ending_below-place.ensures.kept c.in_default.ensures.kept c.requires.clean) c.load_clock-clock.ensures.log c.load_clock-clock.ensures.rest)
 
 pub write_copy-requires-clause-number : goal.write_copy-requires-clause-number
 write_copy-requires-clause-number c =
