@@ -137,7 +137,7 @@ fn one_member<R: Wait>(
 fn a_registered_member_that_goes(rt: HostRuntime) -> Result<(), Fail> {
     let alloc = rt.alloc();
     let (registry, mut a) = Registry::new(alloc, 4, 1, 1, Vec::new(alloc))?;
-    let mut b = registry.words().split(alloc, &mut a, 0)?;
+    let mut b = registry.words().split(&mut a, 0)?;
     assert!(rt; one_member(&rt, &registry, &mut a, &mut b, Half::Registered));
     Ok(())
 }
@@ -146,7 +146,7 @@ fn a_registered_member_that_goes(rt: HostRuntime) -> Result<(), Fail> {
 fn a_loaded_member_that_goes(rt: HostRuntime) -> Result<(), Fail> {
     let alloc = rt.alloc();
     let (registry, mut a) = Registry::new(alloc, 4, 1, 1, Vec::new(alloc))?;
-    let mut b = registry.words().split(alloc, &mut a, 0)?;
+    let mut b = registry.words().split(&mut a, 0)?;
     assert!(rt; one_member(&rt, &registry, &mut a, &mut b, Half::Loaded));
     Ok(())
 }
@@ -187,7 +187,7 @@ fn nine_members<R: Wait>(
 fn nine_registered_members(rt: HostRuntime) -> Result<(), Fail> {
     let alloc = rt.alloc();
     let (registry, mut a) = Registry::new(alloc, 16, 1, 9, Vec::new(alloc))?;
-    let mut b = registry.words().split(alloc, &mut a, 0)?;
+    let mut b = registry.words().split(&mut a, 0)?;
     assert!(rt; nine_members(&rt, &registry, &mut a, &mut b, Half::Registered));
     Ok(())
 }
@@ -196,7 +196,7 @@ fn nine_registered_members(rt: HostRuntime) -> Result<(), Fail> {
 fn nine_loaded_members(rt: HostRuntime) -> Result<(), Fail> {
     let alloc = rt.alloc();
     let (registry, mut a) = Registry::new(alloc, 4, 9, 9, Vec::new(alloc))?;
-    let mut b = registry.words().split(alloc, &mut a, 0)?;
+    let mut b = registry.words().split(&mut a, 0)?;
     assert!(rt; nine_members(&rt, &registry, &mut a, &mut b, Half::Loaded));
     Ok(())
 }
@@ -253,7 +253,7 @@ fn thousand_lookups<R: Wait>(
 fn a_thousand_registered_lookups(rt: HostRuntime) -> Result<(), Fail> {
     let alloc = rt.alloc();
     let (registry, mut a) = Registry::new(alloc, 16, 1, 16, Vec::new(alloc))?;
-    let mut b = registry.words().split(alloc, &mut a, 0)?;
+    let mut b = registry.words().split(&mut a, 0)?;
     assert!(rt; thousand_lookups(&rt, &registry, &mut a, &mut b, Half::Registered));
     Ok(())
 }
@@ -262,7 +262,7 @@ fn a_thousand_registered_lookups(rt: HostRuntime) -> Result<(), Fail> {
 fn a_thousand_loaded_lookups(rt: HostRuntime) -> Result<(), Fail> {
     let alloc = rt.alloc();
     let (registry, mut a) = Registry::new(alloc, 4, 16, 16, Vec::new(alloc))?;
-    let mut b = registry.words().split(alloc, &mut a, 0)?;
+    let mut b = registry.words().split(&mut a, 0)?;
     assert!(rt; thousand_lookups(&rt, &registry, &mut a, &mut b, Half::Loaded));
     Ok(())
 }

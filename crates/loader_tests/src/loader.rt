@@ -71,7 +71,7 @@ fn overlap(answer: Loading) -> Option<(u32, u32)> {
 fn a_member_that_another_loaded_is_found_and_overlaps(rt: HostRuntime) -> Result<(), Fail> {
     let alloc = rt.alloc();
     let (words, mut a) = Words::new(alloc, 4, 1, 1, Vec::new(alloc))?;
-    let mut b = words.split(alloc, &mut a, 1)?;
+    let mut b = words.split(&mut a, 1)?;
     let (Some(one), Some(same), Some(last)) = (
         member(0x1000, 0x20, 0),
         member(0x1000, 0x20, 0),
@@ -80,9 +80,9 @@ fn a_member_that_another_loaded_is_found_and_overlaps(rt: HostRuntime) -> Result
         panic!(rt; "spans")
     };
     assert!(rt; number(load(&rt, &words, &mut a, one)) == Some(1));
-    let note = words.note(alloc, &mut a)?;
+    let note = words.note(&mut a)?;
     assert!(rt; note.seen() == 1);
-    let Ok(()) = words.learn(alloc, &mut b, note) else {
+    let Ok(()) = words.learn(&mut b, note) else {
         panic!(rt; "no memory")
     };
     assert!(rt; b.seen() == 1);
@@ -91,7 +91,7 @@ fn a_member_that_another_loaded_is_found_and_overlaps(rt: HostRuntime) -> Result
     let spent = load(&rt, &words, &mut b, last);
     assert!(rt; spent == Loading::Spent);
     assert!(rt; unload(&rt, &words, &mut b, 0x1000) == Removed::Spent);
-    let Ok(()) = words.join(alloc, &mut a, b) else {
+    let Ok(()) = words.join(&mut a, b) else {
         panic!(rt; "no memory")
     };
     let alone = a.alone();
@@ -196,7 +196,7 @@ fn seventeen_members_stand_in_two_segments(rt: HostRuntime) -> Result<(), Fail> 
 fn an_update_that_gives_up_is_busy_and_can_be_tried_again(rt: HostRuntime) -> Result<(), Fail> {
     let alloc = rt.alloc();
     let (words, mut a) = Words::new(alloc, 4, 1, 1, Vec::new(alloc))?;
-    let mut b = words.split(alloc, &mut a, 2)?;
+    let mut b = words.split(&mut a, 2)?;
     let Some(one) = member(0x1000, 0x20, 0) else {
         panic!(rt; "span")
     };

@@ -262,7 +262,7 @@ fn two_threads_answer_as_one_that_makes_the_updates_in_order(rt: HostRuntime) ->
     };
     fixed.push(program)?;
     let (words, mut a) = Words::new(alloc, 4, LOADS, PLACES, fixed)?;
-    let b = words.split(alloc, &mut a, 1000)?;
+    let b = words.split(&mut a, 1000)?;
     let (one, other) = both(&rt, alloc, &words, a, b);
     let Some((mut a, ours)) = one else {
         panic!(rt; "no answer")
@@ -270,7 +270,7 @@ fn two_threads_answer_as_one_that_makes_the_updates_in_order(rt: HostRuntime) ->
     let Some((b, theirs)) = other else {
         panic!(rt; "no answer")
     };
-    let Ok(()) = words.join(alloc, &mut a, b) else {
+    let Ok(()) = words.join(&mut a, b) else {
         panic!(rt; "no memory")
     };
     let alone = a.alone();

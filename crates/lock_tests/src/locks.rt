@@ -53,10 +53,10 @@ fn side_by_side<R: Threads + Wait + Sync>(
 fn two_threads_take_the_loaders_lock_in_turn(rt: HostRuntime) -> Result<(), Fail> {
     let alloc = rt.alloc();
     let (words, mut a) = Words::new(alloc, 4, 1, 1, Vec::new(alloc))?;
-    let b = words.split(alloc, &mut a, 1)?;
+    let b = words.split(&mut a, 1)?;
     let (mut a, b) = side_by_side(&rt, &words, a, b);
     assert!(rt; words.load_version(&mut a, LockId::Loader, Ask::Nothing) == 800);
-    let Ok(()) = words.join(alloc, &mut a, b) else {
+    let Ok(()) = words.join(&mut a, b) else {
         panic!(rt; "no memory")
     };
     let alone = a.alone();
@@ -179,7 +179,7 @@ fn one_sleeps<R: Threads + Wait + Sync>(rt: &R, words: &Words, a: Caller, b: Cal
 fn who_lets_go_wakes_who_waits(rt: HostRuntime) -> Result<(), Fail> {
     let alloc = rt.alloc();
     let (words, mut a) = Words::new(alloc, 4, 1, 1, Vec::new(alloc))?;
-    let b = words.split(alloc, &mut a, 1)?;
+    let b = words.split(&mut a, 1)?;
     lock(&rt, &words, &mut a, LockId::Loader);
     let slept = one_waits(&rt, &words, a, b);
     assert!(rt; slept);
@@ -190,7 +190,7 @@ fn who_lets_go_wakes_who_waits(rt: HostRuntime) -> Result<(), Fail> {
 fn a_sleep_goes_on_until_the_word_changes(rt: HostRuntime) -> Result<(), Fail> {
     let alloc = rt.alloc();
     let (words, mut a) = Words::new(alloc, 4, 1, 1, Vec::new(alloc))?;
-    let b = words.split(alloc, &mut a, 1)?;
+    let b = words.split(&mut a, 1)?;
     lock(&rt, &words, &mut a, LockId::Loader);
     let (slept, woken) = one_sleeps(&rt, &words, a, b);
     assert!(rt; slept && woken);
@@ -201,7 +201,7 @@ fn a_sleep_goes_on_until_the_word_changes(rt: HostRuntime) -> Result<(), Fail> {
 fn a_lock_that_is_taken_is_busy(rt: HostRuntime) -> Result<(), Fail> {
     let alloc = rt.alloc();
     let (words, mut a) = Words::new(alloc, 4, 1, 1, Vec::new(alloc))?;
-    let mut b = words.split(alloc, &mut a, 1)?;
+    let mut b = words.split(&mut a, 1)?;
     let id = LockId::Loader;
     assert!(rt; Once.take(&words, &mut a, id));
     assert!(rt; !Once.take(&words, &mut b, id) && !Trying.take(&words, &mut b, id));

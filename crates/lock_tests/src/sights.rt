@@ -78,7 +78,7 @@ fn side_by_side<R: Threads + Wait + Sync>(
 fn a_sight_beside_a_lock_of_another_thread(rt: HostRuntime) -> Result<(), Fail> {
     let alloc = rt.alloc();
     let (words, mut a) = Words::new(alloc, 4, 1, 1, Vec::new(alloc))?;
-    let mut b = words.split(alloc, &mut a, 1)?;
+    let mut b = words.split(&mut a, 1)?;
     let Ok(sight) = peek(&words, &mut b, 0) else {
         panic!(rt; "nobody holds it")
     };

@@ -9,17 +9,17 @@ fn callers_come_and_go(rt: HostRuntime) -> Result<(), Fail> {
     let (words, mut a) = Words::new(alloc, 4, 1, 1, Vec::new(alloc))?;
     assert!(rt; words.nodes() == 4 && words.loads() == 1 && words.fixed().is_empty());
     assert!(rt; a.seen() == 0 && a.left() == ALLOWANCE && a.alone());
-    let mut b = words.split(alloc, &mut a, 1)?;
+    let mut b = words.split(&mut a, 1)?;
     assert!(rt; a.left() == ALLOWANCE - 1 && b.left() == 1 && b.seen() == 0);
     assert!(rt; !a.alone() && !b.alone());
-    let note = words.note(alloc, &mut a)?;
+    let note = words.note(&mut a)?;
     assert!(rt; note.seen() == 0 && !a.alone());
-    let Ok(()) = words.learn(alloc, &mut b, note) else {
+    let Ok(()) = words.learn(&mut b, note) else {
         panic!(rt; "no memory")
     };
     assert!(rt; b.seen() == 0 && b.left() == 1 && !b.alone());
     assert!(rt; b.use_one() && b.left() == 0 && !b.use_one() && b.left() == 0);
-    let Ok(()) = words.join(alloc, &mut a, b) else {
+    let Ok(()) = words.join(&mut a, b) else {
         panic!(rt; "no memory")
     };
     assert!(rt; a.left() == ALLOWANCE - 1 && a.seen() == 0);
@@ -35,17 +35,17 @@ fn callers_come_and_go(rt: HostRuntime) -> Result<(), Fail> {
 fn one_with_a_note_out_is_not_alone(rt: HostRuntime) -> Result<(), Fail> {
     let alloc = rt.alloc();
     let (words, mut a) = Words::new(alloc, 4, 1, 1, Vec::new(alloc))?;
-    let mut b = words.split(alloc, &mut a, 2)?;
-    let mut c = words.split(alloc, &mut b, 1)?;
-    let note = words.note(alloc, &mut c)?;
-    let Ok(()) = words.join(alloc, &mut a, b) else {
+    let mut b = words.split(&mut a, 2)?;
+    let mut c = words.split(&mut b, 1)?;
+    let note = words.note(&mut c)?;
+    let Ok(()) = words.join(&mut a, b) else {
         panic!(rt; "no memory")
     };
-    let Ok(()) = words.join(alloc, &mut a, c) else {
+    let Ok(()) = words.join(&mut a, c) else {
         panic!(rt; "no memory")
     };
     assert!(rt; a.left() == ALLOWANCE && !a.alone());
-    let Ok(()) = words.learn(alloc, &mut a, note) else {
+    let Ok(()) = words.learn(&mut a, note) else {
         panic!(rt; "no memory")
     };
     assert!(rt; a.alone());

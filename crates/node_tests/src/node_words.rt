@@ -96,7 +96,7 @@ fn words_of_an_inner_node(rt: HostRuntime) -> Result<(), Fail> {
 fn a_sight_beside_a_lock(rt: HostRuntime) -> Result<(), Fail> {
     let alloc = rt.alloc();
     let (words, mut a) = Words::new(alloc, 4, 1, 1, Vec::new(alloc))?;
-    let mut b = words.split(alloc, &mut a, 1)?;
+    let mut b = words.split(&mut a, 1)?;
     let root = LockId::Node { node: 0 };
     let Ok(sight) = peek(&words, &mut b, 0) else {
         panic!(rt; "nobody holds it")

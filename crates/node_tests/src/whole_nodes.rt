@@ -228,8 +228,8 @@ fn one_looks_on<R: Threads + Wait + Sync>(
 fn a_checked_sight_is_of_a_node_that_was_once_whole(rt: HostRuntime) -> Result<(), Fail> {
     let alloc = rt.alloc();
     let (words, mut a) = Words::new(alloc, 4, 1, 1, Vec::new(alloc))?;
-    let b = words.split(alloc, &mut a, 1)?;
-    let c = words.split(alloc, &mut a, 1)?;
+    let b = words.split(&mut a, 1)?;
+    let c = words.split(&mut a, 1)?;
     let (wrote, whole) = one_looks_on(&rt, &words, a, b, c);
     assert!(rt; wrote);
     assert!(rt; whole);

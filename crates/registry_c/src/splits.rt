@@ -55,7 +55,7 @@ impl Client {
         let Ok(registry) = Arc::try_clone(&self.registry) else {
             return Err(SplitFault::NoMemory);
         };
-        let Ok(me) = self.registry.words().split(alloc, &mut self.me, give) else {
+        let Ok(me) = self.registry.words().split(&mut self.me, give) else {
             return Err(SplitFault::NoMemory);
         };
         let other = Client {
@@ -100,7 +100,7 @@ impl Client {
             name,
             ..
         } = Box::into_inner(other);
-        let Err(me) = self.registry.words().join(alloc, &mut self.me, me) else {
+        let Err(me) = self.registry.words().join(&mut self.me, me) else {
             self.begun = self.begun || begun;
             return Ok(());
         };

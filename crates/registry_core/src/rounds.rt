@@ -28,7 +28,7 @@ impl Registry {
     {
         let mut callers = Vec::new(alloc);
         for give in gives {
-            let caller = self.words().split(alloc, me, *give)?;
+            let caller = self.words().split(me, *give)?;
             callers.push(caller)?;
         }
         Ok(callers)
@@ -36,12 +36,7 @@ impl Registry {
 
     /// Joins callers into one, in order. Where there is no memory, those that weren't joined are
     /// dropped, and nobody is alone any more.
-    pub fn join_each(
-        &self,
-        alloc: Global,
-        me: &mut Caller,
-        callers: Vec<Caller>,
-    ) -> Result<(), NoMemory>
+    pub fn join_each(&self, me: &mut Caller, callers: Vec<Caller>) -> Result<(), NoMemory>
         requires table { me.old.table ≡ self.now.table }
         requires callers { All (λ other. other.table ≡ self.now.table) callers.items }
         requires idle { All (λ other. IsIdle other.log) callers.items }
@@ -49,7 +44,7 @@ impl Registry {
         ensures whole { OnOk result (IsWholeWhereAlone me.old.log → IsWholeWhereAlone me.new.log) }
     {
         for caller in callers {
-            let Ok(()) = self.words().join(alloc, me, caller) else {
+            let Ok(()) = self.words().join(me, caller) else {
                 return Err(NoMemory);
             };
         }

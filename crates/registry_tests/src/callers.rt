@@ -36,7 +36,7 @@ pub(crate) fn two_callers(alloc: Global, calls: u32) -> Option<(Registry, Caller
     ensures spare { IfSome result (λ made. 0 < surplus made.1) }
 {
     let (registry, mut first) = Registry::new(alloc, 4, 1, 1, Vec::new(alloc)).ok()?;
-    let other = registry.words().split(alloc, &mut first, calls).ok()?;
+    let other = registry.words().split(&mut first, calls).ok()?;
     Some((registry, first, other))
 }
 

@@ -35,7 +35,7 @@ fn made(alloc: Global) -> Option<(Registry, Caller)>
 }
 
 // A caller with one update call.
-fn split_from(registry: &Registry, alloc: Global, me: &mut Caller) -> Option<Caller>
+fn split_from(registry: &Registry, me: &mut Caller) -> Option<Caller>
     requires table { me.old.table ≡ registry.now.table }
     requires left { 1 ≤ me.old.left }
     ensures other { IfSome result (λ other. other ≡ record {
@@ -49,35 +49,35 @@ fn split_from(registry: &Registry, alloc: Global, me: &mut Caller) -> Option<Cal
       log = after_split me.old.left 1 me.old.log;
     }) }
 {
-    registry.words().split(alloc, me, 1).ok()
+    registry.words().split(me, 1).ok()
 }
 
-fn noted(registry: &Registry, alloc: Global, me: &mut Caller) -> Option<Note>
+fn noted(registry: &Registry, me: &mut Caller) -> Option<Note>
     requires table { me.old.table ≡ registry.now.table }
     ensures note { IfSome result (λ note. note.table ≡ me.old.table) }
     ensures me { me.new.table ≡ me.old.table }
 {
-    registry.words().note(alloc, me).ok()
+    registry.words().note(me).ok()
 }
 
 // Whether a note is learnt.
-fn learns(registry: &Registry, alloc: Global, me: &mut Caller, note: Note) -> bool
+fn learns(registry: &Registry, me: &mut Caller, note: Note) -> bool
     requires table { me.old.table ≡ registry.now.table }
     requires note { note.table ≡ registry.now.table }
     ensures { me.new.table ≡ me.old.table }
 {
-    registry.words().learn(alloc, me, note).is_ok()
+    registry.words().learn(me, note).is_ok()
 }
 
 // Whether one learns by a note what another has seen.
-fn tells(registry: &Registry, alloc: Global, me: &mut Caller, other: &mut Caller) -> bool
+fn tells(registry: &Registry, me: &mut Caller, other: &mut Caller) -> bool
     requires table { me.old.table ≡ registry.now.table }
     requires other { other.old.table ≡ registry.now.table }
     ensures table { me.new.table ≡ me.old.table }
     ensures other { other.new.table ≡ other.old.table }
 {
-    match noted(registry, alloc, me) {
-        Some(note) => learns(registry, alloc, other, note),
+    match noted(registry, me) {
+        Some(note) => learns(registry, other, note),
         None => false,
     }
 }
@@ -88,12 +88,12 @@ fn notes_are_learnt_though_memory_is_refused_once(rt: HostRuntime) -> Result<(),
     let (Some(one), Some((registry, mut a))) = (member(0x1000), made(alloc)) else {
         panic!(rt; "a registry")
     };
-    let Some(mut b) = split_from(&registry, alloc, &mut a) else {
+    let Some(mut b) = split_from(&registry, &mut a) else {
         panic!(rt; "a caller")
     };
     assert!(rt; registry.load(&rt, &mut a, one) == Loading::Done { number: 1 });
     assert!(rt; b.seen() == 0);
-    let told = tells(&registry, alloc, &mut a, &mut b) && tells(&registry, alloc, &mut a, &mut b);
+    let told = tells(&registry, &mut a, &mut b) && tells(&registry, &mut a, &mut b);
     assert!(rt; told && b.seen() == 1 && b.left() == 1 && !b.alone());
     Ok(())
 }

@@ -103,7 +103,7 @@ fn a_payload_is_exchanged_in_place(rt: HostRuntime) -> Result<(), Fail> {
 fn a_caller_without_calls_is_spent(rt: HostRuntime) -> Result<(), Fail> {
     let alloc = rt.alloc();
     let (registry, mut a) = Registry::new(alloc, 4, 1, 1, Vec::new(alloc))?;
-    let mut b = registry.words().split(alloc, &mut a, 0)?;
+    let mut b = registry.words().split(&mut a, 0)?;
     let Some(one) = member(0x1000, 0x10, 0) else {
         panic!(rt; "a span")
     };
@@ -115,7 +115,7 @@ fn a_caller_without_calls_is_spent(rt: HostRuntime) -> Result<(), Fail> {
 fn a_try_to_replace_beside_a_locked_root(rt: HostRuntime) -> Result<(), Fail> {
     let alloc = rt.alloc();
     let (registry, mut a) = Registry::new(alloc, 4, 1, 1, Vec::new(alloc))?;
-    let mut b = registry.words().split(alloc, &mut a, 1)?;
+    let mut b = registry.words().split(&mut a, 1)?;
     let Some(one) = member(0x1000, 0x10, 0) else {
         panic!(rt; "a span")
     };

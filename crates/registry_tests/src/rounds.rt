@@ -8,7 +8,6 @@ use crate::callers::{
 };
 use reg_model::{Inserted, Loading, Member, Removed};
 use registry_core::Registry;
-use std::alloc::Global;
 use std::sync::Wait;
 use std::thread::{Threads, join};
 use word_rule::Caller;
@@ -16,7 +15,6 @@ use word_rule::Caller;
 // Loads a range, and tells another caller of it.
 fn loads_and_tells<R: Wait>(
     rt: &R,
-    alloc: Global,
     registry: &Registry,
     first: &mut Caller,
     other: &mut Caller,
@@ -31,10 +29,10 @@ fn loads_and_tells<R: Wait>(
     if !loads(rt, registry, first, 0x1000, Loading::Done { number: 1 }) {
         return false;
     }
-    let Ok(note) = registry.words().note(alloc, first) else {
+    let Ok(note) = registry.words().note(first) else {
         return false;
     };
-    note.seen() == 1 && registry.words().learn(alloc, other, note).is_ok()
+    note.seen() == 1 && registry.words().learn(other, note).is_ok()
 }
 
 // It finds what was loaded, and overlaps it; then it has no update call left.
@@ -78,9 +76,9 @@ fn a_caller_learns_what_another_loaded(rt: HostRuntime) {
         panic!(rt; "no memory")
     };
     assert!(rt; is_nowhere(&rt, &registry, &mut a, 0x1010, 0));
-    assert!(rt; loads_and_tells(&rt, alloc, &registry, &mut a, &mut b));
+    assert!(rt; loads_and_tells(&rt, &registry, &mut a, &mut b));
     assert!(rt; knows_and_is_spent(&rt, &registry, &mut b));
-    let Ok(()) = registry.words().join(alloc, &mut a, b) else {
+    let Ok(()) = registry.words().join(&mut a, b) else {
         panic!(rt; "no memory")
     };
     let alone = a.alone();
@@ -102,7 +100,7 @@ fn a_caller_with_nothing_is_spent(rt: HostRuntime) {
             && loads(&rt, &registry, &mut b, 0x2000, Loading::Spent)
             && unloads(&rt, &registry, &mut b, 0x1000, Removed::Spent)
     );
-    let Ok(()) = registry.words().join(alloc, &mut a, b) else {
+    let Ok(()) = registry.words().join(&mut a, b) else {
         panic!(rt; "no memory")
     };
     let alone = a.alone();
@@ -139,7 +137,7 @@ fn a_round_of_callers(rt: HostRuntime) {
     };
     let busy = a.alone();
     assert!(rt; callers.len() == 3 && a.left() == all - 3 && !busy);
-    let Ok(()) = registry.join_each(alloc, &mut a, callers) else {
+    let Ok(()) = registry.join_each(&mut a, callers) else {
         panic!(rt; "no memory")
     };
     let alone = a.alone();
@@ -186,7 +184,7 @@ fn two_threads_load_find_and_unload(rt: HostRuntime) {
     let Ok((registry, mut a)) = Registry::new(alloc, 4, 2, 2, Vec::new(alloc)) else {
         panic!(rt; "no memory")
     };
-    let Ok(b) = registry.words().split(alloc, &mut a, 2) else {
+    let Ok(b) = registry.words().split(&mut a, 2) else {
         panic!(rt; "no memory")
     };
     let (Some(low), Some(high)) = (member(0x1000, 0x20, 0), member(0x2000, 0x20, 1)) else {
@@ -194,7 +192,7 @@ fn two_threads_load_find_and_unload(rt: HostRuntime) {
     };
     let ((mut a, first), (b, second)) = side_by_side(&rt, &registry, a, b, (low, high));
     assert!(rt; first && second);
-    let Ok(()) = registry.words().join(alloc, &mut a, b) else {
+    let Ok(()) = registry.words().join(&mut a, b) else {
         panic!(rt; "no memory")
     };
     let alone = a.alone();

@@ -125,7 +125,7 @@ fn a_try_beside_a_locked_root(rt: HostRuntime) {
     let Some((registry, mut a, mut b)) = two_callers(rt.alloc(), 1) else {
         panic!(rt; "no memory")
     };
-    let Ok(mut watcher) = registry.words().split(rt.alloc(), &mut b, 0) else {
+    let Ok(mut watcher) = registry.words().split(&mut b, 0) else {
         panic!(rt; "no memory")
     };
     let Ok(sight) = peek(registry.words(), &mut watcher, 0) else {

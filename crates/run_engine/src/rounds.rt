@@ -106,7 +106,7 @@ fn play_round<R: Threads + Wait + Sync, G: Gate + Sync>(
     let team = Team { registry, callers };
     let played = play_threads(rt, alloc, gate, number, setting, team, threads)?;
     let PlayedRound { kept, callers } = played;
-    registry.join_each(alloc, me, callers)?;
+    registry.join_each(me, callers)?;
     Ok(KeptRound { threads: kept })
 }
 

@@ -114,7 +114,7 @@ fn stamp_after<R: Threads + Wait + Sync + Abort>(
     requires few { (numbers.0 < ranges) × (numbers.1 < ranges) }
 {
     let (registry, mut a) = registry_of(rt, alloc, 64, ranges);
-    let b = split_off(rt, alloc, &registry, &mut a, 2 * TURNS);
+    let b = split_off(rt, &registry, &mut a, 2 * TURNS);
     let all = register_all(rt, &registry, &mut a, ranges);
     let mut reader = registry.reader();
     let (low, high) = two_write(rt, &registry, (a, b), numbers);

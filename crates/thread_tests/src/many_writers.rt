@@ -303,8 +303,8 @@ fn two_threads<R: Threads + Wait + Sync + Abort>(
     requires near { apart ≤ 1000 }
 {
     let (registry, mut me) = registry_of(rt, alloc, nodes, RANGES);
-    let a = split_off(rt, alloc, &registry, &mut me, UPDATES);
-    let b = split_off(rt, alloc, &registry, &mut me, UPDATES);
+    let a = split_off(rt, &registry, &mut me, UPDATES);
+    let b = split_off(rt, &registry, &mut me, UPDATES);
     let low = Part {
         first: 0,
         ranges: 1_000,
@@ -328,10 +328,10 @@ fn four_threads<R: Threads + Wait + Sync + Abort>(
     requires near { apart ≤ 500 }
 {
     let (registry, mut me) = registry_of(rt, alloc, nodes, RANGES);
-    let a = split_off(rt, alloc, &registry, &mut me, UPDATES);
-    let b = split_off(rt, alloc, &registry, &mut me, UPDATES);
-    let c = split_off(rt, alloc, &registry, &mut me, UPDATES);
-    let d = split_off(rt, alloc, &registry, &mut me, UPDATES);
+    let a = split_off(rt, &registry, &mut me, UPDATES);
+    let b = split_off(rt, &registry, &mut me, UPDATES);
+    let c = split_off(rt, &registry, &mut me, UPDATES);
+    let d = split_off(rt, &registry, &mut me, UPDATES);
     let (low, high) = four_write(rt, alloc, &registry, ((a, b), (c, d)), apart);
     accepted(
         rt,

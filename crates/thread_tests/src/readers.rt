@@ -91,7 +91,7 @@ fn read_side_by_side<R: Threads + Wait + Sync>(
 fn sixteen_readers_beside_two_writers(rt: HostRuntime) {
     let alloc = rt.alloc();
     let (registry, mut a) = registry_of(&rt, alloc, 4_096, ALL);
-    let b = split_off(&rt, alloc, &registry, &mut a, EACH);
+    let b = split_off(&rt, &registry, &mut a, EACH);
     let (written, read) = write_and_read(&rt, alloc, &registry, (a, b));
     let (parts, Some(read)) = ([written.0, written.1], read) else {
         panic!(rt; "no memory")

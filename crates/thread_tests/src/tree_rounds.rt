@@ -42,13 +42,7 @@ pub(crate) fn registry_of(
 }
 
 // Another caller, with so many update calls of one's own.
-pub(crate) fn split_off(
-    rt: &impl Abort,
-    alloc: Global,
-    registry: &Registry,
-    me: &mut Caller,
-    calls: u32,
-) -> Caller
+pub(crate) fn split_off(rt: &impl Abort, registry: &Registry, me: &mut Caller, calls: u32) -> Caller
     requires table { me.old.table ≡ registry.now.table }
     requires idle { IsIdle me.old.log }
     requires calls { calls ≤ me.old.left }
@@ -56,7 +50,7 @@ pub(crate) fn split_off(
     ensures idle { IsIdle me.new.log × IsIdle result.log }
     ensures left { me.new.left ≡ me.old.left - calls }
 {
-    match registry.words().split(alloc, me, calls) {
+    match registry.words().split(me, calls) {
         Ok(other) => other,
         Err(_) => panic!(rt; "no memory"),
     }
@@ -348,9 +342,9 @@ pub(crate) fn are_all_right(numbers: &[u32], parts: &[Option<Vec<Event>>]) -> bo
 fn four_threads_register_ten_thousand_ranges(rt: HostRuntime) {
     let alloc = rt.alloc();
     let (registry, mut a) = registry_of(&rt, alloc, 4_096, ALL);
-    let b = split_off(&rt, alloc, &registry, &mut a, EACH);
-    let c = split_off(&rt, alloc, &registry, &mut a, EACH);
-    let d = split_off(&rt, alloc, &registry, &mut a, EACH);
+    let b = split_off(&rt, &registry, &mut a, EACH);
+    let c = split_off(&rt, &registry, &mut a, EACH);
+    let d = split_off(&rt, &registry, &mut a, EACH);
     let (low, high) = four_take_part(&rt, alloc, &registry, (a, b), (c, d));
     let parts = [low.0, low.1, high.0, high.1];
     let Some(numbers) = numbers_of(alloc, &parts) else {

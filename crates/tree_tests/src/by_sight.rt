@@ -12,9 +12,9 @@ use word_rule::{LockId, Words};
 fn a_try_beside_a_locked_leaf_names_it(rt: HostRuntime) -> Result<(), Fail> {
     let alloc = rt.alloc();
     let (words, mut a) = Words::new(alloc, 64, 1, 1, Vec::new(alloc))?;
-    let mut b = words.split(alloc, &mut a, 1)?;
-    let mut c = words.split(alloc, &mut a, 1)?;
-    let mut d = words.split(alloc, &mut a, 1)?;
+    let mut b = words.split(&mut a, 1)?;
+    let mut c = words.split(&mut a, 1)?;
+    let mut d = words.split(&mut a, 1)?;
     assert!(rt; insert_hundred(&rt, &words, &mut a));
     let (Some(found), Some(one), Some(same)) = (
         find_leftmost(&words, &mut a),

@@ -89,7 +89,7 @@ fn the_same_payload_is_an_update_that_stores_nothing(rt: HostRuntime) -> Result<
 fn a_try_to_replace_beside_a_locked_leaf_names_it(rt: HostRuntime) -> Result<(), Fail> {
     let alloc = rt.alloc();
     let (words, mut a) = Words::new(alloc, 64, 1, 2, Vec::new(alloc))?;
-    let mut b = words.split(alloc, &mut a, 1)?;
+    let mut b = words.split(&mut a, 1)?;
     assert!(rt; insert_hundred(&rt, &words, &mut a));
     let (Some(found), Some(one)) = (find_leftmost(&words, &mut a), other(0x1000, 0x10)) else {
         panic!(rt; "a tree of three levels")

@@ -16,7 +16,7 @@ fn an_empty_tree_has_nothing(rt: HostRuntime) -> Result<(), Fail> {
 fn a_try_beside_a_locked_root(rt: HostRuntime) -> Result<(), Fail> {
     let alloc = rt.alloc();
     let (words, mut a) = Words::new(alloc, 4, 1, 1, Vec::new(alloc))?;
-    let mut b = words.split(alloc, &mut a, 1)?;
+    let mut b = words.split(&mut a, 1)?;
     let root = LockId::Node { node: 0 };
     assert!(rt; words.take(&mut a, root) == Ok(0));
     assert!(rt; try_find(&words, &mut b, 5) == Err(Again::Locked { word: 4, seen: 1 }));

@@ -141,7 +141,7 @@ fn a_writer_that_waits_for_a_leaf_holds_the_parent_and_not_the_root(
 ) -> Result<(), Fail> {
     let alloc = rt.alloc();
     let (words, mut a) = Words::new(alloc, 64, 1, 1, Vec::new(alloc))?;
-    let b = words.split(alloc, &mut a, 1)?;
+    let b = words.split(&mut a, 1)?;
     assert!(rt; insert_hundred(&rt, &words, &mut a));
     let (Some(found), Some(between)) = (find_leftmost(&words, &mut a), member(0x1020)) else {
         panic!(rt; "a tree of three levels")

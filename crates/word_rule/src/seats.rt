@@ -16,7 +16,6 @@ use crate::share::small_part;
 use crate::words::Words;
 use atomic_table::Seat;
 use reg_model::NoMemory;
-use std::alloc::Global;
 use std::marker::Brand;
 
 impl Words {
@@ -38,7 +37,7 @@ impl Words {
     }
 
     /// Splits off a caller with so many of the update calls.
-    pub fn split(&self, alloc: Global, me: &mut Caller, give: u32) -> Result<Caller, NoMemory>
+    pub fn split(&self, me: &mut Caller, give: u32) -> Result<Caller, NoMemory>
         requires table { me.old.table ≡ self.now.table }
         requires give { give ≤ me.old.left }
         ensures new { IfOk result
@@ -57,7 +56,6 @@ impl Words {
         ensures apart { OnOk result (me.new.log.lineage.share < WHOLE) }
         ensures err { OnErr result (me.new ≡ me.old) }
     {
-        let _ = alloc;
         let share = me.share.split()?;
         let seat = self.split_seat::<Brand>(&mut me.seat, me.left, give);
         me.left -= give;
@@ -73,7 +71,7 @@ impl Words {
     }
 
     /// Makes a note of what a caller has seen.
-    pub fn note(&self, alloc: Global, me: &mut Caller) -> Result<Note, NoMemory>
+    pub fn note(&self, me: &mut Caller) -> Result<Note, NoMemory>
         requires { me.old.table ≡ self.now.table }
         ensures note { IfOk result
             (λ note. note ≡ record { table = me.old.table; log = note_of me.old.log }) }
@@ -81,7 +79,6 @@ impl Words {
         ensures apart { OnOk result (me.new.log.lineage.share < WHOLE) }
         ensures err { OnErr result (me.new ≡ me.old) }
     {
-        let _ = alloc;
         let share = me.share.split()?;
         let seen = me.seen;
         let seat = self.table.shared.split_seat::<Notes>(&mut me.seat);
@@ -119,7 +116,7 @@ impl Words {
 
     /// Joins another caller into this one: its update calls, what it has seen, and its receipts.
     /// What either had seen begins what is seen afterwards. It comes back where there is no memory.
-    pub fn join(&self, alloc: Global, me: &mut Caller, other: Caller) -> Result<(), Caller>
+    pub fn join(&self, me: &mut Caller, other: Caller) -> Result<(), Caller>
         requires table { me.old.table ≡ self.now.table }
         requires other { other.table ≡ self.now.table }
         requires idle { (other.log.loader ≡ None) × (other.log.holdings.held ≡ [])
@@ -135,7 +132,6 @@ impl Words {
             × IsPrefix other.log.past me.new.log.past) }
         ensures err { IfErr result (λ kept. (kept ≡ other) × (me.new ≡ me.old)) }
     {
-        let _ = alloc;
         let Caller {
             seat,
             left,
@@ -154,7 +150,7 @@ impl Words {
 
     /// Learns what the maker of a note had seen, which begins what is seen afterwards, as does what
     /// was seen before. The note comes back where there is no memory.
-    pub fn learn(&self, alloc: Global, me: &mut Caller, note: Note) -> Result<(), Note>
+    pub fn learn(&self, me: &mut Caller, note: Note) -> Result<(), Note>
         requires table { me.old.table ≡ self.now.table }
         requires note { note.table ≡ self.now.table }
         ensures ok { OnOk result (me.new
@@ -163,7 +159,6 @@ impl Words {
             × IsPrefix note.log.past me.new.log.past) }
         ensures err { IfErr result (λ kept. (kept ≡ note) × (me.new ≡ me.old)) }
     {
-        let _ = alloc;
         let Note {
             seat,
             seen: noted,
