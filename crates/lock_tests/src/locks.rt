@@ -1,6 +1,6 @@
 ghost use Rattle.std.specs.Prelude.{◌≡◌, ◌≤◌, ◌<◌, None, IsSomeAnd, false};
 ghost use Rattle.word_rule.specs.CallerData.{surplus};
-ghost use Rattle.node_store.specs.Locking.{Turns};
+ghost use Rattle.word_rule.specs.Callers.{IsIdle};
 
 use node_store::{Locking, Once, Trying, Waiting, lock, unlock};
 use std::sync::Wait;
@@ -14,9 +14,10 @@ const TURNS: u32 = 100;
 // Takes the loader's lock and lets go of it, a hundred times.
 fn take_turns<R: Wait>(rt: &R, words: &Words, mut me: Caller) -> Caller
     requires table { me.table ≡ words.now.table }
-    requires free { me.log.loader ≡ None }
+    requires idle { IsIdle me.log }
     requires surplus { 100 ≤ surplus me }
-    ensures { Turns me result }
+    ensures table { result.table ≡ me.table }
+    ensures idle { IsIdle result.log }
 {
     for turn in 0..TURNS {
         lock(rt, words, &mut me, LockId::Loader);
@@ -32,19 +33,20 @@ fn side_by_side<R: Threads + Wait + Sync>(
     b: Caller,
 ) -> (Caller, Caller)
     requires tables { (a.table ≡ words.now.table) × (b.table ≡ words.now.table) }
-    requires free { (a.log.loader ≡ None) × (b.log.loader ≡ None) }
+    requires idle { IsIdle a.log × IsIdle b.log }
     requires surplus { (100 ≤ surplus a) × (100 ≤ surplus b) }
-    ensures { Turns a result.0 × Turns b result.1 }
+    ensures tables { (result.0.table ≡ a.table) × (result.1.table ≡ b.table) }
+    ensures idle { IsIdle result.0.log × IsIdle result.1.log }
 {
     join(
         rt,
         || -> Caller
-            requires { (a.table ≡ words.now.table) × (a.log.loader ≡ None) × (100 ≤ surplus a) }
-            ensures { Turns a result }
+            requires { (a.table ≡ words.now.table) × IsIdle a.log × (100 ≤ surplus a) }
+            ensures { (result.table ≡ a.table) × IsIdle result.log }
         { take_turns(rt, words, a) },
         || -> Caller
-            requires { (b.table ≡ words.now.table) × (b.log.loader ≡ None) × (100 ≤ surplus b) }
-            ensures { Turns b result }
+            requires { (b.table ≡ words.now.table) × IsIdle b.log × (100 ≤ surplus b) }
+            ensures { (result.table ≡ b.table) × IsIdle result.log }
         { take_turns(rt, words, b) },
     )
 }

@@ -93,13 +93,3 @@ pub record FoundBusy (why : Busy) (k k' : CallerData) : Type 0 where
   pub behind : List LoadEvent
   pub loads : k'.log.trace.loads ≡ k.log.trace.loads ++ (before ++ load ∷ behind)
   pub shows : ShowsBusy why before load
-
--- A caller took turns at a lock: it holds what it held before, and its names and its calls are as
--- they were.
-pub record Turns (k k' : CallerData) : Type 0 where
-  pub table : k'.table ≡ k.table
-  pub left : k'.left ≡ k.left
-  pub loader : k'.log.loader ≡ k.log.loader
-  pub held : k'.log.holdings.held ≡ k.log.holdings.held
-  pub out : k'.log.holdings.out ≡ k.log.holdings.out
-  pub lineage : k'.log.lineage ≡ k.log.lineage
