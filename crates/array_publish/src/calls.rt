@@ -8,7 +8,7 @@ ghost use Rattle.array_publish.specs.Update.{UnloadsMember, after_letting_go, is
 ghost use Rattle.array_publish.specs.Update.{is_unloaded};
 
 use crate::update::{load_held, unload_held};
-use node_store::{Busy, Locking, Trying, Waiting};
+use node_store::{Busy, Locking, Waiting};
 use reg_model::{Loading, Member, Removed};
 use std::sync::Wait;
 use word_rule::{Caller, LockId, Words};
@@ -112,22 +112,6 @@ pub fn load<R: Wait>(rt: &R, words: &Words, me: &mut Caller, member: Member) -> 
     }
 }
 
-/// Loads a member as `load` does, for an update call that was begun, or answers Busy where another
-/// has the loader's lock: then nothing was done, and the call may be tried again.
-pub fn try_load(words: &Words, me: &mut Caller, member: Member) -> Result<Loading, Busy>
-    requires table { me.old.table ≡ words.now.table }
-    requires free { me.old.log.loader ≡ None }
-    requires begun { 0 < due me.old }
-    requires surplus { 0 < surplus me.old }
-    requires payload { member.payload < words.now.terms.payloads }
-    ensures answer { IfOk result (TellsLoad words.now.terms member me.old me.new) }
-    ensures terms { OnOk result (me.old.log.terms ≡ words.now.terms) }
-    ensures busy { IfErr result (λ e. IsBusyAt LockId.Loader e me.old me.new) }
-    ensures free { IsFreeAgain me.old me.new }
-{
-    load_by(&Trying, words, me, member)
-}
-
 /// Unloads a member as `unload` does, for an update call that was begun. Busy where the loader's
 /// lock was found taken and `locking` gives up: the call is still begun, and nothing was done.
 pub fn unload_by<L: Locking>(
@@ -168,19 +152,4 @@ pub fn unload<R: Wait>(rt: &R, words: &Words, me: &mut Caller, base: u64) -> Rem
         Ok(answer) => answer,
         Err(_) => unreachable!(),
     }
-}
-
-/// Unloads a member as `unload` does, for an update call that was begun, or answers Busy where
-/// another has the loader's lock: then nothing was done, and the call may be tried again.
-pub fn try_unload(words: &Words, me: &mut Caller, base: u64) -> Result<Removed, Busy>
-    requires table { me.old.table ≡ words.now.table }
-    requires free { me.old.log.loader ≡ None }
-    requires begun { 0 < due me.old }
-    requires surplus { 0 < surplus me.old }
-    ensures answer { IfOk result (TellsUnload words.now.terms base me.old me.new) }
-    ensures terms { OnOk result (me.old.log.terms ≡ words.now.terms) }
-    ensures busy { IfErr result (λ e. IsBusyAt LockId.Loader e me.old me.new) }
-    ensures free { IsFreeAgain me.old me.new }
-{
-    unload_by(&Trying, words, me, base)
 }

@@ -19,5 +19,5 @@ mod update;
 mod walk;
 mod writing;
 
-pub use calls::{load, load_by, try_load, try_unload, unload, unload_by};
+pub use calls::{load, load_by, unload, unload_by};
 pub use lookup::try_object;

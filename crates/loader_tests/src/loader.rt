@@ -1,8 +1,8 @@
 ghost use Rattle.std.specs.Prelude.{◌≡◌, ◌≤◌, None, IfSome};
 ghost use Rattle.array_publish.specs.Update.{IsFreeAgain};
 
-use array_publish::{load, try_load, try_object, try_unload, unload};
-use node_store::{Busy, lock, unlock_same};
+use array_publish::{load, load_by, try_object, unload, unload_by};
+use node_store::{Busy, Trying, lock, unlock_same};
 use reg_model::{Again, Found, Loading, Member, Removed, Span};
 use std::sync::Wait;
 use std::test::Fail;
@@ -205,18 +205,18 @@ fn an_update_that_gives_up_is_busy_and_can_be_tried_again(rt: HostRuntime) -> Re
     };
     assert!(rt; b.use_one() && b.left() == 1);
     lock(&rt, &words, &mut a, LockId::Loader);
-    assert!(rt; try_load(&words, &mut b, one) == Err(busy));
+    assert!(rt; load_by(&Trying, &words, &mut b, one) == Err(busy));
     unlock_same(&rt, &words, &mut a, LockId::Loader);
-    assert!(rt; try_load(&words, &mut b, one) == Ok(Loading::Done { number: 1 }));
+    assert!(rt; load_by(&Trying, &words, &mut b, one) == Ok(Loading::Done { number: 1 }));
     assert!(rt; b.left() == 1 && b.use_one() && b.left() == 0);
     lock(&rt, &words, &mut a, LockId::Loader);
-    assert!(rt; try_unload(&words, &mut b, 0x1000) == Err(busy));
+    assert!(rt; unload_by(&Trying, &words, &mut b, 0x1000) == Err(busy));
     unlock_same(&rt, &words, &mut a, LockId::Loader);
     let done = Removed::Done {
         number: 2,
         member: one,
     };
-    assert!(rt; try_unload(&words, &mut b, 0x1000) == Ok(done));
+    assert!(rt; unload_by(&Trying, &words, &mut b, 0x1000) == Ok(done));
     assert!(rt; miss(try_object(&words, &mut a, 0x1000)) == Some(2));
     Ok(())
 }

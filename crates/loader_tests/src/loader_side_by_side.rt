@@ -4,7 +4,8 @@ ghost use Rattle.std.specs.Prelude.{◌≡◌, ◌<◌, ◌≤◌, None, IfSome}
 ghost use Rattle.array_publish.specs.Update.{IsFreeAgain};
 
 use crate::loader::member;
-use array_publish::{load, try_load, try_object, try_unload, unload};
+use array_publish::{load, load_by, try_object, unload, unload_by};
+use node_store::Trying;
 use reg_model::{Found, Loading, Member, PlainRegistry, Removed};
 use std::alloc::Global;
 use std::sync::Wait;
@@ -43,7 +44,7 @@ fn load_by_tries(words: &Words, me: &mut Caller, member: &Member) -> Option<Load
         return Some(Loading::Spent);
     }
     for attempt in 0..TRIES {
-        if let Ok(answer) = try_load(words, me, *member) {
+        if let Ok(answer) = load_by(&Trying, words, me, *member) {
             return Some(answer);
         }
         thread::yield_now();
@@ -60,7 +61,7 @@ fn unload_by_tries(words: &Words, me: &mut Caller, base: u64) -> Option<Removed>
         return Some(Removed::Spent);
     }
     for attempt in 0..TRIES {
-        if let Ok(answer) = try_unload(words, me, base) {
+        if let Ok(answer) = unload_by(&Trying, words, me, base) {
             return Some(answer);
         }
         thread::yield_now();

@@ -33,7 +33,7 @@ ghost use Rattle.registry_core.specs.Rounds.{IsBetweenRounds};
 use crate::lookup::{loaded_at, registered_at};
 use array_publish::try_object;
 use btree_lookup::try_find;
-use node_store::{Busy, Locking, Trying};
+use node_store::{Busy, Locking};
 use reg_model::laws::receipts_stay;
 use reg_model::{Again, Found, Inserted, Loading, Member, NoMemory, Place, Removed, Replaced};
 use std::alloc::Global;
@@ -167,24 +167,6 @@ impl Registry {
         btree_change::insert_by(locking, &self.words, me, member)
     }
 
-    /// Registers a member as `register_by` does, and waits for nobody.
-    pub fn try_register(&self, me: &mut Caller, member: Member) -> Result<Inserted, Busy>
-        requires table { me.old.table ≡ self.now.table }
-        requires idle { IsIdle me.old.log }
-        requires begun { 0 < due me.old }
-        requires payload { member.payload < self.now.terms.payloads }
-        ensures answer { IfOk result (TriesInsertion self.now.terms member me.old me.new) }
-        ensures terms { CALL_CREDIT ≤ surplus me.old → me.old.log.terms ≡ self.now.terms }
-        ensures busy { IfErr result
-            (λ e. (CALL_CREDIT ≤ surplus me.old) × GivesUp e me.old me.new) }
-        ensures table { me.new.table ≡ me.old.table }
-        ensures idle { OnOk result (IsIdle me.new.log) }
-        ensures again { IfErr result (λ e. UnlessLost e (IsIdle me.new.log)) }
-        ensures due { OnErr result (0 < due me.new) }
-    {
-        self.register_by(&Trying, me, member)
-    }
-
     /// Removes a registered member as `deregister` does, for an update call that was begun. Spent
     /// where the caller has fewer than 64 releases to spare. Busy where `locking` gives up: the
     /// call is still begun then, and may be tried again by a caller that didn't lose a node.
@@ -210,23 +192,6 @@ impl Registry {
             return Ok(Removed::Spent);
         }
         btree_change::remove_by(locking, &self.words, me, base)
-    }
-
-    /// Removes a registered member as `deregister_by` does, and waits for nobody.
-    pub fn try_deregister(&self, me: &mut Caller, base: u64) -> Result<Removed, Busy>
-        requires table { me.old.table ≡ self.now.table }
-        requires idle { IsIdle me.old.log }
-        requires begun { 0 < due me.old }
-        ensures answer { IfOk result (TriesRemoval self.now.terms base me.old me.new) }
-        ensures terms { CALL_CREDIT ≤ surplus me.old → me.old.log.terms ≡ self.now.terms }
-        ensures busy { IfErr result
-            (λ e. (CALL_CREDIT ≤ surplus me.old) × GivesUp e me.old me.new) }
-        ensures table { me.new.table ≡ me.old.table }
-        ensures idle { OnOk result (IsIdle me.new.log) }
-        ensures again { IfErr result (λ e. UnlessLost e (IsIdle me.new.log)) }
-        ensures due { OnErr result (0 < due me.new) }
-    {
-        self.deregister_by(&Trying, me, base)
     }
 
     /// Replaces a registered member as `replace` does, for an update call that was begun. Spent

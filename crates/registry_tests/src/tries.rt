@@ -48,7 +48,7 @@ fn waits_to_register(registry: &Registry, me: &mut Caller) -> bool
     let Some(member) = range(0x1000) else {
         return false;
     };
-    match registry.try_register(me, member) {
+    match registry.register_by(&Trying, me, member) {
         Err(Busy::Taken { lock }) => lock == ROOT,
         _ => false,
     }
@@ -63,7 +63,7 @@ fn waits_to_deregister(registry: &Registry, me: &mut Caller) -> bool
     ensures idle { IsTrue result → IsIdle me.new.log }
     ensures begun { IsTrue result → (0 < due me.new) }
 {
-    match registry.try_deregister(me, 0x1000) {
+    match registry.deregister_by(&Trying, me, 0x1000) {
         Err(Busy::Taken { lock }) => lock == ROOT,
         _ => false,
     }
@@ -157,7 +157,7 @@ fn a_try_to_register_beside_a_locked_root(rt: HostRuntime) {
         panic!(rt; "a span")
     };
     let done = Inserted::Done { number: 1 };
-    assert!(rt; registry.try_register(&mut b, member) == Ok(done));
+    assert!(rt; registry.register_by(&Trying, &mut b, member) == Ok(done));
 }
 
 #[test]
@@ -174,7 +174,7 @@ fn a_try_to_deregister_beside_a_locked_root(rt: HostRuntime) {
         panic!(rt; "a span")
     };
     let done = Removed::Done { number: 2, member };
-    assert!(rt; registry.try_deregister(&mut b, 0x1000) == Ok(done));
+    assert!(rt; registry.deregister_by(&Trying, &mut b, 0x1000) == Ok(done));
 }
 
 #[test]
