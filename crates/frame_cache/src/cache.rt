@@ -9,7 +9,7 @@ use reg_model::laws::{histories_are_lawful, one_member_contains};
 use reg_model::{Again, Found, Half, Member};
 use registry_core::Registry;
 use std::marker::Model;
-use word_rule::places::LOWER;
+use word_rule::places::updates_at;
 use word_rule::{Ask, Caller};
 
 /// The last hits of one caller in one half, eight at most, the most recently used one first.
@@ -103,7 +103,7 @@ impl FrameCache {
         histories_are_lawful();
         one_member_contains();
         let clock = registry.words().load_clock(me, Ask::Nothing);
-        self.recent.keep((clock % LOWER) as u32);
+        self.recent.keep(updates_at(clock));
         if let Some(place) = self.recent.seek(pc) {
             let member = self.recent.get(place).member();
             self.recent.touch(place);
