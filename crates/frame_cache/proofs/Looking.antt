@@ -1,6 +1,6 @@
 -- What a load of the clock and a try of a half make of a cache's caller.
 use Rattle.std.proofs.Common.{◌≡◌, ℕ, ◌≤◌, List, [], ◌∷◌, ◌++◌, length, sym, ap, ◌∙◌, arith, true, Result, Ok, Err}
-use Rattle.registry_core.proofs.Asking.{prefix_length}
+use Rattle.word_rule.proofs.ObservationsFrame.{longer_length}
 use Rattle.reg_model.specs.History.{state_at}
 use Rattle.reg_model.specs.Receipt.{stamp_of}
 use Rattle.reg_model.specs.SpanData.{contains}
@@ -31,7 +31,7 @@ clock_own t found v w (past, receipts, (tells, asked, is)) = ap (λ (w : Log). w
 
 pub clock_seen : (t : Terms) (found : ℕ) (v w : Log) → AfterClock t ask.Nothing found v w → (length v.past ≤ lower found) × (length w.past ≡ lower found)
 clock_seen t found v w (past, receipts, (tells, asked, is)) =
-    let front = prefix_length v.past past tells.begins in
+    let front = longer_length v.past past tells.begins in
     let all = tells.updates in
     (omega (arith, front, all), ap (λ (w : Log). length w.past) is ∙ sym tells.updates)
 
@@ -55,8 +55,8 @@ half_own Loaded t pc k k' (Ok found) l = ap (λ (k : CallerData). k.log.receipts
 half_own Loaded t pc k k' (Err again) l = ap (λ (k : CallerData). k.log.receipts.own) l.log ∙ ap (λ rs. k.log.receipts.own ++ rs) l.answer.2
 
 pub half_seen : (half : Half) (t : Terms) (pc : ℕ) (k k' : CallerData) (found : Found) → TriesHalf half t pc k k' (Ok found) → length k.log.past ≤ stamp_of found
-half_seen Registered t pc k k' found l = let n = prefix_length k.log.past l.past l.begins in let s = l.answer.0 in omega (arith, n, s)
-half_seen Loaded t pc k k' found l = let n = prefix_length k.log.past l.past l.begins in let s = l.seen in let a = l.answer.1 in omega (arith, n, s, a)
+half_seen Registered t pc k k' found l = let n = longer_length k.log.past l.past l.begins in let s = l.answer.0 in omega (arith, n, s)
+half_seen Loaded t pc k k' found l = let n = longer_length k.log.past l.past l.begins in let s = l.seen in let a = l.answer.1 in omega (arith, n, s, a)
 
 -- a hit contains the address
 pub half_hit : (half : Half) (t : Terms) (pc stamp : ℕ) (m : Member) (k k' : CallerData) → TriesHalf half t pc k k' (Ok (Hit m stamp)) → contains m.span pc ≡ true

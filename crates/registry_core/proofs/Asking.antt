@@ -1,5 +1,5 @@
 -- Queries one after another.
-use Rattle.std.proofs.Common.{◌≡◌, ℕ, zero, suc, ◌<◌, ◌≤◌, Contains, List, [], ◌∷◌, ◌++◌, length, length-append, sym, refl, ap, subst, ◌∙◌, arith, append-nil, append_assoc, Option, Some, None, MatchOption, Ok, Err}
+use Rattle.std.proofs.Common.{◌≡◌, ℕ, zero, suc, ◌<◌, ◌≤◌, Contains, List, [], ◌∷◌, ◌++◌, length, sym, refl, ap, subst, ◌∙◌, arith, append-nil, append_assoc, Option, Some, None, MatchOption, Ok, Err}
 use Rattle.std.specs.List.{AllByRecursion}
 use Rattle.std.proofs.lemmas.List.Elements.{Contains-append_left, Contains-append_right}
 use mathlib.Core.List.{IsPrefix}
@@ -25,11 +25,9 @@ use Rattle.word_rule.specs.declared.log.Log.{Log}
 use Rattle.word_rule.specs.declared.log.Sights.{Sights}
 use Rattle.word_rule.specs.declared.log.Terms.{Terms}
 use Rattle.word_rule.proofs.Joins.{prefix_both}
+use Rattle.word_rule.proofs.ObservationsFrame.{longer_length}
 use Rattle.registry_core.specs.Queries.{IsStamped, Queries}
 use Rattle.word_rule.proofs.Each.{all_append, all_map}
-
-pub prefix_length : (a b : List Update) → IsPrefix a b → length a ≤ length b
-prefix_length a b p = let n = length-append a p.0 in let e = ap length p.1 in omega (arith, n, e)
 
 -- a log with these loads, this much seen, these sights and these receipts of its own
 abbrev looked : List LoadEvent → List Update → Sights → List Receipt → Log → Log
@@ -95,7 +93,7 @@ module _ (stay : (start : State) (history more : List Update) (nodes callers lat
         begins = prefix_both a.log.past p.past q.past p.begins begins;
         hold = all_append (HoldsAlways (start t) q.past) rs ss (always_later (start t) p.past q.past begins rs p.hold) q.hold;
         stamped = all_append (IsStamped (p.loads ++ q.loads)) rs ss (stamped_before p.loads q.loads rs p.stamped) (stamped_after p.loads q.loads ss q.stamped);
-        order = order_both (length a.log.past) (length p.past) rs ss (prefix_length a.log.past p.past p.begins) (all_within (start t) p.past rs p.hold) p.order (subst (λ z. AreInOrder (length z) ss) seen q.order);
+        order = order_both (length a.log.past) (length p.past) rs ss (longer_length a.log.past p.past p.begins) (all_within (start t) p.past rs p.hold) p.order (subst (λ z. AreInOrder (length z) ss) seen q.order);
         log = q.log ∙ (ap (λ (k : CallerData). record k { log = after_lookup q.loads q.past q.sights ss k.log }) p.log
             ∙ (λ i. record a { log = looked (append_assoc a.log.trace.loads p.loads q.loads i) q.past q.sights (append_assoc a.log.receipts.own rs ss i) a.log }));
       }
@@ -112,7 +110,7 @@ queries_then t ss a b c p q =
       begins = prefix_both a.log.past p.past q.past p.begins begins;
       hold = q.hold;
       stamped = stamped_after p.loads q.loads ss q.stamped;
-      order = order_later (length a.log.past) (length p.past) ss (prefix_length a.log.past p.past p.begins) (subst (λ z. AreInOrder (length z) ss) seen q.order);
+      order = order_later (length a.log.past) (length p.past) ss (longer_length a.log.past p.past p.begins) (subst (λ z. AreInOrder (length z) ss) seen q.order);
       log = q.log ∙ (ap (λ (k : CallerData). record k { log = after_lookup q.loads q.past q.sights ss k.log }) p.log
           ∙ (λ i. record a { log = looked (append_assoc a.log.trace.loads p.loads q.loads i) q.past q.sights (append_assoc a.log.receipts.own [] ss i) a.log }));
     }
@@ -137,7 +135,7 @@ pub queries_answer : (t : Terms) (pc : ℕ) (found : Found) (b c : CallerData) �
 queries_answer t pc found b c l =
     let loads : List LoadEvent = load_of b.log CLOCK l.first ∷ l.between ++ load_of b.log CLOCK l.second ∷ [] in
     let last : LoadEvent = load_of b.log CLOCK l.second in
-    let n = prefix_length b.log.past l.past l.begins in let s = l.seen in let m = l.answer.1 in
+    let n = longer_length b.log.past l.past l.begins in let s = l.seen in let m = l.answer.1 in
     record {
       past = l.past;
       loads = loads;
@@ -183,7 +181,7 @@ event_of v (x ∷ loaded) w (suc k, l, e) = let r = event_of v loaded w (k, omeg
 -- the one that is answered
 pub tries_answer : (t : Terms) (pc : ℕ) (found : Found) (b c : CallerData) → TriesTree t pc b c (Ok found) → Queries t (Query Registered pc found ∷ []) b c
 tries_answer t pc found b c l =
-    let n = prefix_length b.log.past l.past l.begins in let m = l.answer.0 in
+    let n = longer_length b.log.past l.past l.begins in let m = l.answer.0 in
     record {
       past = l.past;
       loads = load_events b.log l.loaded;

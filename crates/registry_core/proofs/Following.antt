@@ -14,11 +14,11 @@ use Rattle.word_rule.specs.Callers.{IsRecord, start}
 use Rattle.word_rule.specs.declared.log.ReceiptList.{ReceiptList}
 use Rattle.word_rule.specs.declared.log.Receipts.{Receipts}
 use Rattle.word_rule.specs.declared.log.Terms.{Terms}
+use Rattle.word_rule.proofs.ObservationsFrame.{longer_length}
 use Rattle.registry_core.specs.Calls.{Answered, Receives, is_of_update}
 use Rattle.registry_core.specs.Queries.{Queries}
 use Rattle.registry_core.proofs.Counting.{count_both}
 use Rattle.word_rule.proofs.Joins.{prefix_both}
-use Rattle.registry_core.proofs.Asking.{prefix_length}
 use Rattle.word_rule.proofs.Each.{all_append, all_map}
 
 -- receipts with these of one's own
@@ -46,8 +46,8 @@ answered_both a b c front back p q = record {
   terms = q.terms ∙ p.terms;
   begins = prefix_both a.log.past b.log.past c.log.past p.begins q.begins;
   between = all_append (IsBetween (length a.log.past) (length c.log.past)) front back
-      (all_map (IsBetween (length a.log.past) (length b.log.past)) (IsBetween (length a.log.past) (length c.log.past)) (λ r h. (h.0, (let n = prefix_length b.log.past c.log.past q.begins in let w = h.1 in omega (arith, n, w)))) front p.between)
-      (all_map (IsBetween (length b.log.past) (length c.log.past)) (IsBetween (length a.log.past) (length c.log.past)) (λ r h. ((let n = prefix_length a.log.past b.log.past p.begins in let w = h.0 in omega (arith, n, w)), h.1)) back q.between);
+      (all_map (IsBetween (length a.log.past) (length b.log.past)) (IsBetween (length a.log.past) (length c.log.past)) (λ r h. (h.0, (let n = longer_length b.log.past c.log.past q.begins in let w = h.1 in omega (arith, n, w)))) front p.between)
+      (all_map (IsBetween (length b.log.past) (length c.log.past)) (IsBetween (length a.log.past) (length c.log.past)) (λ r h. ((let n = longer_length a.log.past b.log.past p.begins in let w = h.0 in omega (arith, n, w)), h.1)) back q.between);
   left = let n = count_both is_of_update front back in let x = p.left in let y = q.left in omega (arith, n, x, y);
   own = q.own ∙ (ap (λ (r : Receipts). with_own (r.own ++ back) r) p.own ∙ (λ i. with_own (append_assoc a.log.receipts.own front back i) a.log.receipts));
   loader = q.loader ∙ p.loader;

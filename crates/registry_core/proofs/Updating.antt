@@ -19,15 +19,15 @@ use Rattle.btree_change.specs.Insertion.{Inserts, call_begun}
 use Rattle.btree_change.specs.Removal.{Removes}
 use Rattle.btree_change.specs.Replacement.{MakesReplacement}
 use Rattle.btree_change.specs.Updates.{AnswersUpdate}
+use Rattle.word_rule.proofs.ObservationsFrame.{longer_length}
 use Rattle.registry_core.specs.Calls.{Answered, is_of_update, receipts_of_deregister, receipts_of_register, receipts_of_replace}
 use Rattle.word_rule.proofs.Joins.{prefix_both}
-use Rattle.registry_core.proofs.Asking.{prefix_length}
 use Rattle.registry_core.proofs.Following.{answered_none}
 
 -- an update that was begun and answered now
 answered_update : (r : Receipt) (taken : ℕ) (k k' : CallerData) → is_of_update r ≡ true → 0 < k.left → IsIdle k.log → IsPrefix k.log.past k'.log.past → moment r ≡ length k'.log.past → AnswersUpdate r taken (call_begun k) k' → Answered (r ∷ []) k k'
 answered_update r taken k k' update some idle begins at call =
-    let low = prefix_length k.log.past k'.log.past begins in
+    let low = longer_length k.log.past k'.log.past begins in
     let left = call.left in
     record {
       table = call.table;
