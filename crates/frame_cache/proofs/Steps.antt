@@ -39,6 +39,9 @@ pub record Keeps (stamp : ℕ) (r r' : RecentData) : Type 0 where
   pub stamp_is : r'.stamp ≡ stamp
   pub entries : cached_entries r' ≡ kept_entries stamp r.stamp (cached_entries r)
 
+pub keeps_as : {stamp other : ℕ} {r r' : RecentData} → stamp ≡ other → Keeps stamp r r' → Keeps other r r'
+keeps_as {stamp} {other} {r} {r'} is keeps = subst (λ s. Keeps s r r') is keeps
+
 kept_is : (half : Half) (stamp : ℕ) (r r' : RecentData) (c : CacheData) → cache_of half r ≡ c → Keeps stamp r r' → cache_of half r' ≡ kept_at stamp c
 kept_is half stamp r r' c is keeps = (λ i. record { half = half; stamp = keeps.stamp_is i; entries = keeps.entries i }) ∙ ap (kept_at stamp) is
 
