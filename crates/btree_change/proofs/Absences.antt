@@ -24,6 +24,8 @@ use Rattle.btree_change.specs.Removing.{HoldsAlone}
 use Rattle.btree_change.specs.declared.descent.Held.{Held}
 use Rattle.btree_change.proofs.TakingThere.{taken_there}
 use Rattle.btree_change.proofs.Refusing.{leaf_alone, refuses_so, seen_so}
+use Rattle.word_rule.proofs.CallersKept.{kept_caller_on}
+use Rattle.btree_change.proofs.NodeSteps.{caller_so}
 
 -- an entry at a place, by a base at which an entry begins or none does
 begins_so : (base : ℕ) (es : List Member) (m : Member) → at_base base es ≡ Some m → m.span.first ≡ base
@@ -80,14 +82,8 @@ absent_after t base stamp k k1 k2 (more, is) refuses = again (subst (λ z. Refus
       right = r.right;
       none_taken = r.none_taken;
       call = record {
-        table = call.table;
-        left = call.left;
-        terms = call.terms;
-        role = call.role;
+        caller = kept_caller_on (caller_so k refl refl) call.caller;
         budget = call.budget;
-        loader = call.loader;
-        made = call.made;
-        lineage = call.lineage;
         holdings = call.holdings;
         receipts = call.receipts;
       };

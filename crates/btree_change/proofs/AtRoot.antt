@@ -155,7 +155,7 @@ kept_steps k k1 kept = go kept.same
 -- one part after another, to the end
 pub ends_after : (t : Terms) (m : Member) (answer : Inserted) (a b c : ℕ) (k l n : CallerData) → a + b ≤ c → Spends a k l → EndsInsertion t m answer b l n → EndsInsertion t m answer c k n
 ends_after t m answer a b c k l n sum s e = record {
-  right = right_after t m answer k l n s.past s.receipts s.made s.lineage e.right;
+  right = right_after t m answer k l n s.calls e.right;
   call = spends_after a b c (receipt.Register m answer ∷ []) (taken_by answer) k l n sum s e.call;
   nothing = e.nothing;
 }
@@ -167,22 +167,14 @@ pub update_answered : (t : Terms) (m : Member) (answer : Inserted) (k l n : Call
 update_answered t m answer k l n same e full =
     let all = ends_after t m answer 0 64 64 k l n (omega arith) (spends_same k l same) e in record {
       right = all.right;
-      cause = if_full answer (no_room_after m.span.first k l n (ap (λ r. r.own) same.receipts) same.loads) full;
+      cause = if_full answer (no_room_after m.span.first k l n (ap (λ r. r.own) same.calls.receipts) same.loads) full;
       call = answers_so (receipt.Register m answer) (taken_by answer) 64 k n (omega arith) all.call all.nothing;
     }
 
 gives_so : (why : Busy) (most : ℕ) (k n : CallerData) → most ≤ 64 → FoundBusy why k n → GivesUpWhole most why k n → GivesUp why k n
 gives_so why most k n few cause g = record {
   cause = cause;
-  table = g.steps.table;
-  left = g.steps.left;
-  terms = g.steps.terms;
-  role = g.steps.role;
-  past = g.steps.past;
-  receipts = g.steps.receipts;
-  loader = g.steps.loader;
-  made = g.steps.made;
-  lineage = g.steps.lineage;
+  calls = g.steps.calls;
   allowance = g.steps.allowance;
   credit = let c = g.steps.credit in omega (arith, c, few);
   nothing = g.nothing;

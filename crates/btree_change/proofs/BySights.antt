@@ -35,6 +35,7 @@ use Rattle.btree_change.specs.declared.stand.Room.TheVariants as room
 use Rattle.btree_change.proofs.HeldLists.{found_head}
 use Rattle.btree_change.proofs.Lowering.{settled_live}
 use Rattle.btree_change.proofs.Outlining.{spells_same}
+use Rattle.btree_change.proofs.NodeSteps.{caller_so, steps_so}
 
 -- ---- the way down
 
@@ -44,7 +45,7 @@ nothing_still k l same nothing = subst HoldsNothing (sym same) nothing
 -- what came down by loads alone
 pub sees_only : (t : Terms) (pc : ℕ) (k : CallerData) (visit : Visit) (used : ℕ) (k1 : CallerData) → Sees t pc k visit used k1 → OnlySees k k1
 sees_only t pc k visit used k1 s =
-    subst (OnlySees k) (sym s.log) (record { table = refl; left = refl; terms = refl; role = refl; past = refl; budget = refl; receipts = refl; loader = refl; made = refl; lineage = refl; loads = (load_events k.log s.loaded, refl) }, refl)
+    (steps_so k s.log refl (load_events k.log s.loaded, refl), ap (λ (z : CallerData). z.log.holdings) s.log)
 
 -- what ended where a version was found changed or locked
 pub fails_only : (t : Terms) (pc : ℕ) (k : CallerData) (again : Again) (k1 : CallerData) → EndsOnWay t pc k again k1 → OnlySees k k1
@@ -52,16 +53,12 @@ fails_only t pc k again k1 e =
     let tried = e.0 in
     let own : k.log.receipts.own ++ [] ≡ k.log.receipts.own = append-nil k.log.receipts.own in (
       record {
-        table = ap (λ (z : CallerData). z.table) tried.log;
-        left = ap (λ (z : CallerData). z.left) tried.log;
-        terms = ap (λ (z : CallerData). z.log.terms) tried.log;
-        role = ap (λ (z : CallerData). z.log.role) tried.log;
-        past = e.1;
+        calls = record {
+          caller = caller_so k tried.log refl;
+          past = e.1;
+          receipts = ap (λ (z : CallerData). z.log.receipts) tried.log ∙ (λ i. record k.log.receipts { own = own i });
+        };
         budget = ap (λ (z : CallerData). z.log.budget) tried.log;
-        receipts = ap (λ (z : CallerData). z.log.receipts) tried.log ∙ (λ i. record k.log.receipts { own = own i });
-        loader = ap (λ (z : CallerData). z.log.loader) tried.log;
-        made = ap (λ (z : CallerData). z.log.made) tried.log;
-        lineage = ap (λ (z : CallerData). z.log.lineage) tried.log;
         loads = (load_events k.log tried.loaded, ap (λ (z : CallerData). z.log.trace.loads) tried.log);
       },
       ap (λ (z : CallerData). z.log.holdings) tried.log,

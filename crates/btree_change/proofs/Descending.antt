@@ -21,8 +21,10 @@ use Rattle.node_store.specs.Holding.{ReadsHeld}
 use Rattle.node_store.specs.Locking.{Locks}
 use Rattle.node_store.specs.Sights.{after_words}
 use Rattle.btree_change.specs.Paths.{HasChildFor, StepsOnNodes}
-use Rattle.btree_change.proofs.Loading.{keeps_all, keeps_then, keeps_words, none_more}
+use Rattle.btree_change.proofs.Loading.{keeps_words, none_more}
 use Rattle.word_rule.proofs.Each.{all_with}
+use Rattle.btree_change.proofs.NodeSteps.{calls_so, steps_none, steps_so}
+use Rattle.word_rule.proofs.CallersKept.{kept_calls_on}
 
 -- the first slot for an address leads to a child whose fences hold it
 pub slot_branch : (level low pc : ℕ) (pairs : List Pair) (d : Pair) → low ≤ pc → slot_for pc pairs < length pairs
@@ -110,50 +112,23 @@ child_of t n s f pc c live above (b, (there, is, low, high)) =
       never_parent = λ e. (let same : s.level ≡ b.frame.level = ap (λ (z : Frame). z.level) (sym live.own ∙ (ap live.places (sym e) ∙ frame)) in omega (arith, same, level, above));
     }
 
--- steps on nodes, one after another
-pub steps_then : (k l m : CallerData) → StepsOnNodes k l → StepsOnNodes l m → StepsOnNodes k m
-steps_then k l m a b = record {
-  table = b.table ∙ a.table;
-  left = b.left ∙ a.left;
-  terms = b.terms ∙ a.terms;
-  role = b.role ∙ a.role;
-  past = b.past ∙ a.past;
-  budget = b.budget ∙ a.budget;
-  receipts = b.receipts ∙ a.receipts;
-  loader = b.loader ∙ a.loader;
-  made = b.made ∙ a.made;
-  lineage = b.lineage ∙ a.lineage;
-  loads = keeps_then k l m a.loads b.loads;
-}
-
 pub steps_equal : (k l m : CallerData) → m ≡ l → StepsOnNodes k l → StepsOnNodes k m
 steps_equal k l m is a = subst (StepsOnNodes k) (sym is) a
 
-pub steps_none : (k : CallerData) → StepsOnNodes k k
-steps_none k = record { table = refl; left = refl; terms = refl; role = refl; past = refl; budget = refl; receipts = refl; loader = refl; made = refl; lineage = refl; loads = keeps_all k }
-
 pub steps_of_take : (n : ℕ) (k k' : CallerData) → Locks (lock.Node n) k k' → StepsOnNodes k k'
 steps_of_take n k k' (more, marks, nodes, version, settled, words, (tries, taken, is)) =
-    subst (StepsOnNodes k) (sym is) (record { table = refl; left = refl; terms = refl; role = refl; past = refl; budget = refl; receipts = refl; loader = refl; made = refl; lineage = refl; loads = (more, refl) })
+    steps_so k is refl (more, refl)
 
 pub steps_of_letting_go : (n : ℕ) (k k' : CallerData) → k' ≡ record k { log = after_node_release_same n k.log } → StepsOnNodes k k'
 steps_of_letting_go n k k' is =
-    subst (StepsOnNodes k) (sym is) (record { table = refl; left = refl; terms = refl; role = refl; past = refl; budget = refl; receipts = refl; loader = refl; made = refl; lineage = refl; loads = none_more k.log.trace.loads })
+    steps_so k is refl (none_more k.log.trace.loads)
 
 pub steps_of_words : (n : ℕ) (words : List ℕ) (count : ℕ) (k : CallerData) → StepsOnNodes k (record k { log = after_words n words count k.log })
 unfolding after_words
 steps_of_words n words zero k = steps_none k
 steps_of_words n words (suc count) k = let rest = steps_of_words n words count k in record {
-  table = refl;
-  left = refl;
-  terms = rest.terms;
-  role = rest.role;
-  past = rest.past;
+  calls = kept_calls_on rest.calls (calls_so (record k { log = after_words n words count k.log }) refl refl);
   budget = rest.budget;
-  receipts = rest.receipts;
-  loader = rest.loader;
-  made = rest.made;
-  lineage = rest.lineage;
   loads = keeps_words n words (suc count) k;
 }
 

@@ -19,6 +19,7 @@ use Rattle.btree_change.specs.Stands.{HoldsRoot}
 use Rattle.word_rule.specs.Spelling.{SpellsNode}
 use Rattle.std.proofs.lemmas.Option.{same_Some}
 use Rattle.word_rule.proofs.NodeSights.{no_receipt}
+use Rattle.btree_change.proofs.NodeSteps.{caller_so, steps_so}
 
 -- the root was locked and read, by one that held nothing
 pub at_the_root : (t : Terms) (shape : NodeData) (k k1 k2 k3 : CallerData) (found : ℕ) → 0 < t.nodes → k.log.terms ≡ t → HoldsNothing k.log.holdings → Locks (lock.Node 0) k k1 → KnowsTree k1.log.holdings → k2 ≡ record k1 { log = after_node_load 0 2 found k1.log } → SpellsHeld 0 shape k2.log → k3.log.holdings ≡ k2.log.holdings
@@ -59,9 +60,13 @@ may_read_root t k k1 k2 found locks loads = go locks
 
 pub steps_of_load : (n at found : ℕ) (k k' : CallerData) → k' ≡ record k { log = after_node_load n at found k.log } → StepsOnNodes k k'
 steps_of_load n at found k k' is =
-    subst (StepsOnNodes k) (sym is) (record { table = refl; left = refl; terms = refl; role = refl; past = refl; budget = refl; receipts = refl; loader = refl; made = refl; lineage = refl; loads = (_ ∷ [], refl) })
+    steps_so k is refl (_ ∷ [], refl)
 
 pub steps_of_version : (n found : ℕ) (k k' : CallerData) → k' ≡ record k { log = after_node_version ask.Nothing n found k.log } → StepsOnNodes k k'
 steps_of_version n found k k' is =
     let own : k.log.receipts.own ++ receipts_after_version k.log ask.Nothing found (sight_of n k.log.sights.nodes) ≡ k.log.receipts.own = ap (λ rs. k.log.receipts.own ++ rs) (no_receipt k.log found (sight_of n k.log.sights.nodes)) ∙ append-nil k.log.receipts.own in
-    subst (StepsOnNodes k) (sym is) (record { table = refl; left = refl; terms = refl; role = refl; past = refl; budget = refl; receipts = (λ i. record k.log.receipts { own = own i }); loader = refl; made = refl; lineage = refl; loads = (_ ∷ [], refl) })
+    subst (StepsOnNodes k) (sym is) (record {
+      calls = record { caller = caller_so k refl refl; past = refl; receipts = (λ i. record k.log.receipts { own = own i }) };
+      budget = refl;
+      loads = (_ ∷ [], refl);
+    })

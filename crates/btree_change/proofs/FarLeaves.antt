@@ -30,7 +30,7 @@ use Rattle.btree_change.specs.declared.descent.Held.{Held}
 use Rattle.btree_change.specs.declared.path.KeptNode.{KeptNode}
 use Rattle.btree_change.specs.declared.stand.Room.TheVariants as room
 use Rattle.btree_change.specs.Far.{HoldsFar, IsAtNext, IsReadyFar, StandsFar}
-use Rattle.btree_change.specs.Insertion.{HoldsLeaf, PutsMember, RefusesMember, taken_by}
+use Rattle.btree_change.specs.Insertion.{PutsMember, RefusesMember, taken_by}
 use Rattle.btree_change.specs.Kept.{AreKept, HoldsPath, LeavesBelow, as_changed}
 use Rattle.btree_change.specs.Paths.{AreHigher, HoldsNothing, IsSettledLock, StepsOnNodes}
 use Rattle.btree_change.specs.Loads.{KeepsLoads}
@@ -53,6 +53,7 @@ use Rattle.btree_change.proofs.Spending.{due_after, refused_call, right_before, 
 use Rattle.btree_change.proofs.Standing.{live_lock, lowest_of}
 use Rattle.btree_change.proofs.Stepping.{splits_on}
 use Rattle.btree_change.proofs.HeldLists.{found_head}
+use Rattle.btree_change.specs.Removing.{HoldsAlone}
 
 -- No member overlaps in two leaves, and there was no room.
 module _ (t : Terms) (n : ℕ) (s : NodeData) (r : ℕ) (u : NodeData) (m : Member) (k : CallerData) (pair : HoldsLeafPair n s r u k.log.holdings) (live : (place : Frame) × IsLiveNode t r u place) (here : IsInFences m.span.first s) (high : m.span.last < u.high) (free : IsFree m.span (entries_of s)) (free_right : IsFree m.span (entries_of u)) (cause : HadNoRoom m.span.first (length k.log.receipts.own) k.log.trace.loads) where
@@ -195,15 +196,7 @@ module _ (t : Terms) (m : Member) (far : Far) (k : CallerData) (ready : IsReadyF
 
     pub spent : Spends 12 k k1
     spent = record {
-      table = moves.table;
-      left = moves.left;
-      terms = moves.terms;
-      role = moves.role;
-      past = moves.past;
-      receipts = moves.receipts;
-      loader = moves.loader;
-      made = moves.made;
-      lineage = moves.lineage;
+      calls = moves.calls;
       allowance = moves.allowance;
       credit = moves.credit;
       loads = told;
@@ -242,13 +235,13 @@ module _ (t : Terms) (m : Member) (far : Far) (k : CallerData) (ready : IsReadyF
       may_read_leaf = may_read_found far.leaf.node now moves.lock' k2 found leaf_here.spells
 
       pub left_table : k2.table ≡ k.table
-      left_table = leaves.steps.table ∙ moves.table
+      left_table = leaves.steps.calls.caller.table ∙ moves.calls.caller.table
 
       module _ (k3 : CallerData) (shape : NodeData) (reads : ReadsHeld far.leaf.node k2 k3 shape) (kept : k3.log.holdings ≡ k2.log.holdings) where
         shape_is : now ≡ shape
         shape_is = reads_spelled far.leaf.node now shape moves.lock' k2 k3 found leaf_here.spells reads
 
-        pub leaf_held : HoldsLeaf t (record { node = far.leaf.node; content = shape; changed = true }) k3.log.holdings
+        pub leaf_held : HoldsAlone t (record { node = far.leaf.node; content = shape; changed = true }) k3.log.holdings
         leaf_held = record {
           within = leaf.within;
           lock = moves.lock';
@@ -285,21 +278,21 @@ module _ (t : Terms) (m : Member) (far : Far) (k : CallerData) (ready : IsReadyF
         still_due some = due_after (length far.beyond.kept + 12) k k3 spent3 some
 
         pub terms3 : k.log.terms ≡ t → k3.log.terms ≡ t
-        terms3 e = spent3.terms ∙ e
+        terms3 e = spent3.calls.caller.terms ∙ e
 
         pub loader3 : k.log.loader ≡ None → k3.log.loader ≡ None
-        loader3 e = spent3.loader ∙ e
+        loader3 e = spent3.calls.caller.loader ∙ e
 
         pub table3 : k3.table ≡ k.table
-        table3 = spent3.table
+        table3 = spent3.calls.caller.table
 
         -- the member was put there, and the leaf let go of
-        module _ (number : ℕ) (k4 : CallerData) (puts : PutsMember m far.leaf.node number k3 k4) where
+        module _ (number : ℕ) (k4 : CallerData) (puts : PutsMember t m far.leaf.node number k3 k4) where
           put_answers : AnswersHere t m far.leaf.node (inserted.Done number) true k3 k4
           put_answers = put_here t m far.leaf.node number k3 k4 puts
 
           pub table4 : k4.table ≡ k.table
-          table4 = puts.table ∙ table3
+          table4 = puts.call.caller.table ∙ table3
 
           pub put_may : MayGo far.leaf.node true k4.log.holdings
           put_may = lowest_may far.leaf.node true k4.log.holdings (here_lowest t m far.leaf.node (inserted.Done number) true k3 k4 put_answers)
@@ -335,7 +328,7 @@ module _ (t : Terms) (m : Member) (n : Next) (k : CallerData) (at : IsAtNext t m
 
     pub refused_ends : (k2 : CallerData) → Spends (length n.far.beyond.kept + 1) k1 k2 → HoldsNothing k2.log.holdings → EndsInsertion t m answer (length n.far.beyond.kept + 13) k k2
     refused_ends k2 steps nothing = record {
-      right = right_before t m answer k k1 k2 steps.past refused.right;
+      right = right_before t m answer k k1 k2 steps.calls.past refused.right;
       call = spends_before 0 (length n.far.beyond.kept + 1) (length n.far.beyond.kept + 13) (receipt.Register m answer ∷ []) (taken_by answer) k k1 k2 (omega arith) call steps;
       nothing = nothing;
     }

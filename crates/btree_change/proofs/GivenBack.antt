@@ -1,5 +1,5 @@
 -- A node that left the tree is given back, where all else that is held has settled.
-use Rattle.std.proofs.Common.{◌≡◌, ◌≢◌, ℕ, List, [], ◌∷◌, ◌++◌, map, sym, refl, ap, ◌∙◌, subst, arith, Bool, true, false, ◌==◌, not, ◌&&◌, ◌||◌, true≢false, Some, None, is_some, eq-eqb, ne_eqb, if◌then◌else◌, cond}
+use Rattle.std.proofs.Common.{◌≡◌, ◌≢◌, ℕ, List, [], ◌∷◌, ◌++◌, map, sym, refl, ap, ◌∙◌, subst, Bool, true, false, ◌==◌, not, ◌&&◌, ◌||◌, true≢false, Some, None, is_some, eq-eqb, ne_eqb, if◌then◌else◌, cond}
 use Rattle.std.specs.List.{AllByRecursion}
 use native.Mathlib.Decide.{ℕ_discrete}
 use Rattle.tree_shape.specs.Numbers.{is_among}
@@ -11,23 +11,25 @@ use Rattle.word_rule.specs.Sights.{after_node_load}
 use Rattle.word_rule.specs.Spelling.{spelled}
 use Rattle.word_rule.specs.Steps.{after_head_load, after_node_release, after_node_release_same, after_node_store, after_push, store_in, stored_log}
 use Rattle.word_rule.specs.declared.log.Holding.{Holding}
-use Rattle.word_rule.specs.declared.log.LoadEvent.{LoadEvent}
 use Rattle.word_rule.specs.declared.log.Log.{Log}
 use Rattle.node_store.specs.Free.{GivesFree, LosesNode, after_freeing, after_links, after_setting, held_word}
 use Rattle.node_store.specs.declared.locking.Busy.{Busy}
 use Rattle.word_rule.proofs.Exchanges.{spelled_decides}
-use Rattle.btree_change.specs.Releases.{Spends}
+use Rattle.btree_change.specs.Paths.{StepsOnNodes}
 use Rattle.btree_change.specs.Siblings.{IsGoneOrSettled, KeepsOut, ReturnsNode}
+use Rattle.btree_change.specs.Splits.{with_release_less}
 use Rattle.btree_change.proofs.LeafCommits.{all_nothing}
 use Rattle.node_store.proofs.Settled.{ExchangeLaw}
-use Rattle.btree_change.proofs.Loading.{keeps_then, none_more}
+use Rattle.btree_change.proofs.Loading.{none_more}
+use Rattle.btree_change.proofs.NodeSteps.{less_release_then, steps_none, steps_so, steps_then}
+use Rattle.btree_change.proofs.Spending.{spends_one}
 
 -- What the stores in one lock leave: the others as they were, and that it isn't marked.
 pub record OnlyThere (n : ℕ) (v w : Log) : Type 0 where
   pub held : without_lock n w.holdings.held ≡ without_lock n v.holdings.held
   pub ready : AllByRecursion (IsGoneOrSettled n) w.holdings.held
   pub out : w.holdings.out ≡ v.holdings.out
-  pub spends : (k : CallerData) → Spends 0 (record k { log = v }) (record k { log = w })
+  pub same : (k : CallerData) → StepsOnNodes (record k { log = v }) (record k { log = w })
 
 edited_without : (n : ℕ) (g : Holding → Holding) (held : List Holding) → ((h : Holding) → (g h).node ≡ h.node) → without_lock n (edited n g held) ≡ without_lock n held
 edited_without n g [] keeps = refl
@@ -63,41 +65,12 @@ and_no : (b : Bool) → (b && false) ≡ false
 and_no true = refl
 and_no false = refl
 
-no_spend : (k : CallerData) (v w : Log) → w ≡ record v { trace = w.trace; holdings = w.holdings; sights = w.sights } → (more : List LoadEvent) × (w.trace.loads ≡ v.trace.loads ++ more) → Spends 0 (record k { log = v }) (record k { log = w })
-no_spend k v w is loads = record {
-  table = refl;
-  left = refl;
-  terms = ap (λ z. z.terms) is;
-  role = ap (λ z. z.role) is;
-  past = ap (λ z. z.past) is;
-  receipts = ap (λ z. z.receipts) is;
-  loader = ap (λ z. z.loader) is;
-  made = ap (λ z. z.made) is;
-  lineage = ap (λ z. z.lineage) is;
-  allowance = ap (λ z. z.budget.allowance) is;
-  credit = (let e = ap (λ z. z.budget.credit) is in omega (arith, e));
-  loads = loads;
-}
-
 pub there_then : (n : ℕ) (u v w : Log) → OnlyThere n u v → OnlyThere n v w → OnlyThere n u w
 there_then n u v w a b = record {
   held = b.held ∙ a.held;
   ready = b.ready;
   out = b.out ∙ a.out;
-  spends = λ k. (let p = a.spends k in let q = b.spends k in record {
-    table = q.table ∙ p.table;
-    left = q.left ∙ p.left;
-    terms = q.terms ∙ p.terms;
-    role = q.role ∙ p.role;
-    past = q.past ∙ p.past;
-    receipts = q.receipts ∙ p.receipts;
-    loader = q.loader ∙ p.loader;
-    made = q.made ∙ p.made;
-    lineage = q.lineage ∙ p.lineage;
-    allowance = q.allowance ∙ p.allowance;
-    credit = (let x = p.credit in let y = q.credit in omega (arith, x, y));
-    loads = keeps_then (record k { log = u }) (record k { log = v }) (record k { log = w }) p.loads q.loads;
-  });
+  same = λ k. steps_then (record k { log = u }) (record k { log = v }) (record k { log = w }) (a.same k) (b.same k);
 }
 
 pub stored_there : (n at value : ℕ) (v : Log) → AllByRecursion (IsGoneOrSettled n) v.holdings.held → OnlyThere n v (after_node_store n at value v)
@@ -107,11 +80,11 @@ stored_there n at value v all =
       held = edited_without n (store_in at value) v.holdings.held (λ h. refl);
       ready = edited_ready n (store_in at value) v.holdings.held (λ h. refl) (λ h. refl) all;
       out = refl;
-      spends = λ k. no_spend k v (stored_log n at value v) refl (none_more v.trace.loads);
+      same = λ k. steps_so (record k { log = v }) refl refl (none_more v.trace.loads);
     })
 
 loaded_there : (n at value : ℕ) (v : Log) → AllByRecursion (IsGoneOrSettled n) v.holdings.held → OnlyThere n v (after_node_load n at value v)
-loaded_there n at value v all = record { held = refl; ready = all; out = refl; spends = λ k. no_spend k v (after_node_load n at value v) refl (_ ∷ [], refl) }
+loaded_there n at value v all = record { held = refl; ready = all; out = refl; same = λ k. steps_so (record k { log = v }) refl refl (_ ∷ [], refl) }
 
 set_there : (n at value : ℕ) (v : Log) → AllByRecursion (IsGoneOrSettled n) v.holdings.held → OnlyThere n v (after_setting n at value v)
 set_there n at value v all = go (held_word n at v == value)
@@ -121,13 +94,13 @@ set_there n at value v all = go (held_word n at v == value)
     go false = there_then n v (after_node_load n at (held_word n at v) v) (after_node_store n at value (after_node_load n at (held_word n at v) v)) (loaded_there n at (held_word n at v) v all) (stored_there n at value (after_node_load n at (held_word n at v) v) all)
 
 headed_there : (n head : ℕ) (v : Log) → AllByRecursion (IsGoneOrSettled n) v.holdings.held → OnlyThere n v (after_head_load head v)
-headed_there n head v all = record { held = refl; ready = all; out = refl; spends = λ k. no_spend k v (after_head_load head v) refl (_ ∷ [], refl) }
+headed_there n head v all = record { held = refl; ready = all; out = refl; same = λ k. steps_so (record k { log = v }) refl refl (_ ∷ [], refl) }
 
 freed_there : (n : ℕ) (v : Log) → AllByRecursion (IsGoneOrSettled n) v.holdings.held → OnlyThere n v (after_freeing n v)
 freed_there n v all = let kind = set_there n 1 2 v all in there_then n v (after_setting n 1 2 v) (after_freeing n v) kind (set_there n 2 0 (after_setting n 1 2 v) kind.ready)
 
 links_there : (n : ℕ) (heads : List ℕ) (v : Log) → AllByRecursion (IsGoneOrSettled n) v.holdings.held → OnlyThere n v (after_links n heads v)
-links_there n [] v all = record { held = refl; ready = all; out = refl; spends = λ k. no_spend k v v refl (none_more v.trace.loads) }
+links_there n [] v all = record { held = refl; ready = all; out = refl; same = λ k. steps_none (record k { log = v }) }
 links_there n (head ∷ heads) v all =
     let headed_so = headed_there n head v all in
     let linked_so = stored_there n 6 head (after_head_load head v) headed_so.ready in
@@ -172,44 +145,36 @@ frees_only law n v all = ap (λ b. if b then after_exchange v (top_of v None) (i
         absurd (true≢false (sym grouped ∙ ap (λ hs. is_among (map node_of hs) (top_of v None)) none_changed))
 
 -- it was let go of after such steps
-let_go_there : ExchangeLaw → (n : ℕ) (k k' : CallerData) (w : Log) → AllByRecursion (IsGoneOrSettled n) w.holdings.held → Spends 0 k (record k { log = w }) → k' ≡ record k { log = after_node_release n w }
-    → Spends 1 k k' × (k'.log.holdings.held ≡ without_lock n w.holdings.held) × (k'.log.holdings.out ≡ w.holdings.out)
+let_go_there : ExchangeLaw → (n : ℕ) (k k' : CallerData) (w : Log) → AllByRecursion (IsGoneOrSettled n) w.holdings.held → StepsOnNodes k (record k { log = w }) → k' ≡ record k { log = after_node_release n w }
+    → (k'.log.holdings.held ≡ without_lock n w.holdings.held) × (k'.log.holdings.out ≡ w.holdings.out) × StepsOnNodes (with_release_less k) k'
 let_go_there law n k k' w ready p is =
     let free : settle None w ≡ settle_free w = frees_only law n w ready in
-    let equal : k' ≡ record k { log = record (after_node_release_same n (settle_free w)) { budget = after_spending w.budget } } = is ∙ ap (λ (z : Log). record k { log = record (after_node_release_same n z) { budget = after_spending z.budget } }) free in
-    subst (λ (z : CallerData). Spends 1 k z × (z.log.holdings.held ≡ without_lock n w.holdings.held) × (z.log.holdings.out ≡ w.holdings.out)) (sym equal) (
-      record {
-        table = refl;
-        left = refl;
-        terms = p.terms;
-        role = p.role;
-        past = p.past;
-        receipts = p.receipts;
-        loader = p.loader;
-        made = p.made;
-        lineage = p.lineage;
-        allowance = p.allowance;
-        credit = (let c = p.credit in omega (arith, c));
-        loads = p.loads;
-      },
-      settled_rest n w.holdings.held ready,
-      refl,
+    let equal : k' ≡ record k { log = record (after_node_release_same n (settle_free w)) { budget = after_spending w.budget } } = is ∙ ap (λ (z : Log). record k { log = record (after_node_release_same n z) { budget = after_spending z.budget } }) free in (
+      ap (λ (z : CallerData). z.log.holdings.held) equal ∙ settled_rest n w.holdings.held ready,
+      ap (λ (z : CallerData). z.log.holdings.out) equal,
+      steps_then (with_release_less k) (with_release_less (record k { log = w })) k' (less_release_then k (record k { log = w }) p) (steps_so (with_release_less (record k { log = w })) equal refl (none_more w.trace.loads)),
     )
 
 module _ (law : ExchangeLaw) (n : ℕ) (k k' : CallerData) (all : AllByRecursion (IsGoneOrSettled n) k.log.holdings.held) where
   there : (heads : List ℕ) → OnlyThere n k.log (after_links n heads (after_freeing n k.log))
   there heads = let freed_so = freed_there n k.log all in there_then n k.log (after_freeing n k.log) (after_links n heads (after_freeing n k.log)) freed_so (links_there n heads (after_freeing n k.log) freed_so.ready)
 
-  pub given_back : GivesFree n k k' → ReturnsNode n k k'
-  given_back (freed, ((lost, head, (short, pushed)), is)) =
-      let u = after_links n (lost ++ head ∷ []) (after_freeing n k.log) in let t = there (lost ++ head ∷ []) in let p = t.spends k in
-      let left = let_go_there law n k k' (after_push n u) t.ready (record { table = p.table; left = p.left; terms = p.terms; role = p.role; past = p.past; receipts = p.receipts; loader = p.loader; made = p.made; lineage = p.lineage; allowance = p.allowance; credit = p.credit; loads = p.loads })
+  pub given_steps : GivesFree n k k' → (k'.log.holdings.held ≡ without_lock n k.log.holdings.held) × (k'.log.holdings.out ≡ all_but n k.log.holdings.out) × StepsOnNodes (with_release_less k) k'
+  given_steps (freed, ((lost, head, (short, pushed)), is)) =
+      let u = after_links n (lost ++ head ∷ []) (after_freeing n k.log) in let t = there (lost ++ head ∷ []) in
+      let left = let_go_there law n k k' (after_push n u) t.ready (steps_then k (record k { log = u }) (record k { log = after_push n u }) (t.same k) (steps_so (record k { log = u }) refl refl (none_more u.trace.loads)))
       (is ∙ ap (λ (z : CallerData). record z { log = after_node_release n z.log }) pushed) in
-      record { spends = left.0; held = left.1 ∙ t.held; out = left.2 ∙ ap (all_but n) t.out }
+      (left.0 ∙ t.held, left.1 ∙ ap (all_but n) t.out, left.2)
 
-  pub kept_out : (why : Busy) → LosesNode n why k k' → KeepsOut n why k k'
-  kept_out why (named, cause, (freed, (found, (lost, head, (short, other, stays)), is))) =
+  pub lost_steps : (why : Busy) → LosesNode n why k k' → (k'.log.holdings.held ≡ without_lock n k.log.holdings.held) × (k'.log.holdings.out ≡ k.log.holdings.out) × StepsOnNodes (with_release_less k) k'
+  lost_steps why (named, cause, (freed, (found, (lost, head, (short, other, stays)), is))) =
       let u = after_links n (lost ++ head ∷ []) (after_freeing n k.log) in let t = there (lost ++ head ∷ []) in
       let all_of = there_then n k.log u (after_head_load found u) t (headed_there n found u t.ready) in
-      let left = let_go_there law n k k' (after_head_load found u) all_of.ready (all_of.spends k) (is ∙ ap (λ (z : CallerData). record z { log = after_node_release n z.log }) stays) in
-      record { lost = named; cause = cause; spends = left.0; held = left.1 ∙ all_of.held; out = left.2 ∙ all_of.out }
+      let left = let_go_there law n k k' (after_head_load found u) all_of.ready (all_of.same k) (is ∙ ap (λ (z : CallerData). record z { log = after_node_release n z.log }) stays) in
+      (left.0 ∙ all_of.held, left.1 ∙ all_of.out, left.2)
+
+  pub given_back : GivesFree n k k' → ReturnsNode n k k'
+  given_back gives = let r = given_steps gives in record { spends = spends_one k k' r.2; held = r.0; out = r.1 }
+
+  pub kept_out : (why : Busy) → LosesNode n why k k' → KeepsOut n why k k'
+  kept_out why loses = let r = lost_steps why loses in record { lost = loses.0; cause = loses.1; spends = spends_one k k' r.2; held = r.0; out = r.1 }

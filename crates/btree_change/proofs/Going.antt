@@ -30,7 +30,7 @@ use Rattle.btree_change.proofs.Standing.{reach_kept, way_kept}
 
 -- the way on, after the child was locked
 pub way_lowered : (way : Room) (pc : ℕ) (s : NodeData) (k l : CallerData) → StepsOnNodes k l → KeepsLoads k l → HasWayOn way pc s k.log → HasWayOn way pc s l.log
-way_lowered way pc s k l steps (more, is) on = way_kept way pc s k.log l.log (ap (λ r. r.own) steps.receipts) more is on
+way_lowered way pc s k l steps (more, is) on = way_kept way pc s k.log l.log (ap (λ r. r.own) steps.calls.receipts) more is on
 
 -- the node above both leaves depends on a lock's node and level alone
 pub beyond_same : (t : Terms) (b : Beyond) (a c : Holding) (above : List Holding) → c.node ≡ a.node → c.settled.level ≡ a.settled.level → LiesBeyond t b a above → LiesBeyond t b c above
@@ -113,7 +113,7 @@ module _ (t : Terms) (m : Member) (stand : Stand) (k : CallerData) (stands : Sta
       where
         lost : (r : Room) → IfNoneFree r (HasCause stand.room m.span.first k1 k2) → IfNoneFree r (HasCause stand.room m.span.first k k3)
         lost room.Splitting c = tt
-        lost room.NoneFree c = cause_after stand.room m.span.first k k1 k3 (ap (λ r. r.own) steps.receipts) steps.loads (cause_still stand.room m.span.first k1 k2 k3 c spent.loads)
+        lost room.NoneFree c = cause_after stand.room m.span.first k k1 k3 (ap (λ r. r.own) steps.calls.receipts) steps.loads (cause_still stand.room m.span.first k1 k2 k3 c spent.loads)
 
   -- a lock was taken, and all was let go of
   pub gives_up_all : (why : Busy) (a : ℕ) (l n : CallerData) → a ≤ 1 → Spends a k l → l.log.holdings.out ≡ [] → LeavesBelow (length (kept_above stand.beyond) + 1) [] l n → GivesUpWhole (releases_from stand) why k n

@@ -28,7 +28,6 @@ use Rattle.btree_change.specs.Paths.{StepsOnNodes}
 use Rattle.btree_change.specs.Removing.{IsSpare, IsSpareAs}
 use Rattle.btree_change.specs.Siblings.{HoldsGone, HoldsSiblings, both_of}
 use Rattle.btree_change.specs.declared.sibling.Siblings.{Siblings}
-use Rattle.btree_change.proofs.Descending.{steps_then}
 use Rattle.btree_change.proofs.Descents.{steps_of_load}
 use Rattle.btree_change.proofs.Loading.{none_more}
 use Rattle.btree_change.proofs.Pairings.{AreThree, IsNow, at_slot_is, both_high, both_left, both_low, both_more, family, here, in_l, in_r, later, left_told, next_slot_is, not_in, parent_told, right_told, settles, three}
@@ -36,6 +35,7 @@ use Rattle.btree_change.proofs.Settling.{SettlingLaws, settled_gone, settled_gro
 use Rattle.btree_change.proofs.Written.{IsWrittenAs, edit_high, spells_freed, write_low, write_upper}
 use Rattle.btree_change.proofs.Lowering.{settled_live}
 use Rattle.btree_change.proofs.HeldLists.{found_head}
+use Rattle.btree_change.proofs.NodeSteps.{steps_so, steps_then}
 
 -- what is found in a list has a place there
 pub inside_of : (xs : List Pair) (i : ℕ) (p : Pair) → slice_get xs i ≡ Some p → i < length xs
@@ -136,7 +136,7 @@ module _ (t : Terms) (x : Siblings) (k k1 : CallerData) (found : ℕ) (hs : Hold
       upper_node = w2.node ∙ hs.parent.node
 
       pub table3 : k3.table ≡ k.table
-      table3 = w2.same.table ∙ (w1.same.table ∙ ap (λ (z : CallerData). z.table) loads)
+      table3 = w2.same.calls.caller.table ∙ (w1.same.calls.caller.table ∙ ap (λ (z : CallerData). z.table) loads)
 
       found_right : (high : Holding) (hs' : List Holding) → high.node ≡ r → hs' ≡ both_of hs.left_first w1.lock high (w2.lock ∷ []) → held_of r hs' ≡ Some high
       found_right high hs' is held = ap (held_of r) held ∙ both_high hs.left_first w1.lock high (w2.lock ∷ []) r is (λ e. apart.left_right (sym low_node ∙ e))
@@ -288,6 +288,6 @@ module _ (t : Terms) (x : Siblings) (k k1 : CallerData) (found : ℕ) (hs : Hold
 
           pub joined_steps : StepsOnNodes k k5
           joined_steps =
-              let plain4 : StepsOnNodes k3 k4 = subst (StepsOnNodes k3) (sym stores4) (record { table = refl; left = refl; terms = refl; role = refl; past = refl; budget = refl; receipts = refl; loader = refl; made = refl; lineage = refl; loads = none_more k3.log.trace.loads }) in
-              let plain5 : StepsOnNodes k4 k5 = subst (StepsOnNodes k4) (sym (stores5 ∙ ap (λ (z : Log). record k4 { log = z }) (frees_it ∙ settled5))) (record { table = refl; left = refl; terms = refl; role = refl; past = refl; budget = refl; receipts = refl; loader = refl; made = refl; lineage = refl; loads = none_more k4.log.trace.loads }) in
+              let plain4 : StepsOnNodes k3 k4 = steps_so k3 stores4 refl (none_more k3.log.trace.loads) in
+              let plain5 : StepsOnNodes k4 k5 = steps_so k4 (stores5 ∙ ap (λ (z : Log). record k4 { log = z }) (frees_it ∙ settled5)) refl (none_more k4.log.trace.loads) in
               steps_then k k1 k5 (steps_of_load r 2 found k k1 loads) (steps_then k1 k2 k5 w1.same (steps_then k2 k3 k5 w2.same (steps_then k3 k4 k5 plain4 plain5)))

@@ -25,6 +25,8 @@ use Rattle.btree_change.specs.Updates.{AcceptsUpdate}
 use Rattle.btree_change.specs.declared.descent.Held.{Held}
 use Rattle.btree_change.proofs.LeafCommits.{LeafLaws, lawful_commit, settled_after}
 use Rattle.btree_change.proofs.Storing.{IsRewritten}
+use Rattle.word_rule.proofs.CallersKept.{kept_caller_on}
+use Rattle.btree_change.proofs.NodeSteps.{caller_so}
 
 module _ (laws : LeafLaws) (t : Terms) (u : Update) (at : Held) (now : NodeData) (k1 k2 : CallerData) (alone : HoldsAlone t at k1.log.holdings) (tree : KnowsTree k1.log.holdings) (level : now.level ≡ 0)
     (in_leaf : is_leaf_at (address_of u) (Some now) ≡ true) (written : IsRewritten now alone.lock [] [] k1 k2) where
@@ -92,14 +94,8 @@ module _ (laws : LeafLaws) (t : Terms) (u : Update) (at : Held) (now : NodeData)
 
       pub accepts_so : (changed : Bool) → written.lock.stored ≡ changed → AcceptsUpdate r at.node changed k k3
       accepts_so changed stored = record {
-        table = ap (λ z. z.table) rest ∙ steps.table;
-        left = ap (λ z. z.left) rest ∙ steps.left;
-        terms = ap (λ z. z.terms) log_is ∙ steps.terms;
-        role = ap (λ z. z.role) log_is ∙ steps.role;
-        loader = ap (λ z. z.loader) log_is ∙ steps.loader;
-        made = ap (λ z. z.made) log_is ∙ steps.made;
-        lineage = ap (λ z. z.lineage) log_is ∙ steps.lineage;
-        receipts = ap (λ z. z.receipts) log_is ∙ ap (λ (rs : Receipts). record rs { own = rs.own ++ r ∷ [] }) steps.receipts;
+        caller = kept_caller_on steps.calls.caller (caller_so k2 (rest ∙ ap (λ (z : Log). record k2 { log = z }) log_is) refl);
+        receipts = ap (λ z. z.receipts) log_is ∙ ap (λ (rs : Receipts). record rs { own = rs.own ++ r ∷ [] }) steps.calls.receipts;
         budget = ap (λ z. z.budget) log_is ∙ ap (λ (b : Budget). record b { allowance = b.allowance - 1 }) steps.budget;
         holds = record {
           lock = record written.lock { settled = now; mark = Some (frame_of now) };

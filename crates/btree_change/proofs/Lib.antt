@@ -5,6 +5,7 @@ pub mod LeafCommits
 pub mod HeldTrees
 pub mod Loading
 pub mod NoRoom
+pub mod NodeSteps
 pub mod Descending
 pub mod Descents
 pub mod Storing

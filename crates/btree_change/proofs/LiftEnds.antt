@@ -23,16 +23,16 @@ use Rattle.btree_change.specs.declared.split.Ways.{Ways}
 use Rattle.btree_change.specs.Halves.{WritesRootParts}
 use Rattle.btree_change.specs.Paths.{HasChildFor, StepsOnNodes}
 use Rattle.btree_change.specs.Splits.{HasSpace, HoldsFullRoot, IsHeldAs, LiftsRoot, half_for, other_half, other_in, root_for, root_parts_for, way_in, with_release_less}
-use Rattle.btree_change.proofs.Descending.{steps_then}
 use Rattle.btree_change.proofs.Outlining.{may_read, spell_one, spells_held}
 use Rattle.node_store.specs.Holding.{SpellsHeld}
 use Rattle.btree_change.proofs.HeldParts.{dropped, is_first, is_second, is_third, told_place}
 use Rattle.btree_change.proofs.Lifting.{LiftLaw, g, left_zero, lift_change, nothing_out, right_zero, root_now}
 use Rattle.btree_change.proofs.Loading.{none_more}
 use Rattle.btree_change.proofs.Settling.{SettlingLaws, may_release, released, settled_group, settled_new}
-use Rattle.btree_change.proofs.SplitEnds.{half_changed, less_release_then, same_held, settled_lock}
+use Rattle.btree_change.proofs.SplitEnds.{half_changed, same_held, settled_lock}
 use Rattle.btree_change.proofs.SplitParts.{are_halves}
 use Rattle.btree_change.proofs.Storing.{found_at}
+use Rattle.btree_change.proofs.NodeSteps.{less_release_then, steps_so, steps_then}
 
 -- What is left of the halves, and what is said of the one on the way.
 record Ends (t : Terms) (full : FullRoot) (pc : ℕ) (held : List Holding) (upper : Holding) (way : Held) (other : ℕ) (k : CallerData) : Type 0 where
@@ -167,7 +167,7 @@ module _ (laws : SettlingLaws) (law : LiftLaw) (t : Terms) (full : FullRoot) (pc
       let whole = is ∙ ap (λ (z : Log). record k' { log = z }) log in record {
         held = ap (λ (z : CallerData). z.log.holdings.held) whole ∙ (ap (without_lock other) settles ∙ ends.left);
         out = ap (λ (z : CallerData). z.log.holdings.out) whole ∙ nothing_out t full pc k h w.tree law k' w;
-        same = subst (StepsOnNodes (with_release_less k')) (sym whole) (record { table = refl; left = refl; terms = refl; role = refl; past = refl; budget = refl; receipts = refl; loader = refl; made = refl; lineage = refl; loads = none_more k'.log.trace.loads });
+        same = steps_so (with_release_less k') whole refl (none_more k'.log.trace.loads);
       }
 
   -- both that are held may be read then
@@ -233,7 +233,7 @@ module _ (laws : SettlingLaws) (law : LiftLaw) (t : Terms) (full : FullRoot) (pc
               spells = ends.spells;
               stored = ends.stored;
               marked = ends.marked;
-              live = told_place t way.node way.content ends.lock k5.log (steps5.terms ∙ terms) found_way ends.node ends.settled (subst (λ n. HolderTells n k5.log) way_node told_way);
+              live = told_place t way.node way.content ends.lock k5.log (steps5.calls.caller.terms ∙ terms) found_way ends.node ends.settled (subst (λ n. HolderTells n k5.log) way_node told_way);
             });
             parent_held = subst (λ z. IsHeldAs t z upper') (sym parent_is) (record {
               node = w.root_written.node;
@@ -241,7 +241,7 @@ module _ (laws : SettlingLaws) (law : LiftLaw) (t : Terms) (full : FullRoot) (pc
               spells = w.root_written.spells;
               stored = w.root_written.stored;
               marked = refl;
-              live = told_place t full.root.node (root_parts_for full).above upper' k5.log (steps5.terms ∙ terms) found_up w.root_written.node refl told_parent;
+              live = told_place t full.root.node (root_parts_for full).above upper' k5.log (steps5.calls.caller.terms ∙ terms) found_up w.root_written.node refl told_parent;
             });
             way = way_is;
             parent = parent_is;

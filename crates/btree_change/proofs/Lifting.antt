@@ -26,7 +26,6 @@ use Rattle.btree_change.specs.declared.split.Parts.{Parts}
 use Rattle.btree_change.specs.Halves.{WritesRootParts}
 use Rattle.btree_change.specs.Paths.{StepsOnNodes}
 use Rattle.btree_change.specs.Splits.{HoldsFullRoot, root_parts_for}
-use Rattle.btree_change.proofs.Descending.{steps_then}
 use Rattle.btree_change.proofs.HeldParts.{AreFar, IsTold, is_first, is_second, is_third, lives_apart}
 use Rattle.btree_change.proofs.HeldLists.{HeldOnce}
 use Rattle.btree_change.proofs.Settling.{FitsChange, IsHeldChange, left_out, marked_at, none_out}
@@ -35,6 +34,7 @@ use Rattle.btree_change.proofs.Outlining.{spells_held}
 use Rattle.word_rule.specs.declared.log.Log.{Log}
 use Rattle.btree_change.proofs.Halving.{fits_new, fits_written, new_lock, written_lock}
 use Rattle.btree_change.proofs.Storing.{IsRewritten, found_at, rewritten_so}
+use Rattle.btree_change.proofs.NodeSteps.{steps_then}
 
 -- the law of a lifted root, as a change of the three nodes alone
 abbrev pub LiftLaw : Type 0
@@ -176,7 +176,7 @@ module _ (t : Terms) (full : FullRoot) (pc : ℕ) (k0 : CallerData) (h : HoldsFu
           (subst (λ (z : Parts). StoresHeld full.right z.right k1 k2) are write2) (subst (λ (z : Parts). SpellsHeld full.right z.right k2.log) are spell2)
 
       pub table_then : k2.table ≡ k.table
-      table_then = second.same.table ∙ first.same.table
+      table_then = second.same.calls.caller.table ∙ first.same.calls.caller.table
 
       right_is : second.lock.node ≡ full.right
       right_is = second.node ∙ h.right_free.node

@@ -26,10 +26,11 @@ use Rattle.btree_change.specs.Paths.{IsSettledLock, StepsOnNodes}
 use Rattle.btree_change.specs.Removing.{HoldsAlone}
 use Rattle.btree_change.specs.Siblings.{HoldsChild}
 use Rattle.btree_change.specs.declared.descent.Held.{Held}
-use Rattle.btree_change.proofs.Descending.{found_child, steps_of_take, steps_then, weaken}
+use Rattle.btree_change.proofs.Descending.{found_child, steps_of_take, weaken}
 use Rattle.btree_change.proofs.Outlining.{steps_of_loads}
 use Rattle.btree_change.proofs.Lowering.{settled_live}
 use Rattle.word_rule.proofs.Each.{all_with}
+use Rattle.btree_change.proofs.NodeSteps.{steps_so, steps_then}
 
 -- a pair of a node names a branch
 pub branch_at : (level low : ℕ) (pairs : List Pair) (slot : ℕ) (p : Pair) → slice_get pairs slot ≡ Some p → (b : Branch) × (Contains (branches_from level low pairs) b × (b.child ≡ p.child) × (b.frame.high ≡ p.separator) × (b.frame.level ≡ level))
@@ -194,4 +195,4 @@ may_read_taken t c k k1 (more, marks, nodes, version, settled, words, (tries, ta
 
 -- a lock that was found taken changes nothing that is held
 pub busy_kept : (id : LockId) (k k' : CallerData) → IsBusy id k k' → (k'.log.holdings ≡ k.log.holdings) × (surplus k' ≡ surplus k) × StepsOnNodes k k'
-busy_kept id k k' (found, (odd, is)) = (ap (λ (z : CallerData). z.log.holdings) is, ap surplus is, subst (StepsOnNodes k) (sym is) (record { table = refl; left = refl; terms = refl; role = refl; past = refl; budget = refl; receipts = refl; loader = refl; made = refl; lineage = refl; loads = (_ ∷ [], refl) }))
+busy_kept id k k' (found, (odd, is)) = (ap (λ (z : CallerData). z.log.holdings) is, ap surplus is, steps_so k is refl (_ ∷ [], refl))

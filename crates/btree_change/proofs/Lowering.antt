@@ -19,8 +19,9 @@ use Rattle.node_store.specs.Outlines.{OnlyLoads}
 use Rattle.btree_change.specs.declared.descent.Held.{Held}
 use Rattle.btree_change.specs.Paths.{AreHigher, HasChildFor, IsSettledLock, StepsOnNodes}
 use Rattle.btree_change.specs.Stands.{HoldsPair, StandsAt}
-use Rattle.btree_change.proofs.Descending.{IsChildOf, child_of, in_order, is_inner, steps_of_take, steps_then}
+use Rattle.btree_change.proofs.Descending.{IsChildOf, child_of, in_order, is_inner, steps_of_take}
 use Rattle.btree_change.proofs.Outlining.{spells_same, steps_of_loads}
+use Rattle.btree_change.proofs.NodeSteps.{steps_so, steps_then}
 
 -- what is marked has its place
 pub settled_live : (t : Terms) (n : ℕ) (s : NodeData) (changed : Bool) (h : Holding) → IsSettledLock t n s changed h → (f : Frame) × ((h.mark ≡ Some f) × IsLiveNode t n s f)
@@ -113,4 +114,4 @@ module _ (t : Terms) (at : Held) (pc c : ℕ) (k k1 : CallerData) (terms : k.log
 
 -- a lock was found taken
 pub busy_steps : (id : LockId) (k k' : CallerData) → IsBusy id k k' → StepsOnNodes k k'
-busy_steps id k k' (found, (odd, is)) = subst (StepsOnNodes k) (sym is) (record { table = refl; left = refl; terms = refl; role = refl; past = refl; budget = refl; receipts = refl; loader = refl; made = refl; lineage = refl; loads = (_ ∷ [], refl) })
+busy_steps id k k' (found, (odd, is)) = steps_so k is refl (_ ∷ [], refl)

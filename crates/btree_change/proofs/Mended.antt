@@ -19,9 +19,11 @@ use Rattle.btree_change.specs.Siblings.{ReturnsNode, HoldsGone, HoldsSiblings, H
 use Rattle.node_store.specs.declared.locking.Busy.{Busy}
 use Rattle.btree_change.specs.declared.sibling.Siblings.{Siblings}
 use Rattle.btree_change.proofs.Pairings.{both_all, both_high, here}
-use Rattle.btree_change.proofs.Loading.{found_between}
+use Rattle.btree_change.proofs.Loading.{found_between, none_more}
 use Rattle.btree_change.proofs.Spending.{spends_same, steps_after, surplus_steps}
 use Rattle.btree_change.proofs.HeldLists.{found_head}
+use Rattle.btree_change.proofs.Descents.{steps_of_load}
+use Rattle.btree_change.proofs.NodeSteps.{steps_so}
 
 -- the only lock is let go of
 pub without_one : (n : ℕ) (h : Holding) → h.node ≡ n → without_lock n (h ∷ []) ≡ []
@@ -82,10 +84,10 @@ under_so t n l s k k' found within no_parent terms a tells loads =
     own = subst (λ o. IfSome o (IsHeldNode k.log.terms)) (ap (held_of l) a.held ∙ found_head l a.lower (a.upper ∷ []) a.node) tells
 
 pub loaded_none : (n at found : ℕ) (k k' : CallerData) → k' ≡ record k { log = after_node_load n at found k.log } → Spends 0 k k'
-loaded_none n at found k k' is = subst (Spends 0 k) (sym is) (record { table = refl; left = refl; terms = refl; role = refl; past = refl; receipts = refl; loader = refl; made = refl; lineage = refl; allowance = refl; credit = omega arith; loads = (_ ∷ [], refl) })
+loaded_none n at found k k' is = spends_same k k' (steps_of_load n at found k k' is)
 
 pub surplus_kept : (k k' : CallerData) → StepsOnNodes k k' → surplus k' ≡ surplus k
-surplus_kept k k' s = (λ i. (s.budget i).credit - 64 * s.left i)
+surplus_kept k k' s = (λ i. (s.budget i).credit - 64 * s.calls.caller.left i)
 
 -- the right one of two joined children is given back
 module _ (t : Terms) (x : Siblings) (k : CallerData) (gone : HoldsGone t x k.log.holdings) where
@@ -120,7 +122,7 @@ module _ (t : Terms) (x : Siblings) (k : CallerData) (gone : HoldsGone t x k.log
 pub joins_so : (t : Terms) (x : Siblings) (k k1 k2 k3 : CallerData) (found : ℕ) (way : NodeData) → k.log.terms ≡ t → HoldsSiblings t x k.log.holdings → HoldsGone t x k1.log.holdings → StepsOnNodes k k1 → ReturnsNode x.right.node k1 k2 → HolderTells x.left.node k2.log → k3 ≡ record k2 { log = after_node_load x.left.node 2 found k2.log } → way ≡ joined x.left.content x.right.content → MendsSiblings t x (record { node = x.left.node; content = way; changed = true }) k k3
 joins_so t x k k1 k2 k3 found way terms hs gone steps back tells loads is =
     subst (λ z. MendsSiblings t x (record { node = x.left.node; content = z; changed = true }) k k3) (sym is) (record {
-      holds = under_so t x.above.node x.left.node (joined x.left.content x.right.content) k2 k3 found hs.left_within gone.no_parent.0 (back.spends.terms ∙ (steps.terms ∙ terms)) (settled_back t x k1 gone k2 back) tells loads;
+      holds = under_so t x.above.node x.left.node (joined x.left.content x.right.content) k2 k3 found hs.left_within gone.no_parent.0 (back.spends.calls.caller.terms ∙ (steps.calls.caller.terms ∙ terms)) (settled_back t x k1 gone k2 back) tells loads;
       level = hs.level;
       spare = gone.spare;
       spends = steps_after 1 0 1 k k2 k3 (omega arith) (steps_after 0 1 1 k k1 k2 (omega arith) (spends_same k k1 steps) back.spends) (loaded_none x.left.node 2 found k2 k3 loads);
@@ -132,7 +134,7 @@ as_given n k k' = record k' { log = record k'.log { holdings = record k'.log.hol
 
 pub as_returned : (n : ℕ) (why : Busy) (k k' : CallerData) → KeepsOut n why k k' → ReturnsNode n k (as_given n k k')
 as_returned n why k k' keeps = let s = keeps.spends in record {
-  spends = record { table = s.table; left = s.left; terms = s.terms; role = s.role; past = s.past; receipts = s.receipts; loader = s.loader; made = s.made; lineage = s.lineage; allowance = s.allowance; credit = s.credit; loads = s.loads };
+  spends = steps_after 1 0 1 k k' (as_given n k k') (omega arith) s (spends_same k' (as_given n k k') (steps_so k' refl refl (none_more k'.log.trace.loads)));
   held = keeps.held;
   out = refl;
 }

@@ -25,11 +25,12 @@ use Rattle.btree_change.specs.Paths.{StepsOnNodes}
 use Rattle.btree_change.specs.Splits.{HasSpace}
 use Rattle.btree_change.specs.Stands.{StandsAt}
 use Rattle.btree_change.proofs.HeldLists.{found_head}
+use Rattle.btree_change.proofs.NodeSteps.{steps_so}
 
 -- loads are steps on nodes
 pub steps_of_loads : (k k' : CallerData) → OnlyLoads k k' → StepsOnNodes k k'
 steps_of_loads k k' (more, is) =
-    subst (StepsOnNodes k) (sym is) (record { table = refl; left = refl; terms = refl; role = refl; past = refl; budget = refl; receipts = refl; loader = refl; made = refl; lineage = refl; loads = (more, refl) })
+    steps_so k is refl (more, refl)
 
 pub loads_then : (k k1 k2 : CallerData) → OnlyLoads k k1 → OnlyLoads k1 k2 → OnlyLoads k k2
 loads_then k k1 k2 (first, a) (more, b) =

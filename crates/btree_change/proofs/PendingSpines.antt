@@ -5,7 +5,7 @@ use Rattle.tree_shape.specs.declared.pair.Pair.{Pair}
 use Rattle.tree_shape.specs.NodeData.{NodeData, pairs_of}
 use Rattle.tree_shape.specs.Numbers.{is_among}
 use Rattle.tree_shape.specs.Steps.{first_child}
-use Rattle.word_rule.specs.CallerData.{CallerData, surplus}
+use Rattle.word_rule.specs.CallerData.{CallerData, KeepsCalls, surplus}
 use Rattle.word_rule.specs.declared.log.Budget.{Budget}
 use Rattle.word_rule.specs.declared.log.Holding.{Holding}
 use Rattle.word_rule.specs.declared.log.Holdings.{Holdings}
@@ -28,6 +28,8 @@ use Rattle.btree_change.proofs.Loading.{keeps_none}
 use Rattle.btree_change.proofs.LockedSpines.{may_read_found, reads_spelled}
 use Rattle.btree_change.proofs.WrittenSpines.{in_mid}
 use Rattle.btree_change.proofs.HeldLists.{found_head}
+use Rattle.btree_change.proofs.NodeSteps.{calls_so}
+use Rattle.word_rule.proofs.CallersKept.{kept_calls_on}
 
 pub loads_of_release : (n : ℕ) (k k' : CallerData) → k' ≡ record k { log = after_node_release n k.log } → KeepsLoads k k'
 loads_of_release n k k' is = keeps_none k k' (ap (λ (z : CallerData). z.log.trace.loads) is ∙ go (is_lawful k.log None))
@@ -78,15 +80,7 @@ module _ (t : Terms) (n level : ℕ) (k : CallerData) (p : IsPending t n level k
   pub leaf_settles : (k' : CallerData) → k' ≡ record k { log = after_node_release n k.log } → LetsGoSettled p.settled p.base level k k'
   leaf_settles k' is =
       subst (LetsGoSettled p.settled p.base level k) (sym (released_so n k k' (record k.log { holdings = record k.log.holdings { held = map p.settled k.log.holdings.held; out = [] } }) (p.settles k.log refl).1 is)) (record {
-        table = refl;
-        left = refl;
-        terms = refl;
-        role = refl;
-        past = refl;
-        receipts = refl;
-        loader = refl;
-        made = refl;
-        lineage = refl;
+        calls = calls_so k refl refl;
         budget = ap (λ x. record k.log.budget { credit = k.log.budget.credit - x }) (let e : 1 ≡ level + 1 = omega (arith, zero_level) in e);
         held = ap (λ hs. without_lock n (map p.settled hs)) leaf_held ∙ without_top p.settled p.keeps n leaf.0 p.base leaf.1.0.0 leaf_far;
         out = refl;
@@ -137,7 +131,7 @@ module _ (t : Terms) (n level : ℕ) (k : CallerData) (p : IsPending t n level k
     steps1 = steps_of_read n k k1 shape reads
 
     pub surplus_below : level < surplus k → level - 1 < surplus k1
-    surplus_below enough = (let b = ap (λ (z : Budget). z.credit) steps1.budget in let l = steps1.left in let e = ap (λ z. 64 * z) l in omega (arith, enough, b, e))
+    surplus_below enough = (let b = ap (λ (z : Budget). z.credit) steps1.budget in let l = steps1.calls.caller.left in let e = ap (λ z. 64 * z) l in omega (arith, enough, b, e))
 
     pub pending_below : (child : ℕ) → child ≡ first_child 0 (pairs_of shape) → IsPending t child (level - 1) k1.log.holdings
     pending_below child e = record {
@@ -162,25 +156,20 @@ module _ (t : Terms) (n level : ℕ) (k : CallerData) (p : IsPending t n level k
       top_may = subst (λ o. IsSomeAnd o (λ (h : Holding). IsSome (spelled h.words) × (IsSome h.mark → Differs h → IsTrue (is_lawful k2.log None)))) (sym (ap (held_of n) gone.held ∙ found_head n (p.settled top.0) (map p.settled p.base) (p.keeps top.0 ∙ top.2.0.0)))
           (subst IsSome (sym settled_all.0) refl, λ marked differs. absurd (differs settled_all.0))
 
+      top_calls : KeepsCalls k k2
+      top_calls = kept_calls_on steps1.calls gone.calls
+
       pub top_surplus : level < surplus k → 0 < surplus k2
-      top_surplus enough = (let b = ap (λ (z : Budget). z.credit) steps1.budget in let c = ap (λ (z : Budget). z.credit) gone.budget in let l = ap (λ z. 64 * z) (gone.left ∙ steps1.left) in omega (arith, enough, b, c, l, some))
+      top_surplus enough = (let b = ap (λ (z : Budget). z.credit) steps1.budget in let c = ap (λ (z : Budget). z.credit) gone.budget in let l = ap (λ z. 64 * z) top_calls.caller.left in omega (arith, enough, b, c, l, some))
 
       pub top_table : k2.table ≡ k.table
-      top_table = gone.table ∙ steps1.table
+      top_table = top_calls.caller.table
 
       pub top_settles : ExchangeLaw → (k3 : CallerData) → k3 ≡ record k2 { log = after_node_release n k2.log } → LetsGoSettled p.settled p.base level k k3
       top_settles law k3 now =
           let none : settle None k2.log ≡ k2.log = settles_nothing law k2.log (subst (AllByRecursion IsSettled) (sym gone.held) (map_settled p.settled (top.0 ∷ p.base) settled_all)) in
           subst (LetsGoSettled p.settled p.base level k) (sym (released_so n k2 k3 k2.log none now)) (record {
-            table = gone.table ∙ steps1.table;
-            left = gone.left ∙ steps1.left;
-            terms = gone.terms ∙ steps1.terms;
-            role = gone.role ∙ steps1.role;
-            past = gone.past ∙ steps1.past;
-            receipts = gone.receipts ∙ steps1.receipts;
-            loader = gone.loader ∙ steps1.loader;
-            made = gone.made ∙ steps1.made;
-            lineage = gone.lineage ∙ steps1.lineage;
+            calls = kept_calls_on top_calls (calls_so k2 refl refl);
             budget = ap after_spending (gone.budget ∙ ap (λ (z : Budget). record z { credit = z.credit - (level - 1 + 1) }) steps1.budget)
                 ∙ ap (λ x. record k.log.budget { credit = x }) (let d : (k.log.budget.credit - (level - 1 + 1)) - 1 ≡ k.log.budget.credit - (level + 1) = omega (arith, some) in d);
             held = ap (without_lock n) gone.held ∙ without_top p.settled p.keeps n top.0 p.base top.2.0.0 far;

@@ -14,6 +14,7 @@ use Rattle.btree_change.specs.Stands.{Reaches, StandsAt, StandsOnWay}
 use Rattle.btree_change.proofs.NoRoom.{more_loads}
 use Rattle.btree_change.proofs.Spending.{right_after}
 use Rattle.btree_change.proofs.Standing.{way_kept}
+use Rattle.word_rule.proofs.CallersKept.{kept_caller_on}
 
 -- an insertion stands where it stood
 pub stands_still : (t : Terms) (m : Member) (stand : Stand) (k k1 : CallerData) → k1.log.holdings ≡ k.log.holdings → StepsOnNodes k k1 → StandsOnWay t m stand k.log → StandsOnWay t m stand k1.log
@@ -22,31 +23,25 @@ stands_still t m stand k k1 same steps s =
       at = x.0;
       here = s.here;
       reach = x.1;
-      way = way_kept stand.room m.span.first stand.at.content k.log k1.log (ap (λ (r : Receipts). r.own) steps.receipts) steps.loads.0 steps.loads.1 s.way;
+      way = way_kept stand.room m.span.first stand.at.content k.log k1.log (ap (λ (r : Receipts). r.own) steps.calls.receipts) steps.loads.0 steps.loads.1 s.way;
       height = s.height;
-      loader = steps.loader ∙ s.loader;
+      loader = steps.calls.caller.loader ∙ s.loader;
     }
 
 pub refused_after : (t : Terms) (m : Member) (answer : Inserted) (k k1 k2 : CallerData) → k1.log.holdings ≡ k.log.holdings → StepsOnNodes k k1 → RefusesMember t m answer k1 k2 → RefusesMember t m answer k k2
 refused_after t m answer k k1 k2 same steps r = record {
-  right = right_after t m answer k k1 k2 steps.past steps.receipts steps.made steps.lineage r.right;
+  right = right_after t m answer k k1 k2 steps.calls r.right;
   none_taken = r.none_taken;
   call = record {
-    table = r.call.table ∙ steps.table;
-    left = r.call.left ∙ steps.left;
-    terms = r.call.terms ∙ steps.terms;
-    role = r.call.role ∙ steps.role;
+    caller = kept_caller_on steps.calls.caller r.call.caller;
     budget = r.call.budget ∙ steps.budget;
-    loader = r.call.loader ∙ steps.loader;
-    made = r.call.made ∙ steps.made;
-    lineage = r.call.lineage ∙ steps.lineage;
     holdings = r.call.holdings ∙ same;
-    receipts = subst (λ (x : Receipts). k2.log.receipts ≡ record x { own = x.own ++ receipt.Register m answer ∷ [] }) steps.receipts r.call.receipts;
+    receipts = subst (λ (x : Receipts). k2.log.receipts ≡ record x { own = x.own ++ receipt.Register m answer ∷ [] }) steps.calls.receipts r.call.receipts;
   };
 }
 
 -- that there was no room stays so
 pub still_no_room : (base : ℕ) (k k1 : CallerData) → StepsOnNodes k k1 → HadNoRoom base (length k.log.receipts.own) k.log.trace.loads → HadNoRoom base (length k1.log.receipts.own) k1.log.trace.loads
 still_no_room base k k1 steps h =
-    subst (λ (x : Receipts). HadNoRoom base (length x.own) k1.log.trace.loads) (sym steps.receipts)
+    subst (λ (x : Receipts). HadNoRoom base (length x.own) k1.log.trace.loads) (sym steps.calls.receipts)
     (subst (HadNoRoom base (length k.log.receipts.own)) (sym steps.loads.1) (more_loads base (length k.log.receipts.own) k.log.trace.loads steps.loads.0 h))

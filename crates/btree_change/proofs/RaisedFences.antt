@@ -33,6 +33,7 @@ use Rattle.btree_change.proofs.LeafCommits.{all_stay}
 use Rattle.btree_change.proofs.NextLeaves.{found_top, higher_parts, higher_spelled, top_is}
 use Rattle.btree_change.proofs.Settling.{SettlingLaws}
 use Rattle.btree_change.proofs.Storing.{IsRewritten, rewritten_so}
+use Rattle.word_rule.proofs.CallersKept.{kept_calls_on}
 
 -- no live node stands higher than a tree may be
 level_most : (h : Contents) (level n low high : ℕ) → Stands h level n low high → (x : ℕ) → 0 < times x (nodes_under h level n) → (h x).level ≤ level
@@ -337,15 +338,7 @@ module _ (t : Terms) (x slot fence : ℕ) (k : CallerData) (next : HoldsNext t x
           unfolding ended
           assemble [] is one = absurd one
           assemble (b ∷ ys) is one = record {
-            table = gone.table ∙ steps4.table;
-            left = gone.left ∙ steps4.left;
-            terms = gone.terms ∙ steps4.terms;
-            role = gone.role ∙ steps4.role;
-            past = gone.past ∙ steps4.past;
-            receipts = gone.receipts ∙ steps4.receipts;
-            loader = gone.loader ∙ steps4.loader;
-            made = gone.made ∙ steps4.made;
-            lineage = gone.lineage ∙ steps4.lineage;
+            calls = kept_calls_on steps4.calls gone.calls;
             allowance = ap (λ (z : Budget). z.allowance) gone.budget ∙ ap (λ (z : Budget). z.allowance) steps4.budget;
             credit = (let a = ap (λ (z : Budget). z.credit) gone.budget in let c = ap (λ (z : Budget). z.credit) steps4.budget in let m = top_most in let e = level_is l l_is in let u = next.top in omega (arith, a, c, m, e, u));
             lock' = S b;

@@ -33,6 +33,7 @@ use Rattle.btree_change.proofs.Lowering.{settled_live}
 use Rattle.btree_change.proofs.Putting.{leaf_at_zero}
 use Rattle.btree_change.proofs.Storing.{found_at}
 use Rattle.word_rule.proofs.Each.{all_with}
+use Rattle.btree_change.proofs.NodeSteps.{caller_so}
 
 -- a load of the clock is one load more
 pub clock_load : (t : Terms) (m : Member) (k k' : CallerData) (clock : ℕ) → AfterClock t (ask.Refused (update.Register m)) clock k.log k'.log → KeepsLoads k k'
@@ -48,14 +49,8 @@ seen_so t u clock v w (past, receipts, (tells, asked, is)) =
 -- a load of the clock that appends a refusal leaves all else as it was
 pub refuses_so : (t : Terms) (u : Update) (r : Receipt) (clock : ℕ) (k k' : CallerData) → AfterClock t (ask.Refused u) clock k.log k'.log → Appends r k.log k'.log → k' ≡ record k { log = k'.log } → RefusesUpdate r k k'
 refuses_so t u r clock k k' (past, receipts, (tells, asked, is)) appended rest = record {
-  table = ap (λ z. z.table) rest;
-  left = ap (λ z. z.left) rest;
-  terms = ap (λ z. z.terms) is;
-  role = ap (λ z. z.role) is;
+  caller = caller_so k (rest ∙ ap (λ (z : Log). record k { log = z }) is) refl;
   budget = ap (λ z. z.budget) is;
-  loader = ap (λ z. z.loader) is;
-  made = ap (λ z. z.made) is;
-  lineage = ap (λ z. z.lineage) is;
   holdings = ap (λ z. z.holdings) is;
   receipts = own ∙ ap (λ o. record k.log.receipts { own = o }) appended.own;
 }

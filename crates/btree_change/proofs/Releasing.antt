@@ -19,6 +19,9 @@ use Rattle.btree_change.proofs.Loading.{none_more}
 use Rattle.btree_change.proofs.Settling.{found_first}
 use Rattle.btree_change.proofs.HeldLists.{without_far}
 use Rattle.node_store.proofs.Settled.{ExchangeLaw}
+use Rattle.btree_change.proofs.NodeSteps.{steps_so}
+use Rattle.btree_change.proofs.Spending.{more_spent, spends_one, spends_same}
+use Rattle.btree_change.specs.Splits.{with_release_less}
 
 module _ (n : ℕ) (changed : Bool) (k : CallerData) (may : MayGo n changed k.log.holdings) where
   pub may_raise : MayRelease n k.log
@@ -33,18 +36,18 @@ module _ (n : ℕ) (changed : Bool) (k : CallerData) (may : MayGo n changed k.lo
   pub raised : ExchangeLaw → (k' : CallerData) → k' ≡ record k { log = after_node_release n k.log } → LetsGo n k k'
   raised law k' is =
       let equal : k' ≡ record k { log = record (after_node_release_same n k.log) { budget = after_spending k.log.budget } } = is ∙ ap (λ (z : Log). record k { log = record (after_node_release_same n z) { budget = after_spending z.budget } }) (settles_nothing law k.log may.settled) in
-      subst (LetsGo n k) (sym equal) (record {
-        steps = record { table = refl; left = refl; terms = refl; role = refl; past = refl; receipts = refl; loader = refl; made = refl; lineage = refl; allowance = refl; credit = omega arith; loads = none_more k.log.trace.loads };
-        held = refl;
-        out = refl;
-      })
+      record {
+        steps = spends_one k k' (steps_so (with_release_less k) equal refl (none_more k.log.trace.loads));
+        held = ap (λ (z : CallerData). z.log.holdings.held) equal;
+        out = ap (λ (z : CallerData). z.log.holdings.out) equal;
+      }
 
   pub kept : (k' : CallerData) → k' ≡ record k { log = after_node_release_same n k.log } → LetsGo n k k'
-  kept k' is = subst (LetsGo n k) (sym is) (record {
-    steps = record { table = refl; left = refl; terms = refl; role = refl; past = refl; receipts = refl; loader = refl; made = refl; lineage = refl; allowance = refl; credit = omega arith; loads = none_more k.log.trace.loads };
-    held = refl;
-    out = refl;
-  })
+  kept k' is = record {
+    steps = more_spent 0 1 k k' (omega arith) (spends_same k k' (steps_so k is refl (none_more k.log.trace.loads)));
+    held = ap (λ (z : CallerData). z.log.holdings.held) is;
+    out = ap (λ (z : CallerData). z.log.holdings.out) is;
+  }
 
 -- the lowest node that is held: it has settled, and so has all above it
 pub record IsLowest (n : ℕ) (changed : Bool) (holdings : Holdings) : Type 0 where

@@ -31,7 +31,7 @@ use Rattle.btree_change.specs.declared.sibling.Child.{Child}
 use Rattle.btree_change.proofs.Joining.{spare_of}
 use Rattle.btree_change.proofs.Releases.{lock_gone}
 use Rattle.btree_change.proofs.Rooted.{surplus_left}
-use Rattle.btree_change.proofs.Spending.{answers_so, refused_call, spends_after, spends_before, spends_same, steps_after, surplus_steps}
+use Rattle.btree_change.proofs.Spending.{accepted_call, answers_so, refused_call, spends_after, spends_before, spends_same, steps_after, surplus_steps}
 
 not_small : (b : Body) → is_small_body b ≡ false → IsSpareAs b
 not_small (Pairs pairs) e = let l = ltb-false (length pairs) 7 e in omega (arith, l)
@@ -80,26 +80,15 @@ around r taken k k1 k2 k3 down call up = answers_so r taken 25 k k3 (omega arith
 pub refusal_so : (t : Terms) (base : ℕ) (answer : Removed) (k k1 k2 k3 : CallerData) → Spends 24 k k1 → RefusesBase t base answer k1 k2 → Spends 1 k2 k3 → HoldsNothing k3.log.holdings → AnswersRemoval t base answer k k3
 refusal_so t base answer k k1 k2 k3 down refuses up nothing =
     let r = receipt.Deregister base answer in let taken = taken_by_removal answer in record {
-      right = rightly_seen t base answer k1 k k2 k3 down.past (sym up.past) refuses.right;
+      right = rightly_seen t base answer k1 k k2 k3 down.calls.past (sym up.calls.past) refuses.right;
       call = around r taken k k1 k2 k3 down (refused_call r taken k1 k2 refuses.none_taken refuses.call) up nothing;
     }
 
 -- the same of one that was done
 pub done_so : (t : Terms) (base n number : ℕ) (m : Member) (k k1 k2 k3 : CallerData) → Spends 24 k k1 → TakesMember t base n number m k1 k2 → Spends 1 k2 k3 → HoldsNothing k3.log.holdings → AnswersRemoval t base (removed.Done number m) k k3
 done_so t base n number m k k1 k2 k3 down takes up nothing = record {
-  right = rightly_seen t base (removed.Done number m) k1 k k2 k3 down.past (sym up.past) takes.right;
-  call = around (receipt.Deregister base (removed.Done number m)) 1 k k1 k2 k3 down (record {
-    table = takes.table;
-    left = takes.left;
-    terms = takes.terms;
-    role = takes.role;
-    loader = takes.loader;
-    made = takes.made;
-    lineage = takes.lineage;
-    receipts = takes.receipts;
-    allowance = ap (λ b. b.allowance) takes.budget;
-    credit = (let e = ap (λ b. b.credit) takes.budget in omega (arith, e));
-  }) up nothing;
+  right = rightly_seen t base (removed.Done number m) k1 k k2 k3 down.calls.past (sym up.calls.past) takes.right;
+  call = around (receipt.Deregister base (removed.Done number m)) 1 k k1 k2 k3 down (accepted_call (receipt.Deregister base (removed.Done number m)) n true k1 k2 takes.call) up nothing;
 }
 
 -- the way down, and the leaf read
@@ -108,10 +97,10 @@ read_spends k k1 k2 down steps = steps_after 24 0 24 k k1 k2 (omega arith) down 
 
 -- releases are left to let go of the way
 pub surplus_refused : (t : Terms) (base : ℕ) (answer : Removed) (k k1 k2 : CallerData) → Spends 24 k k1 → 64 ≤ surplus k → RefusesBase t base answer k1 k2 → 0 < surplus k2
-surplus_refused t base answer k k1 k2 down most refuses = let left = surplus_left 24 k k1 down most (omega arith) in let a = ap (λ z. z.credit) refuses.call.budget in let b : 64 * k2.left ≡ 64 * k1.left = ap (λ z. 64 * z) refuses.call.left in omega (arith, left, a, b)
+surplus_refused t base answer k k1 k2 down most refuses = let left = surplus_left 24 k k1 down most (omega arith) in let a = ap (λ z. z.credit) refuses.call.budget in let b : 64 * k2.left ≡ 64 * k1.left = ap (λ z. 64 * z) refuses.call.caller.left in omega (arith, left, a, b)
 
 pub surplus_taken : (t : Terms) (base n number : ℕ) (m : Member) (k k1 k2 : CallerData) → Spends 24 k k1 → 64 ≤ surplus k → TakesMember t base n number m k1 k2 → 0 < surplus k2
-surplus_taken t base n number m k k1 k2 down most takes = let left = surplus_left 24 k k1 down most (omega arith) in let a = ap (λ z. z.credit) takes.budget in let b : 64 * k2.left ≡ 64 * k1.left = ap (λ z. 64 * z) takes.left in omega (arith, left, a, b)
+surplus_taken t base n number m k k1 k2 down most takes = let left = surplus_left 24 k k1 down most (omega arith) in let a = ap (λ z. z.credit) takes.call.budget in let b : 64 * k2.left ≡ 64 * k1.left = ap (λ z. 64 * z) takes.call.caller.left in omega (arith, left, a, b)
 
 -- a node that left the tree was lost: what is left once its parent was let go of
 pub left_over : (x : Siblings) (why : Busy) (k k2 k3 : CallerData) → LeavesParent x why k k2 → LetsGo x.above.node k2 k3 → HoldsLeftOver why k3.log.holdings

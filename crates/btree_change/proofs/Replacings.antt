@@ -38,7 +38,7 @@ use Rattle.btree_change.specs.Removing.{HoldsAlone}
 use Rattle.btree_change.specs.Replacement.{RefusesReplacement, ReplacesMember}
 use Rattle.btree_change.specs.Updates.{AcceptsUpdate}
 use Rattle.btree_change.specs.declared.descent.Held.{Held}
-use Rattle.btree_change.proofs.Descending.{steps_none, steps_of_read, steps_then}
+use Rattle.btree_change.proofs.Descending.{steps_of_read}
 use Rattle.btree_change.proofs.HeldLists.{found_head}
 use Rattle.btree_change.proofs.LeafCommits.{LeafLaws}
 use Rattle.btree_change.proofs.LeafUpdates.{accepts_so, after_else, after_here, contents_here, live_here, marked, may_update, past_is}
@@ -48,6 +48,7 @@ use Rattle.btree_change.proofs.Spanned.{paid_same, span_of_base, span_paid, span
 use Rattle.btree_change.proofs.Storing.{IsRewritten, rewritten_so}
 use Rattle.btree_change.proofs.TakingThere.{cut_alone, cut_spells, cut_steps, cut_tree}
 use Rattle.btree_change.proofs.Takings.{EntriesAre}
+use Rattle.btree_change.proofs.NodeSteps.{steps_none, steps_then}
 
 -- the law of a replacement, as a change of the leaf alone
 abbrev pub ReplaceLaw : Type 0
@@ -132,11 +133,11 @@ module _ (law : ReplaceLaw) (laws : LeafLaws) (t : Terms) (at : Held) (m old : M
       let numbered : number ≡ length before + 1 = counted ∙ (ap length past ∙ length-append before (update.Replace m ∷ [])) in
       let answer : r ≡ receipt.Replace m (replaced.Done number old.payload) = subst (λ o. IsSomeAnd o (λ x. r ≡ receipt.Replace m (replaced.Done (length before + 1) x.payload))) member done ∙ ap (λ j. receipt.Replace m (replaced.Done j old.payload)) (sym numbered) in
       let known = all_with (IsMemberOf k2.log.terms) members old tells.members (span_there m.span members old member).0 in
-      let same = steps.terms ∙ terms in record {
+      let same = steps.calls.caller.terms ∙ terms in record {
         right = (
           before,
           (
-            subst (λ p. IsPrefix p before) steps.past tells.begins,
+            subst (λ p. IsPrefix p before) steps.calls.past tells.begins,
             past,
             counted,
             subst (λ z. IsSomeAnd (at_span m.span (state_after (start z) before).registered) (λ x. x.payload ≡ old.payload)) same (subst (λ o. IsSomeAnd o (λ x. x.payload ≡ old.payload)) (sym member) refl),

@@ -27,6 +27,7 @@ use Rattle.btree_change.specs.declared.descent.Held.{Held}
 use Rattle.btree_change.specs.Loads.{FoundNoRoom}
 use Rattle.btree_change.specs.Splits.{HoldsFull, IsRoomFor, StaysHeld, TakesRoom}
 use Rattle.btree_change.proofs.Loading.{found_after, keeps_load, keeps_then}
+use Rattle.btree_change.proofs.NodeSteps.{steps_so}
 
 -- the count of a full node is the greatest
 full_body : (inner few leaf low free : Bool) (pairs : Option (List Pair)) (entries : Option (List Member)) (link count : ℕ) (body : Body) → ((xs : List Pair) → pairs ≡ Some xs → length xs ≡ count) → ((xs : List Member) → entries ≡ Some xs → length xs ≡ count)
@@ -74,28 +75,15 @@ module _ (t : Terms) (full : Held) (pc : ℕ) (k k1 : CallerData) (found : ℕ) 
       let whole : k' ≡ headed 0 (record k { log = tried more marks (after_node_load full.node 5 found k.log) }) = is ∙ (ap (headed 0) rounds ∙ ap (λ (z : CallerData). headed 0 (record z { log = tried more marks z.log })) load) in
       let count = load_of k.log (node_place full.node + 5) found in
       let cause = load_of (tried more marks (after_node_load full.node 5 found k.log)) HEAD 0 in
-      let loads : k'.log.trace.loads ≡ k.log.trace.loads ++ (count ∷ (more ++ cause ∷ [])) =
-      ap (λ (z : CallerData). z.log.trace.loads) whole ∙ (ap (λ xs. xs ++ cause ∷ []) (append_assoc k.log.trace.loads (count ∷ []) more) ∙ append_assoc k.log.trace.loads (count ∷ more) (cause ∷ [])) in (
+      let appended = ap (λ xs. xs ++ cause ∷ []) (append_assoc k.log.trace.loads (count ∷ []) more) ∙ append_assoc k.log.trace.loads (count ∷ more) (cause ∷ []) in (
         record {
           held = ap (λ (z : CallerData). z.log.holdings.held) whole;
           out = ap (λ (z : CallerData). z.log.holdings.out) whole;
-          same = record {
-            table = ap (λ (z : CallerData). z.table) whole;
-            left = ap (λ (z : CallerData). z.left) whole;
-            terms = ap (λ (z : CallerData). z.log.terms) whole;
-            role = ap (λ (z : CallerData). z.log.role) whole;
-            past = ap (λ (z : CallerData). z.log.past) whole;
-            budget = ap (λ (z : CallerData). z.log.budget) whole;
-            receipts = ap (λ (z : CallerData). z.log.receipts) whole;
-            loader = ap (λ (z : CallerData). z.log.loader) whole;
-            made = ap (λ (z : CallerData). z.log.made) whole;
-            lineage = ap (λ (z : CallerData). z.log.lineage) whole;
-            loads = (count ∷ (more ++ cause ∷ []), loads);
-          };
+          same = steps_so k whole refl (count ∷ (more ++ cause ∷ []), appended);
         },
         record {
           more = count ∷ (more ++ cause ∷ []);
-          loads = loads;
+          loads = ap (λ (z : CallerData). z.log.trace.loads) whole ∙ appended;
           no_room = record {
             before = [];
             count = count;
@@ -135,7 +123,7 @@ module _ (t : Terms) (full : Held) (pc : ℕ) (k k1 : CallerData) (found : ℕ) 
             held = refl;
             free = record { node = refl; spells = taken.spells; next = node_word words 6; free = spells_free words settled taken.spells kind };
             out = refl;
-            same = record { table = refl; left = refl; terms = refl; role = refl; past = refl; budget = refl; receipts = refl; loader = refl; made = refl; lineage = refl; loads = keeps_then k (record k { log = after_node_load full.node 5 found k.log }) (record k { log = tried more marks (after_node_load full.node 5 found k.log) }) (_ ∷ [], refl) (more, refl) };
+            same = steps_so k refl refl (keeps_then k (record k { log = after_node_load full.node 5 found k.log }) (record k { log = tried more marks (after_node_load full.node 5 found k.log) }) (_ ∷ [], refl) (more, refl));
           })
 
   pub stays_lost : (k' : CallerData) → LosesRounds k1 k' → StaysHeld k k'
@@ -145,7 +133,7 @@ module _ (t : Terms) (full : Held) (pc : ℕ) (k k1 : CallerData) (found : ℕ) 
       go (more, marks, (none, whole)) = subst (StaysHeld k) (sym whole) (record {
         held = refl;
         out = refl;
-        same = record { table = refl; left = refl; terms = refl; role = refl; past = refl; budget = refl; receipts = refl; loader = refl; made = refl; lineage = refl; loads = keeps_then k (record k { log = after_node_load full.node 5 found k.log }) (record k { log = tried more marks (after_node_load full.node 5 found k.log) }) (_ ∷ [], refl) (more, refl) };
+        same = steps_so k refl refl (keeps_then k (record k { log = after_node_load full.node 5 found k.log }) (record k { log = tried more marks (after_node_load full.node 5 found k.log) }) (_ ∷ [], refl) (more, refl));
       })
 
   pub room_found : (gives_up : Bool) (k' : CallerData) (r : Result (Option ℕ) Busy) → IsFreeTaken gives_up k1 k' r → IsRoomFor gives_up pc k k' r

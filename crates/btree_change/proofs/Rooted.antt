@@ -62,4 +62,4 @@ joins_spare t x holdings hs spare more =
 
 -- releases that are left after some were used
 pub surplus_left : (n : ℕ) (k k' : CallerData) → Spends n k k' → 64 ≤ surplus k → n ≤ 30 → 2 < surplus k'
-surplus_left n k k' s most few = let l : 64 * k'.left ≡ 64 * k.left = ap (λ z. 64 * z) s.left in let c = s.credit in omega (arith, l, c, most, few)
+surplus_left n k k' s most few = let l : 64 * k'.left ≡ 64 * k.left = ap (λ z. 64 * z) s.calls.caller.left in let c = s.credit in omega (arith, l, c, most, few)

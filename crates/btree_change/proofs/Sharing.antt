@@ -29,7 +29,6 @@ use Rattle.btree_change.specs.Shares.{IsChosen, shares_for}
 use Rattle.btree_change.specs.Siblings.{HoldsSiblings, IsInEither, MendsSiblings, both_of, is_small_body}
 use Rattle.btree_change.specs.declared.mending.Chosen.{Chosen}
 use Rattle.btree_change.specs.declared.sibling.Siblings.{Siblings}
-use Rattle.btree_change.proofs.Descending.{steps_then}
 use Rattle.btree_change.proofs.Descents.{steps_of_load}
 use Rattle.btree_change.proofs.Joining.{may_store, spare_of}
 use Rattle.btree_change.proofs.Loading.{none_more}
@@ -37,10 +36,12 @@ use Rattle.btree_change.proofs.Mended.{AreSettled, loaded_none, under_so, withou
 use Rattle.btree_change.proofs.Pairings.{IsNow, AreThree, at_slot_is, both_high, both_left, both_low, both_more, family, held_change, in_l, in_n, in_r, left_told, next_slot_is, parent_told, right_told, settles, three}
 use Rattle.btree_change.proofs.Settling.{SettlingLaws, may_release, settled_group}
 use Rattle.btree_change.proofs.ShareEnds.{fence_moves, share_kinds, share_moves, share_sizes, share_spares}
-use Rattle.btree_change.proofs.Spending.{spends_same, steps_after}
+use Rattle.btree_change.proofs.Spending.{spends_one, spends_same, steps_after}
 use Rattle.btree_change.proofs.Written.{IsWrittenAs, write_high, write_low, write_upper}
 use Rattle.btree_change.proofs.Lowering.{settled_live}
 use Rattle.btree_change.proofs.HeldLists.{found_head}
+use Rattle.btree_change.proofs.NodeSteps.{steps_so, steps_then}
+use Rattle.btree_change.specs.Splits.{with_release_less}
 
 abbrev pub ShareLaw : Type 0
 ShareLaw = (f : Contents) (live : ℕ → Bool) (parent slot : ℕ) (p q : Pair) (g : Contents) → IsLawfulTree f live → IsShare f live parent slot p q g → IsChangeOf f live parent (parent ∷ p.child ∷ q.child ∷ []) [] g None (parent ∷ p.child ∷ q.child ∷ [])
@@ -103,7 +104,7 @@ module _ (t : Terms) (x : Siblings) (k k1 : CallerData) (found : ℕ) (hs : Hold
       high_node = w2.node ∙ hs.right.node
 
       pub table3 : k3.table ≡ k.table
-      table3 = w2.same.table ∙ (w1.same.table ∙ ap (λ (z : CallerData). z.table) loads)
+      table3 = w2.same.calls.caller.table ∙ (w1.same.calls.caller.table ∙ ap (λ (z : CallerData). z.table) loads)
 
       pub may_above : MayStore x.above.node k3.log
       may_above = may_store n hs.upper k3.log (ap (held_of n) w2.held ∙ (both_more hs.left_first w1.lock w2.lock (hs.upper ∷ []) n (λ e. apart.left_above (sym low_node ∙ e)) (λ e. apart.right_above (sym high_node ∙ e)) ∙ found_head n hs.upper [] hs.parent.node)) hs.parent.marked
@@ -232,7 +233,7 @@ module _ (t : Terms) (x : Siblings) (k k1 : CallerData) (found : ℕ) (hs : Hold
         gone_is other k5 is = is ∙ ap (λ (z : Log). record k4 { log = record (after_node_release_same other z) { budget = after_spending z.budget } }) settled4
 
         spent : (other : ℕ) (k5 : CallerData) → k5 ≡ record k4 { log = after_node_release other k4.log } → Spends 1 k4 k5
-        spent other k5 is = subst (Spends 1 k4) (sym (gone_is other k5 is)) (record { table = refl; left = refl; terms = refl; role = refl; past = refl; receipts = refl; loader = refl; made = refl; lineage = refl; allowance = refl; credit = omega arith; loads = none_more k4.log.trace.loads })
+        spent other k5 is = spends_one k4 k5 (steps_so (with_release_less k4) (gone_is other k5 is) refl (none_more k4.log.trace.loads))
 
         left_stays : (k5 : CallerData) → k5 ≡ record k4 { log = after_node_release r k4.log } → AreSettled n l (shares_for x).left k5.log.holdings
         left_stays k5 is = subst (λ (z : CallerData). AreSettled n l (shares_for x).left z.log.holdings) (sym (gone_is r k5 is)) (record {
@@ -275,7 +276,7 @@ module _ (t : Terms) (x : Siblings) (k k1 : CallerData) (found : ℕ) (hs : Hold
               (shares_for x).left,
               (
                 subst (λ m. MendsSiblings t x (record { node = m; content = (shares_for x).left; changed = true }) k k6) (sym node) (record {
-                  holds = under_so t n l (shares_for x).left k5 k6 seen hs.left_within apart.left_above ((spent r k5 lets').terms ∙ (steps4.terms ∙ terms)) (left_stays k5 lets') tells' loads2;
+                  holds = under_so t n l (shares_for x).left k5 k6 seen hs.left_within apart.left_above ((spent r k5 lets').calls.caller.terms ∙ (steps4.calls.caller.terms ∙ terms)) (left_stays k5 lets') tells' loads2;
                   level = hs.level;
                   spare = spare_of l (shares_for x).left (share_spares x.left.content.body x.right.content.body over).0;
                   spends = spends;
@@ -291,7 +292,7 @@ module _ (t : Terms) (x : Siblings) (k k1 : CallerData) (found : ℕ) (hs : Hold
               (shares_for x).right,
               (
                 subst (λ m. MendsSiblings t x (record { node = m; content = (shares_for x).right; changed = true }) k k6) (sym node) (record {
-                  holds = under_so t n r (shares_for x).right k5 k6 seen hs.right_within apart.right_above ((spent l k5 lets').terms ∙ (steps4.terms ∙ terms)) (right_stays k5 lets') tells' loads2;
+                  holds = under_so t n r (shares_for x).right k5 k6 seen hs.right_within apart.right_above ((spent l k5 lets').calls.caller.terms ∙ (steps4.calls.caller.terms ∙ terms)) (right_stays k5 lets') tells' loads2;
                   level = hs.level;
                   spare = spare_of r (shares_for x).right (share_spares x.left.content.body x.right.content.body over).1;
                   spends = spends;

@@ -61,7 +61,7 @@ module _ (x : Siblings) (k : CallerData) (gone : HoldsSunk x k.log.holdings) whe
       pub sinks_so : (t : Terms) (k0 k3 : CallerData) (found : ℕ) (content : NodeData) → k0.log.terms ≡ t → HoldsSiblings t x k0.log.holdings → StepsOnNodes k0 k → HolderTells 0 k2.log → k3 ≡ record k2 { log = after_node_load 0 2 found k2.log } → content ≡ sunk_root x → SinksRoot t x (record { node = 0; content = content; changed = true }) k0 k3
       sinks_so t k0 k3 found content terms hs steps tells loads is =
           let own : IsHeldNode k2.log.terms gone.upper = subst (λ o. IfSome o (IsHeldNode k2.log.terms)) (ap (held_of 0) held2 ∙ found_head 0 gone.upper [] gone.root) tells in
-          let terms2 : k2.log.terms ≡ t = again.spends.terms ∙ (back.spends.terms ∙ (steps.terms ∙ terms)) in
+          let terms2 : k2.log.terms ≡ t = again.spends.calls.caller.terms ∙ (back.spends.calls.caller.terms ∙ (steps.calls.caller.terms ∙ terms)) in
           let within = hs.left_within in
           let kept : k3.log.holdings ≡ k2.log.holdings = ap (λ (z : CallerData). z.log.holdings) loads in
           subst (λ z. SinksRoot t x (record { node = 0; content = z; changed = true }) k0 k3) (sym is) (record {

@@ -14,7 +14,6 @@ use Rattle.word_rule.specs.declared.log.Terms.{Terms}
 use Rattle.word_rule.specs.Exchange.{exchange}
 use Rattle.word_rule.specs.Held.{held_of, without_lock}
 use Rattle.word_rule.specs.NodeTells.{HolderTells, KnowsTree}
-use Rattle.word_rule.specs.Logs.{after_spending}
 use Rattle.word_rule.specs.Spelling.{SpellsNode, spelled}
 use Rattle.word_rule.specs.Steps.{MayRelease, after_node_release}
 use Rattle.btree_change.specs.declared.descent.Held.{Held}
@@ -25,7 +24,6 @@ use Rattle.btree_change.specs.declared.split.Ways.{Ways}
 use Rattle.btree_change.specs.Halves.{WritesParts}
 use Rattle.btree_change.specs.Paths.{HasChildFor, StepsOnNodes}
 use Rattle.btree_change.specs.Splits.{HasSpace, HoldsFullChild, IsHeldAs, SplitsChild, half_for, other_half, other_in, parent_for, parts_for, way_in, with_release_less}
-use Rattle.btree_change.proofs.Descending.{steps_then}
 use Rattle.btree_change.proofs.Outlining.{may_read, spell_one, spells_held}
 use Rattle.node_store.specs.Holding.{SpellsHeld}
 use Rattle.btree_change.proofs.HeldParts.{dropped, is_first, is_second, is_third, told_place}
@@ -34,6 +32,7 @@ use Rattle.btree_change.proofs.Settling.{SettlingLaws, may_release, released, se
 use Rattle.btree_change.proofs.Splitting.{SplitLaw, down_up, found_child, g, inside, level, new_down, new_up, nothing_out, rest_down, rest_is, rest_new, split_change, stays}
 use Rattle.btree_change.proofs.SplitParts.{are_halves, divided}
 use Rattle.btree_change.proofs.Storing.{found_at}
+use Rattle.btree_change.proofs.NodeSteps.{less_release_then, steps_so, steps_then}
 
 -- the lock of a node that settled to what its words spell
 abbrev pub settled_lock : Holding → NodeData → Holding
@@ -52,22 +51,6 @@ pub record Ends (t : Terms) (full : FullChild) (held : List Holding) (upper : Ho
   pub within : way.node < t.nodes
   pub other_within : other < t.nodes
   pub may : MayRelease other k.log
-
--- a release less before steps and after them
-pub less_release_then : (a b : CallerData) → StepsOnNodes a b → StepsOnNodes (with_release_less a) (with_release_less b)
-less_release_then a b same = record {
-  table = same.table;
-  left = same.left;
-  terms = same.terms;
-  role = same.role;
-  past = same.past;
-  budget = ap after_spending same.budget;
-  receipts = same.receipts;
-  loader = same.loader;
-  made = same.made;
-  lineage = same.lineage;
-  loads = same.loads;
-}
 
 -- what is said of the half itself
 pub record IsHalf (pc : ℕ) (full : FullChild) (way : Held) : Type 0 where
@@ -220,7 +203,7 @@ module _ (laws : SettlingLaws) (law : SplitLaw) (t : Terms) (full : FullChild) (
       let whole = is ∙ ap (λ (z : Log). record k' { log = z }) log in record {
         held = ap (λ (z : CallerData). z.log.holdings.held) whole ∙ (ap (without_lock other) settles ∙ ends.left);
         out = ap (λ (z : CallerData). z.log.holdings.out) whole ∙ nothing_out t full pc k h w.tree law k' w;
-        same = subst (StepsOnNodes (with_release_less k')) (sym whole) (record { table = refl; left = refl; terms = refl; role = refl; past = refl; budget = refl; receipts = refl; loader = refl; made = refl; lineage = refl; loads = none_more k'.log.trace.loads });
+        same = steps_so (with_release_less k') whole refl (none_more k'.log.trace.loads);
       }
 
   -- both that are held may be read then
@@ -288,7 +271,7 @@ module _ (laws : SettlingLaws) (law : SplitLaw) (t : Terms) (full : FullChild) (
               spells = ends.spells;
               stored = ends.stored;
               marked = ends.marked;
-              live = told_place t way.node way.content ends.lock k5.log (steps5.terms ∙ terms) found_way ends.node ends.settled (subst (λ n. HolderTells n k5.log) way_node told_way);
+              live = told_place t way.node way.content ends.lock k5.log (steps5.calls.caller.terms ∙ terms) found_way ends.node ends.settled (subst (λ n. HolderTells n k5.log) way_node told_way);
             });
             parent_held = subst (λ z. IsHeldAs t z upper') (sym parent_is) (record {
               node = w.parent_written.node;
@@ -296,7 +279,7 @@ module _ (laws : SettlingLaws) (law : SplitLaw) (t : Terms) (full : FullChild) (
               spells = w.parent_written.spells;
               stored = w.parent_written.stored;
               marked = refl;
-              live = told_place t full.parent.node (parts_for full pc).above upper' k5.log (steps5.terms ∙ terms) found_up w.parent_written.node refl told_parent;
+              live = told_place t full.parent.node (parts_for full pc).above upper' k5.log (steps5.calls.caller.terms ∙ terms) found_up w.parent_written.node refl told_parent;
             });
             way = way_is;
             parent = parent_is;

@@ -26,7 +26,7 @@ use Rattle.btree_change.specs.declared.split.Parts.{Parts}
 use Rattle.btree_change.specs.Halves.{WritesParts}
 use Rattle.btree_change.specs.Paths.{StepsOnNodes}
 use Rattle.btree_change.specs.Splits.{HoldsFullChild, parts_for}
-use Rattle.btree_change.proofs.Descending.{level_of, steps_then}
+use Rattle.btree_change.proofs.Descending.{level_of}
 use Rattle.btree_change.proofs.HeldParts.{AreFar, IsTold, higher_dead, higher_far, higher_once, higher_stay, is_first, is_none, is_second, is_third, lives_apart, place_of_lock}
 use Rattle.btree_change.proofs.Halving.{fits_new, fits_written, new_lock, written_lock}
 use Rattle.btree_change.proofs.HeldLists.{HeldOnce}
@@ -36,6 +36,7 @@ use Rattle.word_rule.specs.declared.log.Log.{Log}
 use Rattle.btree_change.proofs.SplitParts.{above_differs, are_halves, left_differs, slot_of}
 use Rattle.btree_change.proofs.Storing.{IsRewritten, found_at, rewritten_so}
 use Rattle.word_rule.proofs.Each.{all_with}
+use Rattle.btree_change.proofs.NodeSteps.{steps_then}
 
 -- the law of a split, as a change of the three nodes alone
 abbrev pub SplitLaw : Type 0
@@ -240,7 +241,7 @@ module _ (t : Terms) (full : FullChild) (pc : ℕ) (k0 : CallerData) (h : HoldsF
           (subst (λ (z : Parts). StoresHeld full.parent.node z.above k1 k2) are write2) (subst (λ (z : Parts). SpellsHeld full.parent.node z.above k2.log) are spell2)
 
       pub table_then : k2.table ≡ k.table
-      table_then = second.same.table ∙ first.same.table
+      table_then = second.same.calls.caller.table ∙ first.same.calls.caller.table
 
       up_now : second.lock.node ≡ full.parent.node
       up_now = second.node ∙ h.parent.node

@@ -313,7 +313,7 @@ module _ (t : Terms) (m : Member) (parent below : Held) (way : Room) (above : Li
     reach = (ends_inside t m.span.first m.span.last parent below above k.log.holdings pair tree is, refl);
     way = still_on n l spent;
     height = omega (arith, less, low);
-    loader = spent.loader ∙ loader;
+    loader = spent.calls.caller.loader ∙ loader;
   }
 
   pub stands_parent : (at : ℕ) → IsReach parent.content m.span.first m.span.last (reach.Parent at) → (n : ℕ) (l : CallerData) → Spends n k l → l.log.holdings.held ≡ pair.lower ∷ pair.upper ∷ [] → l.log.holdings.out ≡ [] → StandsOnWay t m (record { at = below; beyond = Some (record { node = parent.node; slot = at; kept = kept_node parent ∷ [] }); room = way }) l.log
@@ -323,7 +323,7 @@ module _ (t : Terms) (m : Member) (parent below : Held) (way : Room) (above : Li
     reach = reaches_parent t m.span.first m.span.last parent below above k.log.holdings pair tree at is;
     way = still_on n l spent;
     height = omega (arith, less, low);
-    loader = spent.loader ∙ loader;
+    loader = spent.calls.caller.loader ∙ loader;
   }
 
   pub kept_length : length (kept_above (kept_too parent so_far)) ≤ length (kept_above so_far) + 1
@@ -341,7 +341,7 @@ module _ (t : Terms) (m : Member) (parent below : Held) (way : Room) (above : Li
         at = x.0;
         here = pair.here;
         reach = x.1;
-        way = way_kept way m.span.first below.content k.log l.log (ap (λ (r : Receipts). r.own) steps.receipts) steps.loads.0 steps.loads.1 on;
+        way = way_kept way m.span.first below.content k.log l.log (ap (λ (r : Receipts). r.own) steps.calls.receipts) steps.loads.0 steps.loads.1 on;
         height = (let more = kept_length in omega (arith, less, low, more));
-        loader = steps.loader ∙ loader;
+        loader = steps.calls.caller.loader ∙ loader;
       }

@@ -22,7 +22,6 @@ use Rattle.btree_change.specs.Splits.{HasSpace, HoldsFull, HoldsFullChild, Split
 use Rattle.word_rule.specs.NodeTells.{KnowsTree}
 use Rattle.word_rule.specs.Sights.{after_node_load}
 use Rattle.btree_change.specs.Stands.{HasSplit, HasWayOn, HoldsPair}
-use Rattle.btree_change.proofs.Descending.{steps_then}
 use Rattle.btree_change.proofs.Descents.{steps_of_load}
 use Rattle.btree_change.proofs.NoRoom.{found_cause, no_room_now, same_cause}
 use Rattle.btree_change.proofs.Standing.{lowest_of, stands_below}
@@ -30,6 +29,7 @@ use Rattle.btree_change.proofs.Lowering.{settled_inner, settled_live}
 use Rattle.btree_change.proofs.Releasing.{IsLowest, left_above}
 use Rattle.btree_change.proofs.Spending.{more_spent, spends_all, spends_one, spends_same, steps_after}
 use Rattle.btree_change.proofs.Settling.{found_first}
+use Rattle.btree_change.proofs.NodeSteps.{steps_then}
 
 -- the child is found among what is held
 pub child_found : (t : Terms) (pc : ℕ) (parent child : Held) (above held : List Holding) (lower upper : Holding) → held ≡ lower ∷ upper ∷ above → lower.node ≡ child.node → held_of child.node held ≡ Some lower
@@ -126,7 +126,7 @@ module _ (t : Terms) (pc : ℕ) (step : Step) (above : List Holding) (k : Caller
       higher = subst (AreHigher t step.parent.content.level) is pair.higher;
       out = stays.out ∙ pair.out;
     };
-    way = subst (λ (rs : Receipts). HadNoRoom pc (length rs.own) k1.log.trace.loads) (sym stays.same.receipts) (no_room_now pc k k1 found);
+    way = subst (λ (rs : Receipts). HadNoRoom pc (length rs.own) k1.log.trace.loads) (sym stays.same.calls.receipts) (no_room_now pc k k1 found);
     cause = found_cause step.room pc k k1 found;
     node = refl;
     frame = refl;

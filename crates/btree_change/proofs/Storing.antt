@@ -16,10 +16,10 @@ use Rattle.node_store.specs.declared.writing.Store.{Store}
 use Rattle.node_store.specs.Holding.{MakesStores, SpellsHeld, StoresHeld, after_node_stores}
 use Rattle.node_store.specs.Writing.{kind_of_body, place_in_turn, store_in_turn, store_of, stores, stores_upto, wanted_node_word}
 use Rattle.btree_change.specs.Paths.{StepsOnNodes}
-use Rattle.btree_change.proofs.Descending.{steps_none, steps_then}
 use Rattle.btree_change.proofs.Outlining.{steps_of_loads}
 use Rattle.btree_change.proofs.Loading.{none_more}
 use Rattle.word_rule.proofs.Each.{all_append}
+use Rattle.btree_change.proofs.NodeSteps.{steps_none, steps_so, steps_then}
 
 -- what is stored is what is wanted there
 abbrev IsWanted : NodeData → Store → Type 0
@@ -97,7 +97,7 @@ stored_keeps s n (x ∷ xs) h before above v kind wanted is none far held =
       kept = inr (rest.stored refl);
       out = rest.out;
       same = λ k. steps_then (record k { log = v }) (record k { log = stored_log n x.at x.value v }) (record k { log = after_node_stores n xs (stored_log n x.at x.value v) })
-          (record { table = refl; left = refl; terms = refl; role = refl; past = refl; budget = refl; receipts = refl; loader = refl; made = refl; lineage = refl; loads = none_more v.trace.loads }) (rest.same k);
+          (steps_so (record k { log = v }) refl refl (none_more v.trace.loads)) (rest.same k);
     })
 
 -- A held node was written, and isn't free: its lock, wherever it stands, spells it, and all else is
@@ -138,18 +138,3 @@ rewritten_so s n h before above k k' kind is none far held writes spells =
     differ_stored : (lock : Holding) → (lock.words ≡ h.words) ⊎ (lock.stored ≡ true) → SpellsNode lock.words s → (old : NodeData) → SpellsNode h.words old → old ≢ s → lock.stored ≡ true
     differ_stored lock (inl same) now old was differs = absurd (differs (same_Some _ _ (sym was ∙ (ap spelled (sym same) ∙ now))))
     differ_stored lock (inr e) now old was differs = e
-
--- the same of the lock that was taken last
-pub record IsWritten (s : NodeData) (h : Holding) (above : List Holding) (k k' : CallerData) : Type 0 where
-  pub lock : Holding
-  pub held : k'.log.holdings.held ≡ lock ∷ above
-  pub node : lock.node ≡ h.node
-  pub mark : lock.mark ≡ h.mark
-  pub settled : lock.settled ≡ h.settled
-  pub spells : SpellsNode lock.words s
-  pub out : k'.log.holdings.out ≡ k.log.holdings.out
-  pub same : StepsOnNodes k k'
-
-pub written_so : (s : NodeData) (n : ℕ) (h : Holding) (above : List Holding) (k k' : CallerData) → kind_of_body s.body ≢ 2 → h.node ≡ n → AllByRecursion (λ a. a.node ≢ n) above → k.log.holdings.held ≡ h ∷ above → StoresHeld n s k k' → SpellsHeld n s k'.log → IsWritten s h above k k'
-written_so s n h above k k' kind is far held writes spells =
-    let r = rewritten_so s n h [] above k k' kind is tt far held writes spells in record { lock = r.lock; held = r.held; node = r.node; mark = r.mark; settled = r.settled; spells = r.spells; out = r.out; same = r.same }

@@ -23,7 +23,6 @@ use Rattle.node_store.specs.Writing.{kind_of_body}
 use Rattle.btree_change.specs.Paths.{StepsOnNodes}
 use Rattle.btree_change.specs.Siblings.{HoldsSiblings, HoldsSunk, both_of, sunk_root}
 use Rattle.btree_change.specs.declared.sibling.Siblings.{Siblings}
-use Rattle.btree_change.proofs.Descending.{steps_then}
 use Rattle.btree_change.proofs.Descents.{steps_of_load}
 use Rattle.btree_change.proofs.Loading.{none_more}
 use Rattle.btree_change.proofs.Pairings.{AreThree, IsNow, both_high, both_left, both_low, family, here, in_l, in_r, later, left_told, not_in, parent_told, right_told, settles, three}
@@ -32,6 +31,7 @@ use Rattle.btree_change.proofs.Written.{IsWrittenAs, edit_high, edit_low, spells
 use Rattle.btree_change.proofs.Joining.{may_store, never_free, wide_of}
 use Rattle.btree_change.proofs.Raised.{spells_raised}
 use Rattle.btree_change.proofs.Lowering.{settled_live}
+use Rattle.btree_change.proofs.NodeSteps.{steps_so, steps_then}
 
 abbrev pub SinkLaw : Type 0
 SinkLaw = (f : Contents) (live : ℕ → Bool) (p q : Pair) (g : Contents) → IsLawfulTree f live → IsSink f live p q g → IsChangeOf f live 0 (0 ∷ p.child ∷ q.child ∷ []) [] g None (0 ∷ [])
@@ -261,7 +261,7 @@ module _ (t : Terms) (x : Siblings) (k k1 k2 : CallerData) (seen seen' : ℕ) (h
 
           pub sunk_steps : StepsOnNodes k k6
           sunk_steps =
-              let plain4 : StepsOnNodes k3 k4 = subst (StepsOnNodes k3) (sym stores4) (record { table = refl; left = refl; terms = refl; role = refl; past = refl; budget = refl; receipts = refl; loader = refl; made = refl; lineage = refl; loads = none_more k3.log.trace.loads }) in
-              let plain5 : StepsOnNodes k4 k5 = subst (StepsOnNodes k4) (sym stores5) (record { table = refl; left = refl; terms = refl; role = refl; past = refl; budget = refl; receipts = refl; loader = refl; made = refl; lineage = refl; loads = none_more k4.log.trace.loads }) in
-              let plain6 : StepsOnNodes k5 k6 = subst (StepsOnNodes k5) (sym (stores6 ∙ ap (λ (z : Log). record k5 { log = z }) (frees_it ∙ settled6))) (record { table = refl; left = refl; terms = refl; role = refl; past = refl; budget = refl; receipts = refl; loader = refl; made = refl; lineage = refl; loads = none_more k5.log.trace.loads }) in
+              let plain4 : StepsOnNodes k3 k4 = steps_so k3 stores4 refl (none_more k3.log.trace.loads) in
+              let plain5 : StepsOnNodes k4 k5 = steps_so k4 stores5 refl (none_more k4.log.trace.loads) in
+              let plain6 : StepsOnNodes k5 k6 = steps_so k5 (stores6 ∙ ap (λ (z : Log). record k5 { log = z }) (frees_it ∙ settled6)) refl (none_more k5.log.trace.loads) in
               steps_then k k1 k6 (steps_of_load l 2 seen k k1 loads) (steps_then k1 k2 k6 (steps_of_load r 2 seen' k1 k2 loads') (steps_then k2 k3 k6 w.same (steps_then k3 k4 k6 plain4 (steps_then k4 k5 k6 plain5 plain6))))

@@ -119,16 +119,6 @@ module _ (law : TakeLaw) (laws : LeafLaws) (t : Terms) (at : Held) (base : ℕ) 
       let member = registered (state_after (start k2.log.terms) before).registered tells.entries in
       let answer : r ≡ receipt.Deregister base (removed.Done number m) = done_is (length before + 1) (state_after (start k2.log.terms) before).registered r member done ∙ ap (λ j. receipt.Deregister base (removed.Done j m)) (sym (counted ∙ (ap length past ∙ length-append before (update.Deregister base ∷ [])))) in
       let call = subst (λ x. AcceptsUpdate x at.node true k k3) answer (accepts_so laws t (update.Deregister base) at now k1 k2 alone tree level in_leaf written change k k3 before r steps is rest true (written.stored s alone.here.spells differs)) in record {
-        table = call.table;
-        left = call.left;
-        terms = call.terms;
-        role = call.role;
-        loader = call.loader;
-        made = call.made;
-        lineage = call.lineage;
-        right = (before, (subst (λ p. IsPrefix p before) steps.past tells.begins, past, counted, subst (λ z. at_base base (state_after (start z) before).registered ≡ Some m) (steps.terms ∙ terms) member, subst (λ z. IsMemberOf z m) (steps.terms ∙ terms) (all_with (IsMemberOf k2.log.terms) (state_after (start k2.log.terms) before).registered m tells.members (there_at base (state_after (start k2.log.terms) before).registered m member).0)));
-        receipts = call.receipts;
-        budget = call.budget;
-        holds = call.holds;
-        out = call.out;
+        right = (before, (subst (λ p. IsPrefix p before) steps.calls.past tells.begins, past, counted, subst (λ z. at_base base (state_after (start z) before).registered ≡ Some m) (steps.calls.caller.terms ∙ terms) member, subst (λ z. IsMemberOf z m) (steps.calls.caller.terms ∙ terms) (all_with (IsMemberOf k2.log.terms) (state_after (start k2.log.terms) before).registered m tells.members (there_at base (state_after (start k2.log.terms) before).registered m member).0)));
+        call = call;
       }

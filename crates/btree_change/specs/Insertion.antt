@@ -1,5 +1,5 @@
 -- What the insertion of a member makes of its caller.
-use Rattle.std.specs.Prelude.{◌≡◌, ℕ, ◌-◌, ◌<◌, ◌≤◌, List, [], ◌∷◌, ◌++◌, length}
+use Rattle.std.specs.Prelude.{◌≡◌, ℕ, ◌-◌, ◌<◌, ◌≤◌, true, List, [], ◌∷◌, ◌++◌, length}
 use mathlib.Core.List.{IsPrefix}
 use Rattle.reg_model.specs.History.{state_after}
 use Rattle.reg_model.specs.State.{IsFree, IsLowestOverlap}
@@ -12,46 +12,10 @@ use Rattle.reg_model.specs.declared.span.Member.{Member}
 use Rattle.word_rule.specs.CallerData.{CallerData, surplus}
 use Rattle.word_rule.specs.Callers.{IsMemberOf, start}
 use Rattle.word_rule.specs.Places.{CALL_CREDIT}
-use Rattle.word_rule.specs.declared.log.Holding.{Holding}
-use Rattle.word_rule.specs.declared.log.Holdings.{Holdings}
 use Rattle.word_rule.specs.declared.log.Terms.{Terms}
-use Rattle.word_rule.specs.Spelling.{SpellsNode}
 use Rattle.word_rule.specs.TreeRefusals.{WasFilledSince}
-use Rattle.btree_change.specs.declared.descent.Held.{Held}
 use Rattle.btree_change.specs.Loads.{FoundNoRoom}
-use Rattle.btree_change.specs.Paths.{IsSettledLock}
-use Rattle.btree_change.specs.Updates.{AnswersUpdate, RefusesUpdate}
-
--- A leaf is held that has settled, and nothing else. No node is out.
-pub record HoldsLeaf (t : Terms) (leaf : Held) (holdings : Holdings) : Type 0 where
-  pub within : leaf.node < t.nodes
-  pub lock : Holding
-  pub held : holdings.held ≡ lock ∷ []
-  pub here : IsSettledLock t leaf.node leaf.content leaf.changed lock
-  pub out : holdings.out ≡ []
-
--- A member was put into a held leaf and committed, with this number.
-pub record PutsMember (m : Member) (n number : ℕ) (k k' : CallerData) : Type 0 where
-  pub table : k'.table ≡ k.table
-  pub left : k'.left ≡ k.left
-  pub terms : k'.log.terms ≡ k.log.terms
-  pub role : k'.log.role ≡ k.log.role
-  pub loader : k'.log.loader ≡ k.log.loader
-  pub made : k'.log.made ≡ k.log.made
-  pub lineage : k'.log.lineage ≡ k.log.lineage
-  pub before : List Update
-  pub begins : IsPrefix k.log.past before
-  pub past : k'.log.past ≡ before ++ update.Register m ∷ []
-  pub number_is : number ≡ length k'.log.past
-  pub receipts : k'.log.receipts ≡ record k.log.receipts {
-    own = k.log.receipts.own ++ receipt.Register m (inserted.Done number) ∷ [];
-  }
-  pub budget : k'.log.budget ≡ record k.log.budget { allowance = k.log.budget.allowance - 1 }
-  pub lock : Holding
-  pub held : k'.log.holdings.held ≡ lock ∷ []
-  pub node : lock.node ≡ n
-  pub spells : SpellsNode lock.words lock.settled
-  pub out : k'.log.holdings.out ≡ []
+use Rattle.btree_change.specs.Updates.{AcceptsUpdate, AnswersUpdate, RefusesUpdate}
 
 -- The answer to an insertion is right, where `k` was its caller when the call was begun and k' is
 -- it afterwards. Where it is Full, ten members were registered at some moment since the receipt
@@ -75,6 +39,11 @@ IsRightInsertion t m k k' inserted.Spent = ⊥
 abbrev pub IfFull : Inserted → Type 0 → Type 0
 IfFull (inserted.Full stamp) P = P
 IfFull _ P = Unit {0}
+
+-- A member was put into a held leaf and committed, with this number.
+pub record PutsMember (t : Terms) (m : Member) (leaf number : ℕ) (k k' : CallerData) : Type 0 where
+  pub right : IsRightInsertion t m k k' (inserted.Done number)
+  pub call : AcceptsUpdate (receipt.Register m (inserted.Done number)) leaf true k k'
 
 -- what an accepted insertion takes of an allowance, and its release of a credit
 abbrev pub taken_by : Inserted → ℕ

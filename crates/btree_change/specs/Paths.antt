@@ -3,7 +3,7 @@ use Rattle.std.specs.Prelude.{◌≡◌, ℕ, ◌-◌, ◌<◌, ◌≤◌, Bool,
 use Rattle.std.specs.Prelude.{IsSome, Contains, length}
 use Rattle.tree_shape.specs.NodeData.{NodeData}
 use Rattle.tree_shape.specs.Trees.{Branch, branches}
-use Rattle.word_rule.specs.CallerData.{CallerData}
+use Rattle.word_rule.specs.CallerData.{CallerData, KeepsCalls}
 use Rattle.word_rule.specs.declared.log.Holding.{Holding}
 use Rattle.word_rule.specs.declared.log.Holdings.{Holdings}
 use Rattle.word_rule.specs.declared.log.Terms.{Terms}
@@ -56,14 +56,6 @@ HasChildFor s pc child = (b : Branch) × (Contains (branches (s.level - 1) s) b 
 -- What steps on nodes leave of their caller: its calls, its receipts and its names are as they
 -- were, and what it had loaded stays told.
 pub record StepsOnNodes (k k' : CallerData) : Type 0 where
-  pub table : k'.table ≡ k.table
-  pub left : k'.left ≡ k.left
-  pub terms : k'.log.terms ≡ k.log.terms
-  pub role : k'.log.role ≡ k.log.role
-  pub past : k'.log.past ≡ k.log.past
+  pub calls : KeepsCalls k k'
   pub budget : k'.log.budget ≡ k.log.budget
-  pub receipts : k'.log.receipts ≡ k.log.receipts
-  pub loader : k'.log.loader ≡ k.log.loader
-  pub made : k'.log.made ≡ k.log.made
-  pub lineage : k'.log.lineage ≡ k.log.lineage
   pub loads : KeepsLoads k k'

@@ -1,7 +1,7 @@
 -- Which held nodes may be let go of, and what that makes of their caller.
 use Rattle.std.specs.Prelude.{◌≡◌, ℕ, ◌+◌, ◌≤◌, Bool, false, List, Some}
 use Rattle.std.specs.List.{AllByRecursion}
-use Rattle.word_rule.specs.CallerData.{CallerData}
+use Rattle.word_rule.specs.CallerData.{CallerData, KeepsCalls}
 use Rattle.word_rule.specs.Held.{held_of, without_lock}
 use Rattle.word_rule.specs.Spelling.{SpellsNode}
 use Rattle.word_rule.specs.declared.log.Holding.{Holding}
@@ -12,15 +12,7 @@ use Rattle.btree_change.specs.Loads.{KeepsLoads}
 -- version: its calls, its receipts and its names are as they were, and what it had loaded stays
 -- told.
 pub record Spends (releases : ℕ) (k k' : CallerData) : Type 0 where
-  pub table : k'.table ≡ k.table
-  pub left : k'.left ≡ k.left
-  pub terms : k'.log.terms ≡ k.log.terms
-  pub role : k'.log.role ≡ k.log.role
-  pub past : k'.log.past ≡ k.log.past
-  pub receipts : k'.log.receipts ≡ k.log.receipts
-  pub loader : k'.log.loader ≡ k.log.loader
-  pub made : k'.log.made ≡ k.log.made
-  pub lineage : k'.log.lineage ≡ k.log.lineage
+  pub calls : KeepsCalls k k'
   pub allowance : k'.log.budget.allowance ≡ k.log.budget.allowance
   pub credit : k.log.budget.credit ≤ k'.log.budget.credit + releases
   pub loads : KeepsLoads k k'

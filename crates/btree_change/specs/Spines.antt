@@ -13,7 +13,7 @@ use Rattle.tree_shape.specs.Steps.{first_child, last_child}
 use Rattle.tree_shape.specs.declared.limits.TheConstants.{HIGHEST_LEVEL}
 use Rattle.tree_shape.specs.declared.node.Frame.{Frame}
 use Rattle.tree_shape.specs.declared.pair.Pair.{Pair}
-use Rattle.word_rule.specs.CallerData.{CallerData}
+use Rattle.word_rule.specs.CallerData.{CallerData, KeepsCalls}
 use Rattle.word_rule.specs.Exchange.{is_lawful, settle}
 use Rattle.word_rule.specs.Held.{held_of}
 use Rattle.word_rule.specs.Spelling.{SpellsNode}
@@ -230,15 +230,7 @@ pub record IsPending (t : Terms) (n level : ℕ) (holdings : Holdings) : Type 0 
 -- So many locks were let go of with the next version, and all that is still held has settled.
 pub record LetsGoSettled (settled : Holding → Holding) (base : List Holding) (level : ℕ)
     (k k' : CallerData) : Type 0 where
-  pub table : k'.table ≡ k.table
-  pub left : k'.left ≡ k.left
-  pub terms : k'.log.terms ≡ k.log.terms
-  pub role : k'.log.role ≡ k.log.role
-  pub past : k'.log.past ≡ k.log.past
-  pub receipts : k'.log.receipts ≡ k.log.receipts
-  pub loader : k'.log.loader ≡ k.log.loader
-  pub made : k'.log.made ≡ k.log.made
-  pub lineage : k'.log.lineage ≡ k.log.lineage
+  pub calls : KeepsCalls k k'
   pub budget : k'.log.budget ≡ record k.log.budget { credit = k.log.budget.credit - (level + 1) }
   pub held : k'.log.holdings.held ≡ map settled base
   pub out : k'.log.holdings.out ≡ []
@@ -262,15 +254,7 @@ AreMovedLocks _ _ = ⊥
 -- fence; what is held above X is as it was.
 pub record MovesFence (t : Terms) (fence : ℕ) (lock : Holding) (spine : List Holding)
     (top : Holding) (rest : List Holding) (k k' : CallerData) : Type 0 where
-  pub table : k'.table ≡ k.table
-  pub left : k'.left ≡ k.left
-  pub terms : k'.log.terms ≡ k.log.terms
-  pub role : k'.log.role ≡ k.log.role
-  pub past : k'.log.past ≡ k.log.past
-  pub receipts : k'.log.receipts ≡ k.log.receipts
-  pub loader : k'.log.loader ≡ k.log.loader
-  pub made : k'.log.made ≡ k.log.made
-  pub lineage : k'.log.lineage ≡ k.log.lineage
+  pub calls : KeepsCalls k k'
   pub allowance : k'.log.budget.allowance ≡ k.log.budget.allowance
   pub credit : k.log.budget.credit ≤ k'.log.budget.credit + HIGHEST_LEVEL
   pub lock' : Holding

@@ -6,7 +6,7 @@ use Rattle.reg_model.specs.declared.span.Member.{Member}
 use Rattle.tree_shape.specs.NodeData.{NodeData, IsInFences, frame_of, pairs_of, slot_for}
 use Rattle.tree_shape.specs.declared.limits.TheConstants.{HIGHEST_LEVEL}
 use Rattle.tree_shape.specs.declared.pair.Pair.{Pair}
-use Rattle.word_rule.specs.CallerData.{CallerData}
+use Rattle.word_rule.specs.CallerData.{CallerData, KeepsCaller}
 use Rattle.word_rule.specs.TreeRefusals.{HadNoRoom}
 use Rattle.word_rule.specs.declared.log.Holding.{Holding}
 use Rattle.word_rule.specs.declared.log.Holdings.{Holdings}
@@ -126,13 +126,7 @@ pub record StandsOnWay (t : Terms) (m : Member) (stand : Stand) (v : Log) : Type
 -- What a part of an update call takes of its caller: so many of the allowance, and at most so many
 -- releases. These receipts are appended. All else is as it was but what is held, seen and loaded.
 pub record SpendsCall (more : List Receipt) (taken most : ℕ) (k k' : CallerData) : Type 0 where
-  pub table : k'.table ≡ k.table
-  pub left : k'.left ≡ k.left
-  pub terms : k'.log.terms ≡ k.log.terms
-  pub role : k'.log.role ≡ k.log.role
-  pub loader : k'.log.loader ≡ k.log.loader
-  pub made : k'.log.made ≡ k.log.made
-  pub lineage : k'.log.lineage ≡ k.log.lineage
+  pub caller : KeepsCaller k k'
   pub receipts : k'.log.receipts ≡ record k.log.receipts { own = k.log.receipts.own ++ more }
   pub allowance : k'.log.budget.allowance ≡ k.log.budget.allowance - taken
   pub credit : k.log.budget.credit ≤ k'.log.budget.credit + most

@@ -1,5 +1,5 @@
 -- What taking a member out of a held leaf, and finding none, make of a caller.
-use Rattle.std.specs.Prelude.{◌≡◌, ℕ, ◌-◌, true, [], ◌∷◌, ◌++◌}
+use Rattle.std.specs.Prelude.{◌≡◌, ℕ, true}
 use Rattle.reg_model.specs.declared.answer.Receipt.TheVariants as receipt
 use Rattle.reg_model.specs.declared.answer.Removed.{Removed}
 use Rattle.reg_model.specs.declared.answer.Removed.TheVariants as removed
@@ -7,27 +7,14 @@ use Rattle.reg_model.specs.declared.span.Member.{Member}
 use Rattle.word_rule.specs.CallerData.{CallerData}
 use Rattle.word_rule.specs.declared.log.Terms.{Terms}
 use Rattle.btree_change.specs.Removal.{AnswersRightly, taken_by_removal}
-use Rattle.btree_change.specs.Removing.{HoldsLock}
-use Rattle.btree_change.specs.Updates.{RefusesUpdate}
+use Rattle.btree_change.specs.Updates.{AcceptsUpdate, RefusesUpdate}
 
 -- A member was taken out of a held leaf and committed, with this number: it is the registered one
 -- that began at the base.
-pub record TakesMember (t : Terms) (base : ℕ) (n number : ℕ) (m : Member)
+pub record TakesMember (t : Terms) (base : ℕ) (leaf number : ℕ) (m : Member)
     (k k' : CallerData) : Type 0 where
-  pub table : k'.table ≡ k.table
-  pub left : k'.left ≡ k.left
-  pub terms : k'.log.terms ≡ k.log.terms
-  pub role : k'.log.role ≡ k.log.role
-  pub loader : k'.log.loader ≡ k.log.loader
-  pub made : k'.log.made ≡ k.log.made
-  pub lineage : k'.log.lineage ≡ k.log.lineage
   pub right : AnswersRightly t base k k' (removed.Done number m)
-  pub receipts : k'.log.receipts ≡ record k.log.receipts {
-    own = k.log.receipts.own ++ receipt.Deregister base (removed.Done number m) ∷ [];
-  }
-  pub budget : k'.log.budget ≡ record k.log.budget { allowance = k.log.budget.allowance - 1 }
-  pub holds : HoldsLock n true k'.log.holdings
-  pub out : k'.log.holdings.out ≡ []
+  pub call : AcceptsUpdate (receipt.Deregister base (removed.Done number m)) leaf true k k'
 
 -- A removal was refused under the lock of a leaf.
 pub record RefusesBase (t : Terms) (base : ℕ) (answer : Removed) (k k' : CallerData) : Type 0 where

@@ -1,7 +1,7 @@
 -- What an update of the tree makes of its caller, whichever it is.
 use Rattle.std.specs.Prelude.{◌≡◌, ℕ, ◌+◌, ◌-◌, ◌≤◌, Bool, [], ◌∷◌, ◌++◌}
 use Rattle.reg_model.specs.declared.answer.Receipt.{Receipt}
-use Rattle.word_rule.specs.CallerData.{CallerData}
+use Rattle.word_rule.specs.CallerData.{CallerData, KeepsCaller, KeepsCalls}
 use Rattle.word_rule.specs.Places.{CALL_CREDIT}
 use Rattle.node_store.specs.declared.locking.Busy.{Busy}
 use Rattle.node_store.specs.Locking.{FoundBusy}
@@ -12,13 +12,7 @@ use Rattle.btree_change.specs.Removing.{HoldsLock}
 -- one where it was accepted. No lock is held and no node is out. Nothing else of the caller changed
 -- but what it has seen, loaded and stored, and its releases, of which a call has enough.
 pub record AnswersUpdate (r : Receipt) (taken : ℕ) (k k' : CallerData) : Type 0 where
-  pub table : k'.table ≡ k.table
-  pub left : k'.left ≡ k.left
-  pub terms : k'.log.terms ≡ k.log.terms
-  pub role : k'.log.role ≡ k.log.role
-  pub loader : k'.log.loader ≡ k.log.loader
-  pub made : k'.log.made ≡ k.log.made
-  pub lineage : k'.log.lineage ≡ k.log.lineage
+  pub caller : KeepsCaller k k'
   pub receipts : k'.log.receipts ≡ record k.log.receipts {
     own = k.log.receipts.own ++ r ∷ [];
   }
@@ -29,14 +23,8 @@ pub record AnswersUpdate (r : Receipt) (taken : ℕ) (k k' : CallerData) : Type 
 -- An update was refused under the lock of a leaf, with this receipt. Nothing else of its caller
 -- changed but what it has seen and loaded.
 pub record RefusesUpdate (r : Receipt) (k k' : CallerData) : Type 0 where
-  pub table : k'.table ≡ k.table
-  pub left : k'.left ≡ k.left
-  pub terms : k'.log.terms ≡ k.log.terms
-  pub role : k'.log.role ≡ k.log.role
+  pub caller : KeepsCaller k k'
   pub budget : k'.log.budget ≡ k.log.budget
-  pub loader : k'.log.loader ≡ k.log.loader
-  pub made : k'.log.made ≡ k.log.made
-  pub lineage : k'.log.lineage ≡ k.log.lineage
   pub holdings : k'.log.holdings ≡ k.log.holdings
   pub receipts : k'.log.receipts ≡ record k.log.receipts {
     own = k.log.receipts.own ++ r ∷ [];
@@ -46,13 +34,7 @@ pub record RefusesUpdate (r : Receipt) (k k' : CallerData) : Type 0 where
 -- allowance. The leaf is still held, and nothing else.
 pub record AcceptsUpdate (r : Receipt) (leaf : ℕ) (changed : Bool) (k k' : CallerData) : Type 0
   where
-    pub table : k'.table ≡ k.table
-    pub left : k'.left ≡ k.left
-    pub terms : k'.log.terms ≡ k.log.terms
-    pub role : k'.log.role ≡ k.log.role
-    pub loader : k'.log.loader ≡ k.log.loader
-    pub made : k'.log.made ≡ k.log.made
-    pub lineage : k'.log.lineage ≡ k.log.lineage
+    pub caller : KeepsCaller k k'
     pub receipts : k'.log.receipts ≡ record k.log.receipts {
       own = k.log.receipts.own ++ r ∷ [];
     }
@@ -67,15 +49,7 @@ pub record AcceptsUpdate (r : Receipt) (leaf : ℕ) (changed : Bool) (k k' : Cal
 -- no node is out but one that was lost.
 pub record GivesUp (why : Busy) (k k' : CallerData) : Type 0 where
   pub cause : FoundBusy why k k'
-  pub table : k'.table ≡ k.table
-  pub left : k'.left ≡ k.left
-  pub terms : k'.log.terms ≡ k.log.terms
-  pub role : k'.log.role ≡ k.log.role
-  pub past : k'.log.past ≡ k.log.past
-  pub receipts : k'.log.receipts ≡ k.log.receipts
-  pub loader : k'.log.loader ≡ k.log.loader
-  pub made : k'.log.made ≡ k.log.made
-  pub lineage : k'.log.lineage ≡ k.log.lineage
+  pub calls : KeepsCalls k k'
   pub allowance : k'.log.budget.allowance ≡ k.log.budget.allowance
   pub credit : k.log.budget.credit ≤ k'.log.budget.credit + CALL_CREDIT
   pub nothing : HoldsLeftOver why k'.log.holdings

@@ -9,8 +9,9 @@ ghost use Rattle.node_store.specs.Holding.{SpellsHeld};
 ghost use Rattle.node_store.specs.Outlines.{OnlyLoads};
 ghost use Rattle.word_rule.specs.CallerData.{due};
 ghost use Rattle.word_rule.specs.TreeRefusals.{HadNoRoom};
-ghost use Rattle.btree_change.specs.Insertion.{HoldsLeaf, IfFull, PutsMember, RefusesMember};
+ghost use Rattle.btree_change.specs.Insertion.{IfFull, PutsMember, RefusesMember};
 ghost use Rattle.btree_change.specs.Loads.{KeepsLoads};
+ghost use Rattle.btree_change.specs.Removing.{HoldsAlone};
 ghost use Rattle.btree_change.specs.Stands.{StandsAt};
 
 use crate::descent::Held;
@@ -32,7 +33,7 @@ pub(crate) fn put_in_leaf(
 ) -> u32
     requires table { me.old.table ≡ words.now.table }
     requires terms { me.old.log.terms ≡ words.now.terms }
-    requires leaf { (changed : Bool) × HoldsLeaf words.now.terms (record {
+    requires leaf { (changed : Bool) × HoldsAlone words.now.terms (record {
       node = node;
       content = leaf.now;
       changed = changed;
@@ -46,7 +47,7 @@ pub(crate) fn put_in_leaf(
     requires free { IsFree member.now.span (entries_of leaf.now) }
     requires due { 0 < due me.old }
     requires payload { member.now.payload < words.now.terms.payloads }
-    ensures { PutsMember member.now node result me.old me.new }
+    ensures { PutsMember words.now.terms member.now node result me.old me.new }
 {
     laws::put();
     laws::transfer();
@@ -62,7 +63,7 @@ pub(crate) fn put_in_leaf(
 pub(crate) fn put_in_held(words: &Words, me: &mut Caller, leaf: &Held, placed: &Placed) -> u32
     requires table { me.old.table ≡ words.now.table }
     requires terms { me.old.log.terms ≡ words.now.terms }
-    requires leaf { HoldsLeaf words.now.terms leaf.now me.old.log.holdings }
+    requires leaf { HoldsAlone words.now.terms leaf.now me.old.log.holdings }
     requires loader { me.old.log.loader ≡ None }
     requires level { leaf.now.content.level ≡ 0 }
     requires span { IsSpan placed.now.member.span }
@@ -75,7 +76,8 @@ pub(crate) fn put_in_held(words: &Words, me: &mut Caller, leaf: &Held, placed: &
     requires few { placed.now.place ≤ length (entries_of leaf.now.content) }
     requires due { 0 < due me.old }
     requires payload { placed.now.member.payload < words.now.terms.payloads }
-    ensures { PutsMember placed.now.member leaf.now.node result me.old me.new }
+    ensures { PutsMember words.now.terms placed.now.member leaf.now.node result me.old
+        me.new }
 {
     laws::put();
     laws::transfer();

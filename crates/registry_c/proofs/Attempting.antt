@@ -112,4 +112,4 @@ count_most false = omega arith
 pub gave_up : GoOnToFit → (mid : ClientData) (why : Busy) (k : CallerData) → IsClient mid → GivesUp why mid.me k → 0 < due k → IsClient (record mid { me = k; lost = is_lost why })
 gave_up law mid why k is g begun =
     let one = count_most mid.begun in
-    goes_on law mid k mid.begun (is_lost why) (adds_none mid.me k (ap (λ r. r.own) g.receipts)) is (g.table ∙ is.home) g.nothing.0 (g.loader ∙ is.loader) (none_out why k.log.holdings.out g.nothing.1) (omega (arith, begun, one))
+    goes_on law mid k mid.begun (is_lost why) (adds_none mid.me k (ap (λ r. r.own) g.calls.receipts)) is (g.calls.caller.table ∙ is.home) g.nothing.0 (g.calls.caller.loader ∙ is.loader) (none_out why k.log.holdings.out g.nothing.1) (omega (arith, begun, one))

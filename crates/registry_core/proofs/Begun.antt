@@ -39,8 +39,8 @@ load_tried t m k k' (Err e) can a = tt
 
 -- one that gave up is idle again, unless it lost a node
 pub idle_again : (why : Busy) (k k' : CallerData) → IsIdle k.log → GivesUp why k k' → UnlessLost why (IsIdle k'.log)
-idle_again (busy.Taken id) k k' idle g = record { held = g.nothing.0; out = g.nothing.1; loader = g.loader ∙ idle.loader }
-idle_again busy.Raced k k' idle g = record { held = g.nothing.0; out = g.nothing.1; loader = g.loader ∙ idle.loader }
+idle_again (busy.Taken id) k k' idle g = record { held = g.nothing.0; out = g.nothing.1; loader = g.calls.caller.loader ∙ idle.loader }
+idle_again busy.Raced k k' idle g = record { held = g.nothing.0; out = g.nothing.1; loader = g.calls.caller.loader ∙ idle.loader }
 idle_again busy.Lost k k' idle g = tt
 
 pub busy_again : {A : Type 0} (up : Type 0) (k k' : CallerData) (result : Result A Busy) → IsIdle k.log → IfErr result (λ e. GivesUp e k k' × up) → IfErr result (λ e. UnlessLost e (IsIdle k'.log))
@@ -49,13 +49,13 @@ busy_again up k k' (Err e) idle g = idle_again e k k' idle g.0
 
 -- one that was answered is idle
 pub insertion_idle : (t : Terms) (m : Member) (k k' : CallerData) (result : Result Inserted Busy) → IsIdle k.log → IfOk result (λ answer. AnswersInsertion t m answer k k') → OnOk result (IsIdle k'.log)
-insertion_idle t m k k' (Ok answer) idle a = record { held = a.call.nothing.0; out = a.call.nothing.1; loader = a.call.loader ∙ idle.loader }
+insertion_idle t m k k' (Ok answer) idle a = record { held = a.call.nothing.0; out = a.call.nothing.1; loader = a.call.caller.loader ∙ idle.loader }
 insertion_idle t m k k' (Err e) idle a = tt
 
 pub removal_idle : (t : Terms) (base : ℕ) (k k' : CallerData) (result : Result Removed Busy) → IsIdle k.log → IfOk result (λ answer. AnswersRemoval t base answer k k') → OnOk result (IsIdle k'.log)
-removal_idle t base k k' (Ok answer) idle a = record { held = a.call.nothing.0; out = a.call.nothing.1; loader = a.call.loader ∙ idle.loader }
+removal_idle t base k k' (Ok answer) idle a = record { held = a.call.nothing.0; out = a.call.nothing.1; loader = a.call.caller.loader ∙ idle.loader }
 removal_idle t base k k' (Err e) idle a = tt
 
 pub replacement_idle : (t : Terms) (m : Member) (k k' : CallerData) (result : Result Replaced Busy) → IsIdle k.log → IfOk result (λ answer. AnswersReplacement t m answer k k') → OnOk result (IsIdle k'.log)
-replacement_idle t m k k' (Ok answer) idle a = record { held = a.call.nothing.0; out = a.call.nothing.1; loader = a.call.loader ∙ idle.loader }
+replacement_idle t m k k' (Ok answer) idle a = record { held = a.call.nothing.0; out = a.call.nothing.1; loader = a.call.caller.loader ∙ idle.loader }
 replacement_idle t m k k' (Err e) idle a = tt

@@ -28,19 +28,19 @@ use Rattle.registry_core.proofs.Following.{answered_none}
 answered_update : (r : Receipt) (taken : ℕ) (k k' : CallerData) → is_of_update r ≡ true → 0 < k.left → IsIdle k.log → IsPrefix k.log.past k'.log.past → moment r ≡ length k'.log.past → AnswersUpdate r taken (call_begun k) k' → Answered (r ∷ []) k k'
 answered_update r taken k k' update some idle begins at call =
     let low = longer_length k.log.past k'.log.past begins in
-    let left = call.left in
+    let left = call.caller.left in
     record {
-      table = call.table;
-      terms = call.terms;
+      table = call.caller.table;
+      terms = call.caller.terms;
       begins = begins;
       between = ((omega (arith, low, at), omega (arith, at)), tt);
       left = rw update (omega (arith, some, left));
       own = call.receipts;
-      loader = call.loader;
+      loader = call.caller.loader;
       held = call.nothing.0 ∙ sym idle.held;
       out = call.nothing.1 ∙ sym idle.out;
-      lineage = call.lineage;
-      made = call.made;
+      lineage = call.caller.lineage;
+      made = call.caller.made;
     }
 
 one_more : (before past : List Update) (u : Update) → past ≡ before ++ u ∷ [] → IsPrefix before past

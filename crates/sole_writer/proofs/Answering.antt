@@ -10,6 +10,7 @@ use Rattle.btree_change.specs.Insertion.{IfFull, TriesInsertion}
 use Rattle.btree_change.specs.Loads.{FoundNoRoom}
 use Rattle.btree_change.specs.Removal.{TriesRemoval}
 use Rattle.btree_change.specs.Updates.{AnswersUpdate, GivesUp}
+use Rattle.btree_change.proofs.NodeSteps.{calls_so}
 use Rattle.node_store.specs.Locking.{IsBusyAt}
 use Rattle.node_store.specs.declared.locking.Busy.{Busy}
 use Rattle.node_store.specs.declared.locking.Busy.TheVariants as busy
@@ -98,13 +99,7 @@ module _ (t : Terms) (b k : CallerData) (idle : IsIdle b.log) (enough : CALL_CRE
       subst (λ (z : CallerData). right z.log.past × AnswersUpdate r (one_if taken) b z) (sym e) (
         so,
         record {
-          table = refl;
-          left = refl;
-          terms = refl;
-          role = refl;
-          loader = sym idle.loader;
-          made = refl;
-          lineage = refl;
+          caller = record { table = refl; left = refl; terms = refl; role = refl; loader = sym idle.loader; made = refl; lineage = refl };
           receipts = refl;
           allowance = refl;
           credit = (let one = one_at_most taken in omega (arith, one));
@@ -154,15 +149,7 @@ pub loader_gives_up : (b k : CallerData) → IsIdle b.log → (why : Busy) → I
 loader_gives_up b k idle why (is, (found, (odd, e))) =
     subst (λ (y : Busy). GivesUp y b k) (sym is) (subst (λ (z : CallerData). GivesUp (busy.Taken lock.Loader) b z) (sym e) (record {
       cause = record { before = []; load = load_of b.log (lock_place lock.Loader) found; behind = []; loads = refl; shows = (refl, odd) };
-      table = refl;
-      left = refl;
-      terms = refl;
-      role = refl;
-      past = refl;
-      receipts = refl;
-      loader = refl;
-      made = refl;
-      lineage = refl;
+      calls = calls_so b refl refl;
       allowance = refl;
       credit = omega arith;
       nothing = (idle.held, idle.out);
@@ -173,17 +160,17 @@ module _ (w : WriterData) (is : IsWriter w) (some : 0 < w.me.left) (why : Busy) 
   stopped = record { words = w.words; me = k; stuck = stuck }
 
   stops : WriterStops why w stopped
-  stops = record { cause = g.cause; past = g.past; own = ap (λ (r : Receipts). r.own) g.receipts; left = (let l = g.left in omega (arith, l, some)); words = refl; stopped = ends }
+  stops = record { cause = g.cause; past = g.calls.past; own = ap (λ (r : Receipts). r.own) g.calls.receipts; left = (let l = g.calls.caller.left in omega (arith, l, some)); words = refl; stopped = ends }
 
   stopped_writer : IsWriter stopped
   stopped_writer = record {
-    home = g.table ∙ is.home;
-    terms = g.terms ∙ is.terms;
+    home = g.calls.caller.table ∙ is.home;
+    terms = g.calls.caller.terms ∙ is.terms;
     empty = is.empty;
-    alone = subst IsAlone (sym g.lineage) is.alone;
-    sole = (let same = ap length g.past in let kept = g.allowance in let sole = is.sole in omega (arith, same, kept, sole));
-    lawful = subst (IsHistory (start w.words.terms)) (sym g.past) is.lawful;
-    spans = subst (All AddsSpan) (sym g.past) is.spans;
+    alone = subst IsAlone (sym g.calls.caller.lineage) is.alone;
+    sole = (let same = ap length g.calls.past in let kept = g.allowance in let sole = is.sole in omega (arith, same, kept, sole));
+    lawful = subst (IsHistory (start w.words.terms)) (sym g.calls.past) is.lawful;
+    spans = subst (All AddsSpan) (sym g.calls.past) is.spans;
     idle = λ free. absurd (true≢false (sym ends ∙ free));
   }
 

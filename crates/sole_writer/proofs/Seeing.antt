@@ -72,7 +72,7 @@ module _ (w : WriterData) (is : IsWriter w) (idle : IsIdle w.me.log) (some : 0 <
   grows = t.past ∙ ap (λ (past : List Update). past ++ made r) seen_before
 
   lawful : IsHistory t0 k.log.past
-  lawful = subst (λ (x : Terms). IsHistory (start x) k.log.past) (t.call.terms ∙ is.terms) (whole (subst IsAlone (sym t.call.lineage) is.alone)).lawful
+  lawful = subst (λ (x : Terms). IsHistory (start x) k.log.past) (t.call.caller.terms ∙ is.terms) (whole (subst IsAlone (sym t.call.caller.lineage) is.alone)).lawful
 
   changes : (o : Option Update) → k.log.past ≡ old ++ option_to_list o → MatchOption o ((moment r ≡ length old) × (plain_registry now ≡ plain_registry w)) (λ u. Fits u (state_after t0 old) × (moment r ≡ length old + 1) × (plain_registry now ≡ record { state = after u (state_after t0 old); updates = length old + 1 }))
   changes None e = let same = e ∙ append-nil old in (t.number_is ∙ ap length same, ap (plain_registry_after w.words.terms) same)
@@ -84,18 +84,18 @@ module _ (w : WriterData) (is : IsWriter w) (idle : IsIdle w.me.log) (some : 0 <
   step = record { right = subst (λ (past : List Update). IsRight (state_after t0 past) r) seen_before t.right; changes = changes (accepted r) grows }
 
   pub answered : stuck ≡ false → WriterAnswers r w now
-  answered free = record { step = step; past = grows; own = ap (λ (x : Receipts). x.own) t.call.receipts; left = (let l = t.call.left in omega (arith, l, some)); words = refl; free = free }
+  answered free = record { step = step; past = grows; own = ap (λ (x : Receipts). x.own) t.call.receipts; left = (let l = t.call.caller.left in omega (arith, l, some)); words = refl; free = free }
 
   pub still_writer : IsWriter now
   still_writer = record {
-    home = t.call.table ∙ is.home;
-    terms = t.call.terms ∙ is.terms;
+    home = t.call.caller.table ∙ is.home;
+    terms = t.call.caller.terms ∙ is.terms;
     empty = is.empty;
-    alone = subst IsAlone (sym t.call.lineage) is.alone;
+    alone = subst IsAlone (sym t.call.caller.lineage) is.alone;
     sole = (let few = made_few r in let n = length-append old (made r) in let m = ap length grows in let sole = is.sole in let less = t.call.allowance in omega (arith, few, n, m, may, sole, less));
     lawful = lawful;
     spans = subst (All AddsSpan) (sym grows) (All-append AddsSpan old (made r) is.spans t.spans);
-    idle = λ _. record { held = t.call.nothing.0; out = t.call.nothing.1; loader = t.call.loader ∙ idle.loader };
+    idle = λ _. record { held = t.call.nothing.0; out = t.call.nothing.1; loader = t.call.caller.loader ∙ idle.loader };
   }
 
 -- ---- what holds of its state

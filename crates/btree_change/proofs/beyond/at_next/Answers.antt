@@ -18,13 +18,13 @@ pub let_go_far-requires-clause-surplus : goal.let_go_far-requires-clause-surplus
 let_go_far-requires-clause-surplus g c = refused_surplus c.args.words.now.terms c.args.member.now c.args.next c.args.me.now c.requires.at c.in-Some.answer c.refused_far.new.me c.in-Some.ensures.refused c.requires.surplus
 
 pub put_far-requires-clause-table : goal.put_far-requires-clause-table
-put_far-requires-clause-table g c = c.in-None.ensures.same.table ∙ c.requires.table
+put_far-requires-clause-table g c = c.in-None.ensures.same.calls.caller.table ∙ c.requires.table
 
 pub put_far-requires-clause-terms : goal.put_far-requires-clause-terms
-put_far-requires-clause-terms g c = c.in-None.ensures.same.terms ∙ c.requires.terms
+put_far-requires-clause-terms g c = c.in-None.ensures.same.calls.caller.terms ∙ c.requires.terms
 
 pub put_far-requires-clause-loader : goal.put_far-requires-clause-loader
-put_far-requires-clause-loader g c = c.in-None.ensures.same.loader ∙ c.requires.loader
+put_far-requires-clause-loader g c = c.in-None.ensures.same.calls.caller.loader ∙ c.requires.loader
 
 pub put_far-requires-clause-ready : goal.put_far-requires-clause-ready
 put_far-requires-clause-ready g c =

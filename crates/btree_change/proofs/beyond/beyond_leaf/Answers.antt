@@ -16,7 +16,7 @@ at_next-requires-clause-at g c =
     at_next_so c.args.words.now.terms c.args.member.now c.args.far c.args.me.now c.requires.stands c.requires.level c.in-Ok.right c.next_leaf.new.me n.0 n.1 n.2 n.3 l.0 l.1 c.in-Ok.ensures.same c.requires.free
 
 pub at_next-requires-clause-loader : goal.at_next-requires-clause-loader
-at_next-requires-clause-loader g c = c.in-Ok.ensures.same.loader ∙ c.requires.stands.loader
+at_next-requires-clause-loader g c = c.in-Ok.ensures.same.calls.caller.loader ∙ c.requires.stands.loader
 
 pub let_go_of_all-requires-clause-path : goal.let_go_of_all-requires-clause-path
 let_go_of_all-requires-clause-path g c =
@@ -33,7 +33,7 @@ returns-in-Ok-clause-answer g c = ends_after c.args.words.now.terms c.args.membe
 pub returns-in-Ok-clause-full : goal.returns-in-Ok-clause-full
 returns-in-Ok-clause-full g c =
     let same = c.in-Ok.ensures.same in
-    if_full c.at_next.result (λ h. cause_after c.args.far.room c.args.member.now.span.first c.args.me.now c.next_leaf.new.me c.at_next.new.me (ap (λ r. r.own) same.receipts) same.loads h) c.at_next.ensures.full
+    if_full c.at_next.result (λ h. cause_after c.args.far.room c.args.member.now.span.first c.args.me.now c.next_leaf.new.me c.at_next.new.me (ap (λ r. r.own) same.calls.receipts) same.loads h) c.at_next.ensures.full
 
 pub returns-in-Err-clause-busy : goal.returns-in-Err-clause-busy
 returns-in-Err-clause-busy g c = (gives_up c.args.words.now.terms c.args.member.now c.args.far c.args.me.now c.requires.stands c.requires.level c.in-Err.busy c.next_leaf.new.me c.in-Err.ensures.busy.0 c.in-Err.ensures.same c.let_go_of_all.new.me c.let_go_of_all.ensures, c.in-Err.ensures.busy.1)

@@ -10,7 +10,7 @@ pub let_go_of_path-requires-clause-table : goal.let_go_of_path-requires-clause-t
 let_go_of_path-requires-clause-table g c =
     let t = c.args.words.now.terms in let m = c.args.member.now in let far = c.args.far in let k = c.args.me.now in let ready = c.requires.ready in let k1 = c.raise_fence.new.me in
     let moves = moves_so t m far k ready k1 c.last.result c.last.ensures.value c.raise_fence.ensures.moves in let told = c.raise_fence.ensures.loads in
-    moves.table ∙ c.requires.table
+    moves.calls.caller.table ∙ c.requires.table
 
 pub let_go_of_path-requires-clause-path : goal.let_go_of_path-requires-clause-path
 let_go_of_path-requires-clause-path g c =

@@ -7,7 +7,7 @@ use Rattle.btree_change.proofs.Preceding.{refused_after, still_no_room}
 use Rattle.btree_change.proofs.beyond.refused_far.Goals as goal
 
 pub full_next-requires-clause-table : goal.full_next-requires-clause-table
-full_next-requires-clause-table c = c.in-None.ensures.same.table ∙ c.requires.table
+full_next-requires-clause-table c = c.in-None.ensures.same.calls.caller.table ∙ c.requires.table
 
 pub full_next-requires-clause-leaves : goal.full_next-requires-clause-leaves
 full_next-requires-clause-leaves c = (

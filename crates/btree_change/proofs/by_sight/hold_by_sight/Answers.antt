@@ -1,8 +1,8 @@
 use Rattle.std.proofs.Common.{◌∙◌, ap}
 use Rattle.word_rule.specs.CallerData.{CallerData}
 use Rattle.btree_change.proofs.BySights.{nothing_still}
-use Rattle.btree_change.proofs.Descending.{steps_then}
 use Rattle.btree_change.proofs.Descents.{steps_of_version}
+use Rattle.btree_change.proofs.NodeSteps.{steps_then}
 use Rattle.btree_change.proofs.by_sight.hold_by_sight.Goals as goal
 
 pub loop-init : goal.loop-init
@@ -13,10 +13,10 @@ loop-init g c =
     }
 
 pub try_once-requires-clause-table : goal.try_once-requires-clause-table
-try_once-requires-clause-table g c = c.loop.invariant.same.table ∙ c.requires.table
+try_once-requires-clause-table g c = c.loop.invariant.same.calls.caller.table ∙ c.requires.table
 
 pub try_once-requires-clause-terms : goal.try_once-requires-clause-terms
-try_once-requires-clause-terms g c = c.loop.invariant.same.terms ∙ c.load_version.ensures.tells.0
+try_once-requires-clause-terms g c = c.loop.invariant.same.calls.caller.terms ∙ c.load_version.ensures.tells.0
 
 pub returns-in-Holds-clause-same : goal.returns-in-Holds-clause-same
 returns-in-Holds-clause-same g c = steps_then c.args.me.now c.loop.me c.try_once.new.me c.loop.invariant.same c.try_once.ensures.same

@@ -1,14 +1,14 @@
 use Rattle.std.proofs.Common.{◌∙◌, IfSome, subst}
 use Rattle.btree_change.specs.BySight.{IsSeenFor}
 use Rattle.btree_change.proofs.BySights.{nothing_still}
-use Rattle.btree_change.proofs.Descending.{steps_then}
+use Rattle.btree_change.proofs.NodeSteps.{steps_then}
 use Rattle.btree_change.proofs.by_sight.try_once.Goals as goal
 
 pub hold_seen-requires-clause-table : goal.hold_seen-requires-clause-table
-hold_seen-requires-clause-table g c = c.seek.ensures.sees.0.table ∙ c.requires.table
+hold_seen-requires-clause-table g c = c.seek.ensures.sees.0.calls.caller.table ∙ c.requires.table
 
 pub hold_seen-requires-clause-terms : goal.hold_seen-requires-clause-terms
-hold_seen-requires-clause-terms g c = c.seek.ensures.sees.0.terms ∙ c.requires.terms
+hold_seen-requires-clause-terms g c = c.seek.ensures.sees.0.calls.caller.terms ∙ c.requires.terms
 
 pub hold_seen-requires-clause-nothing : goal.hold_seen-requires-clause-nothing
 hold_seen-requires-clause-nothing g c = nothing_still c.args.me.now c.seek.new.me c.seek.ensures.sees.1 c.requires.nothing

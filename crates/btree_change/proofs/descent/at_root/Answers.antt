@@ -1,8 +1,9 @@
 use Rattle.std.proofs.Common.{ap, ◌∙◌, arith}
 use Rattle.word_rule.specs.CallerData.{CallerData}
-use Rattle.btree_change.proofs.Descending.{steps_of_take, steps_then}
+use Rattle.btree_change.proofs.Descending.{steps_of_take}
 use Rattle.btree_change.proofs.Descents.{at_the_root, may_read_root, steps_of_load, steps_of_version}
 use Rattle.btree_change.proofs.Outlining.{steps_of_loads}
+use Rattle.btree_change.proofs.NodeSteps.{steps_then}
 use Rattle.btree_change.proofs.descent.at_root.Goals as goal
 
 pub outline_of-content-requires-clause-held : goal.outline_of-content-requires-clause-held

@@ -1,7 +1,8 @@
 use Rattle.std.proofs.Common.{◌≡◌, sym, subst}
 use Rattle.btree_change.specs.Spines.{HoldsFresh}
-use Rattle.btree_change.proofs.Descending.{steps_of_read, steps_then}
+use Rattle.btree_change.proofs.Descending.{steps_of_read}
 use Rattle.btree_change.proofs.NextLeaves.{after_inside, fresh_next, left_next, may_read_next, top_above}
+use Rattle.btree_change.proofs.NodeSteps.{steps_then}
 use Rattle.btree_change.proofs.fence.let_go_of_next.Goals as goal
 
 pub read_held-content-requires-clause-inside : goal.read_held-content-requires-clause-inside

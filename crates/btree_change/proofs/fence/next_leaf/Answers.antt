@@ -5,10 +5,11 @@ use Rattle.word_rule.specs.Sights.{after_node_load}
 use Rattle.node_store.specs.Holding.{ReadsHeld}
 use Rattle.btree_change.specs.Paths.{StepsOnNodes}
 use Rattle.btree_change.specs.Spines.{LocksSpine, NamesChild}
-use Rattle.btree_change.proofs.Descending.{steps_of_read, steps_then}
+use Rattle.btree_change.proofs.Descending.{steps_of_read}
 use Rattle.btree_change.proofs.Descents.{steps_of_load}
 use Rattle.btree_change.proofs.Loading.{found_after}
 use Rattle.btree_change.proofs.NextLeaves.{holds_next, holds_pair, level_some, may_read_way, names_read, slot_inside}
+use Rattle.btree_change.proofs.NodeSteps.{steps_then}
 use Rattle.btree_change.proofs.fence.next_leaf.Goals as goal
 
 steps2 : (x found : ℕ) (shape : NodeData) (k k1 k2 : CallerData) → k1 ≡ record k { log = after_node_load x 2 found k.log } → ReadsHeld x k1 k2 shape → StepsOnNodes k k2
@@ -30,7 +31,7 @@ pub level_below-level-requires : goal.level_below-level-requires
 level_below-level-requires g c = level_some c.args.words.now.terms c.args.above.now.node c.args.above.now.slot c.args.me.now.log.holdings c.requires.way.0 c.load_node.ensures.tree c.load_node.new.me c.read_held-content.new.me (ap (λ (z : CallerData). z.log.holdings) c.load_node.ensures.log) c.read_held-content.result c.read_held-content.ensures.reads
 
 pub lock_spine-requires-clause-terms : goal.lock_spine-requires-clause-terms
-lock_spine-requires-clause-terms g c = (steps2 c.args.above.now.node c.load_node.result c.read_held-content.result c.args.me.now c.load_node.new.me c.read_held-content.new.me c.load_node.ensures.log c.read_held-content.ensures.reads).terms ∙ c.requires.terms
+lock_spine-requires-clause-terms g c = (steps2 c.args.above.now.node c.load_node.result c.read_held-content.result c.args.me.now c.load_node.new.me c.read_held-content.new.me c.load_node.ensures.log c.read_held-content.ensures.reads).calls.caller.terms ∙ c.requires.terms
 
 pub lock_spine-requires-clause-child : goal.lock_spine-requires-clause-child
 lock_spine-requires-clause-child g c = subst (λ l. NamesChild c.args.words.now.terms c.pair_after-pair.result.child l c.read_held-content.new.me.log.holdings) (sym c.level_below-level.ensures)

@@ -2,8 +2,8 @@ use Rattle.std.proofs.Common.{◌≡◌, ◌+◌, ◌*◌, true, arith}
 use Rattle.btree_change.specs.Roots.{EndsInsertion, GivesUpWhole}
 use Rattle.btree_change.proofs.AtRoot.{ends_after, gives_up_after, if_err, if_ok}
 use Rattle.btree_change.proofs.BySights.{seen_stand}
-use Rattle.btree_change.proofs.Descending.{steps_none}
 use Rattle.btree_change.proofs.Spending.{spends_same}
+use Rattle.btree_change.proofs.NodeSteps.{steps_none}
 use Rattle.btree_change.proofs.insertion.at_seen.Goals as goal
 
 pub below-requires-clause-stands : goal.below-requires-clause-stands

@@ -8,16 +8,16 @@ use Rattle.btree_change.specs.Updates.{GivesUp}
 use Rattle.btree_change.specs.Roots.{EndsInsertion, GivesUpWhole}
 use Rattle.btree_change.specs.declared.by_sight.Request.TheVariants as request
 use Rattle.btree_change.proofs.AtRoot.{if_err_both, if_ok_both, root_busy, update_answered, update_given_up}
-use Rattle.btree_change.proofs.Descending.{steps_then}
 use Rattle.btree_change.proofs.Loading.{found_after}
 use Rattle.btree_change.proofs.Spending.{due_after, spends_same, surplus_steps}
+use Rattle.btree_change.proofs.NodeSteps.{steps_then}
 use Rattle.btree_change.proofs.insertion.insert_by.Goals as goal
 
 pub at_seen-requires-clause-terms : goal.at_seen-requires-clause-terms
-at_seen-requires-clause-terms g c = c.hold_by_sight.ensures.same.terms ∙ c.hold_by_sight.ensures.terms
+at_seen-requires-clause-terms g c = c.hold_by_sight.ensures.same.calls.caller.terms ∙ c.hold_by_sight.ensures.terms
 
 pub at_seen-requires-clause-loader : goal.at_seen-requires-clause-loader
-at_seen-requires-clause-loader g c = c.hold_by_sight.ensures.same.loader ∙ c.requires.idle.loader
+at_seen-requires-clause-loader g c = c.hold_by_sight.ensures.same.calls.caller.loader ∙ c.requires.idle.loader
 
 pub at_seen-requires-clause-due : goal.at_seen-requires-clause-due
 at_seen-requires-clause-due g c =
@@ -40,7 +40,7 @@ returns-in-Some-clause-busy g c =
     if_err_both (λ e. GivesUpWhole 64 e k1 k2 × (g.L.Locking.gives_up ≡ true)) (λ e. FoundBusy e k1 k2) (λ e. GivesUp e k k2 × (g.L.Locking.gives_up ≡ true)) c.at_seen.result (λ e b cause. (update_given_up e k k1 k2 c.hold_by_sight.ensures.same cause b.0, b.1)) c.at_seen.ensures.busy c.at_seen.ensures.cause
 
 pub at_held_root-requires-clause-terms : goal.at_held_root-requires-clause-terms
-at_held_root-requires-clause-terms g c = c.in_ok-root.ensures.same.terms ∙ c.in_ok-root.ensures.terms
+at_held_root-requires-clause-terms g c = c.in_ok-root.ensures.same.calls.caller.terms ∙ c.in_ok-root.ensures.terms
 
 pub at_held_root-requires-clause-due : goal.at_held_root-requires-clause-due
 at_held_root-requires-clause-due g c =
@@ -53,7 +53,7 @@ at_held_root-requires-clause-surplus g c =
     let e = c.requires.surplus in surplus_steps 0 k k2 64 (spends_same k k2 (steps_then k k1 k2 c.hold_by_sight.ensures.same c.in_ok-root.ensures.same)) (omega (arith, e))
 
 pub at_held_root-requires-clause-loader : goal.at_held_root-requires-clause-loader
-at_held_root-requires-clause-loader g c = c.in_ok-root.ensures.same.loader ∙ (c.hold_by_sight.ensures.same.loader ∙ c.requires.idle.loader)
+at_held_root-requires-clause-loader g c = c.in_ok-root.ensures.same.calls.caller.loader ∙ (c.hold_by_sight.ensures.same.calls.caller.loader ∙ c.requires.idle.loader)
 
 pub returns-clause-answer : goal.returns-clause-answer
 returns-clause-answer g c =
@@ -77,7 +77,7 @@ at_root-requires-clause-idle g c =
     let nothing = c.in_default.ensures.nothing in record {
       held = nothing.0;
       out = nothing.1;
-      loader = c.hold_by_sight.ensures.same.loader ∙ c.requires.idle.loader;
+      loader = c.hold_by_sight.ensures.same.calls.caller.loader ∙ c.requires.idle.loader;
     }
 
 pub returns-in_err-root-clause-busy : goal.returns-in_err-root-clause-busy

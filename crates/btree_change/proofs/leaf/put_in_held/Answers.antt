@@ -1,10 +1,10 @@
 use Rattle.std.proofs.Common.{◌≡◌, ◌-◌, ◌<◌, ◌∙◌, sym, ap, subst, arith}
 use Rattle.tree_shape.specs.NodeData.{entries_of, place_for}
 use Rattle.word_rule.specs.CallerData.{CallerData, due}
-use Rattle.btree_change.proofs.Descending.{steps_then}
 use Rattle.btree_change.proofs.Putting.{may_put, put_so}
-use Rattle.btree_change.proofs.PuttingThere.{is_leaf, may_put_there, same_held, steps_there, still_leaf, still_spells, still_tree, written_there}
+use Rattle.btree_change.proofs.PuttingThere.{is_leaf, may_put_there, steps_there, still_leaf, still_spells, still_tree, written_there}
 use Rattle.node_store.proofs.Outlined.{no_loads}
+use Rattle.btree_change.proofs.NodeSteps.{steps_then}
 use Rattle.btree_change.proofs.leaf.put_in_held.Goals as goal
 
 pub put_in_place-requires-clause-table : goal.put_in_place-requires-clause-table
@@ -26,11 +26,10 @@ commit-requires-clause-due c =
     let found = c.load_node.result in let tree = c.load_node.ensures.tree in let load = c.load_node.ensures.log in let loads = (no_loads c.load_node.new.me) in
     let place : c.args.placed.now.place ≡ place_for m.span.first (entries_of at.content) = c.requires.place in
     let path = still_leaf t at k k0 k1 found c.requires.leaf c.requires.level tree load loads in
-    let kept = same_held t at k k0 k1 found c.requires.leaf c.requires.level tree load loads in
     let now_tree = still_tree t at k k0 k1 found c.requires.leaf c.requires.level tree load loads in
     let written = written_there t at k k0 k1 found c.requires.leaf c.requires.level tree load loads m c.args.placed.now.place k2 place c.put_in_place.ensures.stores c.put_in_place.ensures.spells in
     let steps = steps_then k k1 k2 (steps_there t at k k0 k1 found c.requires.leaf c.requires.level tree load loads) written.same in
-    let some : 0 < due k2 = subst (λ d. 0 < d) (sym (λ i. (steps.budget i).allowance - steps.left i)) c.requires.due in
+    let some : 0 < due k2 = subst (λ d. 0 < d) (sym (λ i. (steps.budget i).allowance - steps.calls.caller.left i)) c.requires.due in
     some
 
 pub commit-requires-clause-may : goal.commit-requires-clause-may
@@ -40,12 +39,11 @@ commit-requires-clause-may c =
     let found = c.load_node.result in let tree = c.load_node.ensures.tree in let load = c.load_node.ensures.log in let loads = (no_loads c.load_node.new.me) in
     let place : c.args.placed.now.place ≡ place_for m.span.first (entries_of at.content) = c.requires.place in
     let path = still_leaf t at k k0 k1 found c.requires.leaf c.requires.level tree load loads in
-    let kept = same_held t at k k0 k1 found c.requires.leaf c.requires.level tree load loads in
     let now_tree = still_tree t at k k0 k1 found c.requires.leaf c.requires.level tree load loads in
     let written = written_there t at k k0 k1 found c.requires.leaf c.requires.level tree load loads m c.args.placed.now.place k2 place c.put_in_place.ensures.stores c.put_in_place.ensures.spells in
     let steps = steps_then k k1 k2 (steps_there t at k k0 k1 found c.requires.leaf c.requires.level tree load loads) written.same in
-    let some : 0 < due k2 = subst (λ d. 0 < d) (sym (λ i. (steps.budget i).allowance - steps.left i)) c.requires.due in
-    may_put c.put.ensures.change (record { decided = c.exchange_decided.ensures; transfer = c.transfer.ensures.lawful; tests = c.transfer.ensures.tests }) t at.node at.content at.changed m k k1 k2 path kept now_tree c.requires.level c.requires.low c.requires.high c.requires.span c.requires.room c.requires.free written (omega (arith, some)) c.requires.payload (steps.loader ∙ c.requires.loader)
+    let some : 0 < due k2 = subst (λ d. 0 < d) (sym (λ i. (steps.budget i).allowance - steps.calls.caller.left i)) c.requires.due in
+    may_put c.put.ensures.change (record { decided = c.exchange_decided.ensures; transfer = c.transfer.ensures.lawful; tests = c.transfer.ensures.tests }) t at m k k1 k2 path now_tree c.requires.level c.requires.low c.requires.high c.requires.span c.requires.room c.requires.free written (omega (arith, some)) c.requires.payload (steps.calls.caller.loader ∙ c.requires.loader)
 
 pub returns : goal.returns
 returns c =
@@ -54,10 +52,9 @@ returns c =
     let found = c.load_node.result in let tree = c.load_node.ensures.tree in let load = c.load_node.ensures.log in let loads = (no_loads c.load_node.new.me) in
     let place : c.args.placed.now.place ≡ place_for m.span.first (entries_of at.content) = c.requires.place in
     let path = still_leaf t at k k0 k1 found c.requires.leaf c.requires.level tree load loads in
-    let kept = same_held t at k k0 k1 found c.requires.leaf c.requires.level tree load loads in
     let now_tree = still_tree t at k k0 k1 found c.requires.leaf c.requires.level tree load loads in
     let written = written_there t at k k0 k1 found c.requires.leaf c.requires.level tree load loads m c.args.placed.now.place k2 place c.put_in_place.ensures.stores c.put_in_place.ensures.spells in
     let steps = steps_then k k1 k2 (steps_there t at k k0 k1 found c.requires.leaf c.requires.level tree load loads) written.same in
-    let some : 0 < due k2 = subst (λ d. 0 < d) (sym (λ i. (steps.budget i).allowance - steps.left i)) c.requires.due in
+    let some : 0 < due k2 = subst (λ d. 0 < d) (sym (λ i. (steps.budget i).allowance - steps.calls.caller.left i)) c.requires.due in
     let log = c.commit.ensures.log in
-    put_so c.put.ensures.change (record { decided = c.exchange_decided.ensures; transfer = c.transfer.ensures.lawful; tests = c.transfer.ensures.tests }) t at.node at.content at.changed m k k1 k2 path kept now_tree c.requires.level c.requires.low c.requires.high c.requires.span c.requires.room c.requires.free written c.commit.new.me log.0 c.commit.result steps log.1 c.commit.ensures.number c.commit.ensures.rest
+    put_so c.put.ensures.change (record { decided = c.exchange_decided.ensures; transfer = c.transfer.ensures.lawful; tests = c.transfer.ensures.tests }) t at m k k1 k2 path now_tree c.requires.level c.requires.low c.requires.high c.requires.span c.requires.room c.requires.free written c.commit.new.me log.0 c.commit.result steps log.1 c.commit.ensures.number c.commit.ensures.rest

@@ -1,8 +1,8 @@
 use Rattle.std.proofs.Common.{ap, ◌∙◌}
 use Rattle.word_rule.specs.CallerData.{CallerData}
-use Rattle.btree_change.proofs.Descending.{steps_then}
 use Rattle.btree_change.proofs.Descents.{steps_of_load}
 use Rattle.btree_change.proofs.Lifting.{lift_written, may_first, may_second, may_third, root_spelled, table_then}
+use Rattle.btree_change.proofs.NodeSteps.{steps_then}
 use Rattle.btree_change.proofs.lift.write_root_parts.Goals as goal
 
 pub root_parts-parts-requires-clause-root : goal.root_parts-parts-requires-clause-root
@@ -22,7 +22,7 @@ pub write_held-requires-3-clause-table : goal.write_held-requires-3-clause-table
 write_held-requires-3-clause-table c =
     let parts = c.root_parts-parts in let first = c.write_held in let second = c.write_held-2 in
     table_then c.args.words.now.terms c.args.full.now c.args.pc c.args.me.now c.requires.held c.load_node.ensures.tree parts.result parts.ensures.parts parts.new.me first.new.me (parts.ensures.holdings ∙ ap (λ (z : CallerData). z.log.holdings) c.load_node.ensures.log) first.ensures.stores first.ensures.spells second.new.me second.ensures.stores second.ensures.spells
-    ∙ (parts.ensures.same.table ∙ (ap (λ (z : CallerData). z.table) c.load_node.ensures.log ∙ c.requires.table))
+    ∙ (parts.ensures.same.calls.caller.table ∙ (ap (λ (z : CallerData). z.table) c.load_node.ensures.log ∙ c.requires.table))
 
 pub write_held-requires-3-clause-may : goal.write_held-requires-3-clause-may
 write_held-requires-3-clause-may c =

@@ -4,7 +4,6 @@ use Rattle.tree_shape.specs.NodeData.{NodeData, IsInner, Pairs, pairs_of}
 use Rattle.word_rule.specs.CallerData.{CallerData}
 use Rattle.btree_change.specs.Paths.{StepsOnNodes}
 use Rattle.btree_change.specs.Siblings.{HoldsSiblings}
-use Rattle.btree_change.proofs.Descending.{steps_then}
 use Rattle.btree_change.proofs.Descents.{steps_of_load}
 use Rattle.btree_change.proofs.HeldOutlines.{left_spells, mended_spells, outlined_mends, right_spells, upper_spells}
 use Rattle.btree_change.proofs.Outlining.{may_read}
@@ -12,6 +11,7 @@ use Rattle.btree_change.proofs.Joining.{inside_of}
 use Rattle.btree_change.proofs.Mended.{gone_held, gone_out, gone_ready, join_lost, joins_so, lost_may, lost_surplus, surplus_kept}
 use Rattle.btree_change.proofs.mending.join.Goals as goal
 use Rattle.btree_change.proofs.Lowering.{settled_inner}
+use Rattle.btree_change.proofs.NodeSteps.{steps_then}
 
 pub content_of-left-requires-clause-spells : goal.content_of-left-requires-clause-spells
 content_of-left-requires-clause-spells g c = left_spells c.args.words.now.terms c.args.x.now c.args.me.now c.requires.held c.load_node.ensures.tree c.load_node.new.me.log (ap (λ (z : CallerData). z.log.holdings) c.load_node.ensures.log)

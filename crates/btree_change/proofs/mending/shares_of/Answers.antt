@@ -4,12 +4,12 @@ use Rattle.tree_shape.specs.NodeData.{NodeData, AreNeighbours, InOrder, IsInner,
 use Rattle.word_rule.specs.CallerData.{CallerData}
 use Rattle.btree_change.specs.Paths.{StepsOnNodes}
 use Rattle.btree_change.specs.Shares.{shares_for}
-use Rattle.btree_change.proofs.Descending.{steps_then}
 use Rattle.btree_change.proofs.Descents.{steps_of_load}
 use Rattle.btree_change.proofs.HeldOutlines.{left_spells, right_spells, upper_spells}
 use Rattle.btree_change.proofs.Joining.{inside_of}
 use Rattle.btree_change.proofs.mending.shares_of.Goals as goal
 use Rattle.btree_change.proofs.Lowering.{settled_inner, settled_order}
+use Rattle.btree_change.proofs.NodeSteps.{steps_then}
 
 pub content_of-first-requires-clause-spells : goal.content_of-first-requires-clause-spells
 content_of-first-requires-clause-spells c = left_spells c.args.words.now.terms c.args.x.now c.args.me.now c.requires.held c.load_node.ensures.tree c.load_node.new.me.log (ap (λ (z : CallerData). z.log.holdings) c.load_node.ensures.log)

@@ -5,11 +5,11 @@ use Rattle.btree_change.specs.Removing.{HoldsAlone, IsSpare}
 use Rattle.btree_change.specs.Stands.{HoldsRoot}
 use Rattle.btree_change.specs.declared.descent.Held.{Held}
 use Rattle.btree_change.proofs.AtRoot.{if_err, if_ok}
-use Rattle.btree_change.proofs.Descending.{steps_then}
 use Rattle.btree_change.proofs.Joining.{spare_of}
 use Rattle.btree_change.proofs.Loading.{found_after}
 use Rattle.btree_change.proofs.RemovalAnswers.{root_spare}
 use Rattle.btree_change.proofs.Rooted.{root_alone, root_has, root_low}
+use Rattle.btree_change.proofs.NodeSteps.{steps_then}
 use Rattle.btree_change.proofs.removal.begin.Goals as goal
 
 pub returns-in-Some-clause-ok : goal.returns-in-Some-clause-ok
@@ -21,7 +21,7 @@ at_root-requires-clause-idle g c =
     let nothing = c.in-None.ensures.nothing in record {
       held = nothing.0;
       out = nothing.1;
-      loader = c.hold_by_sight.ensures.same.loader ∙ c.requires.idle.loader;
+      loader = c.hold_by_sight.ensures.same.calls.caller.loader ∙ c.requires.idle.loader;
     }
 
 pub returns-in-None-clause-ok : goal.returns-in-None-clause-ok

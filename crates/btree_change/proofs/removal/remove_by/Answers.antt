@@ -27,10 +27,10 @@ returns-in-Some-clause-answer g c =
 
 pub take_in_leaf-number-requires-clause-loader : goal.take_in_leaf-number-requires-clause-loader
 take_in_leaf-number-requires-clause-loader g c =
-    ap (λ (z : CallerData). z.log.loader) c.in_default.ensures.found.1.1 ∙ (ap (λ (z : CallerData). z.log.loader) c.begun_in-begun.ensures.loads.1 ∙ (c.in_ok-leaf.ensures.spends.loader ∙ c.requires.idle.loader))
+    ap (λ (z : CallerData). z.log.loader) c.in_default.ensures.found.1.1 ∙ (ap (λ (z : CallerData). z.log.loader) c.begun_in-begun.ensures.loads.1 ∙ (c.in_ok-leaf.ensures.spends.calls.caller.loader ∙ c.requires.idle.loader))
 
 pub let_go_of-requires-2-clause-may : goal.let_go_of-requires-2-clause-may
-let_go_of-requires-2-clause-may g c = lock_may c.in_ok-leaf.leaf.node true c.take_in_leaf-number.new.me.log.holdings c.take_in_leaf-number.ensures.holds
+let_go_of-requires-2-clause-may g c = lock_may c.in_ok-leaf.leaf.node true c.take_in_leaf-number.new.me.log.holdings c.take_in_leaf-number.ensures.call.holds
 
 pub let_go_of-requires-2-clause-surplus : goal.let_go_of-requires-2-clause-surplus
 let_go_of-requires-2-clause-surplus g c = surplus_taken c.args.words.now.terms c.args.base c.in_ok-leaf.leaf.node c.take_in_leaf-number.result.0 c.take_in_leaf-number.result.1 c.args.me.now c.not_found.new.me c.take_in_leaf-number.new.me (read_spends c.args.me.now c.begun_in-begun.new.me c.not_found.new.me (read_spends c.args.me.now c.leaf_for.new.me c.begun_in-begun.new.me c.in_ok-leaf.ensures.spends (steps_of_loads c.leaf_for.new.me c.begun_in-begun.new.me c.begun_in-begun.ensures.loads)) (steps_of_loads c.begun_in-begun.new.me c.not_found.new.me c.in_default.ensures.found.1)) c.requires.surplus c.take_in_leaf-number.ensures
@@ -38,5 +38,5 @@ let_go_of-requires-2-clause-surplus g c = surplus_taken c.args.words.now.terms c
 pub returns-clause-answer : goal.returns-clause-answer
 returns-clause-answer g c =
     let k4 = c.take_in_leaf-number.new.me in let k5 = c.let_go_of-2.new.me in let takes = c.take_in_leaf-number.ensures in
-    let nothing : HoldsNothing k5.log.holdings = (lock_gone c.in_ok-leaf.leaf.node true k4 k5 takes.holds c.let_go_of-2.ensures, c.let_go_of-2.ensures.out ∙ takes.out) in
+    let nothing : HoldsNothing k5.log.holdings = (lock_gone c.in_ok-leaf.leaf.node true k4 k5 takes.call.holds c.let_go_of-2.ensures, c.let_go_of-2.ensures.out ∙ takes.call.out) in
     done_so c.args.words.now.terms c.args.base c.in_ok-leaf.leaf.node c.take_in_leaf-number.result.0 c.take_in_leaf-number.result.1 c.args.me.now c.not_found.new.me k4 k5 (read_spends c.args.me.now c.begun_in-begun.new.me c.not_found.new.me (read_spends c.args.me.now c.leaf_for.new.me c.begun_in-begun.new.me c.in_ok-leaf.ensures.spends (steps_of_loads c.leaf_for.new.me c.begun_in-begun.new.me c.begun_in-begun.ensures.loads)) (steps_of_loads c.begun_in-begun.new.me c.not_found.new.me c.in_default.ensures.found.1)) takes c.let_go_of-2.ensures.steps nothing

@@ -21,7 +21,7 @@ commit-requires-clause-due c =
     let written = unwritten t at (paid_leaf m at.content) k1 now_alone (paid_leaf_same m at.content leaf order c.requires.held) in
     let steps = cut_steps t at k k1 found alone load in
     let laws : LeafLaws = record { decided = c.exchange_decided.ensures; transfer = c.transfer.ensures.lawful; tests = c.transfer.ensures.tests } in
-    subst (λ d. 0 < d) (sym (λ i. (steps.budget i).allowance - steps.left i)) c.requires.due
+    subst (λ d. 0 < d) (sym (λ i. (steps.budget i).allowance - steps.calls.caller.left i)) c.requires.due
 
 pub commit-requires-clause-may : goal.commit-requires-clause-may
 commit-requires-clause-may c =
@@ -35,8 +35,8 @@ commit-requires-clause-may c =
     let written = unwritten t at (paid_leaf m at.content) k1 now_alone (paid_leaf_same m at.content leaf order c.requires.held) in
     let steps = cut_steps t at k k1 found alone load in
     let laws : LeafLaws = record { decided = c.exchange_decided.ensures; transfer = c.transfer.ensures.lawful; tests = c.transfer.ensures.tests } in
-    let some : 0 < due k1 = subst (λ d. 0 < d) (sym (λ i. (steps.budget i).allowance - steps.left i)) c.requires.due in
-    may_replace c.replace.ensures laws t at m m k k1 k1 now_alone tree leaf c.requires.level c.requires.here c.requires.held written (omega (arith, some)) (c.requires.span, c.requires.payload) (steps.loader ∙ c.requires.loader)
+    let some : 0 < due k1 = subst (λ d. 0 < d) (sym (λ i. (steps.budget i).allowance - steps.calls.caller.left i)) c.requires.due in
+    may_replace c.replace.ensures laws t at m m k k1 k1 now_alone tree leaf c.requires.level c.requires.here c.requires.held written (omega (arith, some)) (c.requires.span, c.requires.payload) (steps.calls.caller.loader ∙ c.requires.loader)
 
 pub returns : goal.returns
 returns c =

@@ -32,21 +32,21 @@ lifted-requires-clause-table g c =
     let t = c.args.words.now.terms in let m = c.args.member.now in let k = c.args.me.now in
     let root = c.args.root in let h = c.requires.root in let k1 = c.room_for_root.new.me in
     let took = subst (λ o. IsRoomForRoot g.L.Locking.gives_up root c.first.result k k1 (Ok o)) c.in-Ok-Some.field-0-is c.in-Ok-Some.ensures in
-    took.1.same.table ∙ c.requires.table
+    took.1.same.calls.caller.table ∙ c.requires.table
 
 pub lifted-requires-clause-terms : goal.lifted-requires-clause-terms
 lifted-requires-clause-terms g c =
     let t = c.args.words.now.terms in let m = c.args.member.now in let k = c.args.me.now in
     let root = c.args.root in let h = c.requires.root in let k1 = c.room_for_root.new.me in
     let took = subst (λ o. IsRoomForRoot g.L.Locking.gives_up root c.first.result k k1 (Ok o)) c.in-Ok-Some.field-0-is c.in-Ok-Some.ensures in
-    took.1.same.terms ∙ c.requires.terms
+    took.1.same.calls.caller.terms ∙ c.requires.terms
 
 pub lifted-requires-clause-loader : goal.lifted-requires-clause-loader
 lifted-requires-clause-loader g c =
     let t = c.args.words.now.terms in let m = c.args.member.now in let k = c.args.me.now in
     let root = c.args.root in let h = c.requires.root in let k1 = c.room_for_root.new.me in
     let took = subst (λ o. IsRoomForRoot g.L.Locking.gives_up root c.first.result k k1 (Ok o)) c.in-Ok-Some.field-0-is c.in-Ok-Some.ensures in
-    took.1.same.loader ∙ c.requires.loader
+    took.1.same.calls.caller.loader ∙ c.requires.loader
 
 pub lifted-requires-clause-high : goal.lifted-requires-clause-high
 lifted-requires-clause-high g c =
@@ -74,21 +74,21 @@ below-requires-clause-table g c =
     let t = c.args.words.now.terms in let m = c.args.member.now in let k = c.args.me.now in
     let root = c.args.root in let h = c.requires.root in let k1 = c.room_for_root.new.me in
     let none = subst (λ o. IsRoomForRoot g.L.Locking.gives_up root c.first.result k k1 (Ok o)) c.in-Ok-None.field-0-is c.in-Ok-None.ensures in let spent = kept_steps k k1 none.0 in
-    spent.table ∙ c.requires.table
+    spent.calls.caller.table ∙ c.requires.table
 
 pub below-requires-clause-terms : goal.below-requires-clause-terms
 below-requires-clause-terms g c =
     let t = c.args.words.now.terms in let m = c.args.member.now in let k = c.args.me.now in
     let root = c.args.root in let h = c.requires.root in let k1 = c.room_for_root.new.me in
     let none = subst (λ o. IsRoomForRoot g.L.Locking.gives_up root c.first.result k k1 (Ok o)) c.in-Ok-None.field-0-is c.in-Ok-None.ensures in let spent = kept_steps k k1 none.0 in
-    spent.terms ∙ c.requires.terms
+    spent.calls.caller.terms ∙ c.requires.terms
 
 pub below-requires-clause-stands : goal.below-requires-clause-stands
 below-requires-clause-stands g c =
     let t = c.args.words.now.terms in let m = c.args.member.now in let k = c.args.me.now in
     let root = c.args.root in let h = c.requires.root in let k1 = c.room_for_root.new.me in
     let none = subst (λ o. IsRoomForRoot g.L.Locking.gives_up root c.first.result k k1 (Ok o)) c.in-Ok-None.field-0-is c.in-Ok-None.ensures in let spent = kept_steps k k1 none.0 in
-    root_stand t root room.NoneFree m k1.log (root_kept t root k.log.holdings k1.log.holdings none.0.held none.2 h) c.requires.span (spent.loader ∙ c.requires.loader) (subst (λ xs. HadNoRoom m.span.first (length xs) k1.log.trace.loads) (sym (own_same 1 k k1 spent)) (no_room_now m.span.first k k1 (subst (λ p. FoundNoRoom p k k1) c.first.ensures.value none.1)))
+    root_stand t root room.NoneFree m k1.log (root_kept t root k.log.holdings k1.log.holdings none.0.held none.2 h) c.requires.span (spent.calls.caller.loader ∙ c.requires.loader) (subst (λ xs. HadNoRoom m.span.first (length xs) k1.log.trace.loads) (sym (own_same 1 k k1 spent)) (no_room_now m.span.first k k1 (subst (λ p. FoundNoRoom p k k1) c.first.ensures.value none.1)))
 
 pub below-requires-clause-due : goal.below-requires-clause-due
 below-requires-clause-due g c =
@@ -114,7 +114,7 @@ pub let_go_of-requires-clause-table : goal.let_go_of-requires-clause-table
 let_go_of-requires-clause-table g c =
     let t = c.args.words.now.terms in let m = c.args.member.now in let k = c.args.me.now in
     let root = c.args.root in let h = c.requires.root in let k1 = c.room_for_root.new.me in
-    (kept_steps k k1 c.in-Err.ensures.0).table ∙ c.requires.table
+    (kept_steps k k1 c.in-Err.ensures.0).calls.caller.table ∙ c.requires.table
 
 pub let_go_of-requires-clause-may : goal.let_go_of-requires-clause-may
 let_go_of-requires-clause-may g c =
@@ -185,7 +185,7 @@ pub returns-in-Ok-Some-clause-full : goal.returns-in-Ok-Some-clause-full
 returns-in-Ok-Some-clause-full g c =
     let first = c.args.member.now.span.first in let k = c.args.me.now in let k1 = c.room_for_root.new.me in let n = c.lifted.new.me in
     let took = subst (λ o. IsRoomForRoot g.L.Locking.gives_up c.args.root c.first.result k k1 (Ok o)) c.in-Ok-Some.field-0-is c.in-Ok-Some.ensures in
-    if_ok (λ answer. IfFull answer (FoundNoRoom first k1 n)) (λ answer. IfFull answer (FoundNoRoom first k n)) c.lifted.result (λ answer. if_full answer (no_room_after first k k1 n (ap (λ r. r.own) took.1.same.receipts) took.1.same.loads)) c.lifted.ensures.full
+    if_ok (λ answer. IfFull answer (FoundNoRoom first k1 n)) (λ answer. IfFull answer (FoundNoRoom first k n)) c.lifted.result (λ answer. if_full answer (no_room_after first k k1 n (ap (λ r. r.own) took.1.same.calls.receipts) took.1.same.loads)) c.lifted.ensures.full
 
 pub returns-in-Ok-None-clause-full : goal.returns-in-Ok-None-clause-full
 returns-in-Ok-None-clause-full g c =

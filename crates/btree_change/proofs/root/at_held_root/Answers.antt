@@ -3,9 +3,9 @@ use Rattle.std.proofs.Common.{◌≡◌, true}
 use Rattle.btree_change.specs.declared.stand.Room.TheVariants as room
 use Rattle.btree_change.specs.Roots.{EndsInsertion, GivesUpWhole}
 use Rattle.btree_change.proofs.AtRoot.{ends_after, gives_up_after, if_err, if_ok, root_filled, root_stand}
-use Rattle.btree_change.proofs.Descending.{steps_none}
 use Rattle.btree_change.proofs.Rooted.{root_low}
 use Rattle.btree_change.proofs.Spending.{spends_same}
+use Rattle.btree_change.proofs.NodeSteps.{steps_none}
 use Rattle.btree_change.proofs.root.at_held_root.Goals as goal
 
 pub is_full-requires-clause-filled : goal.is_full-requires-clause-filled

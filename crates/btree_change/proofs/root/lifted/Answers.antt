@@ -45,7 +45,7 @@ pub stand_below-stand-requires-clause-loader : goal.stand_below-stand-requires-c
 stand_below-stand-requires-clause-loader g c =
     let t = c.args.words.now.terms in let m = c.args.member.now in let k = c.args.me.now in
     let full = c.args.full in let split = c.lift-split.result in let k1 = c.lift-split.new.me in let lifts = subst (λ p. LiftsRoot t full p split k k1) c.first.ensures.value c.lift-split.ensures in
-    (lifted_steps t m full k c.requires.held c.requires.high c.requires.span split k1 lifts).loader ∙ c.requires.loader
+    (lifted_steps t m full k c.requires.held c.requires.high c.requires.span split k1 lifts).calls.caller.loader ∙ c.requires.loader
 
 pub stand_below-stand-requires-clause-surplus : goal.stand_below-stand-requires-clause-surplus
 stand_below-stand-requires-clause-surplus g c =
@@ -60,7 +60,7 @@ below-requires-clause-table g c =
     let k2 = c.stand_below-stand.new.me in let stand = c.stand_below-stand.result in let few = c.stand_below-stand.ensures.fewer in
     let low = subst (λ (h : Held). h.content.level ≤ 11) (sym c.stand_below-stand.ensures.at) (lifted_level t m full k c.requires.held c.requires.high c.requires.span split k1 lifts) in
     let steps = steps_after 1 (1 - length (kept_above stand.beyond)) (2 - length (kept_above stand.beyond)) k k1 k2 (omega (arith, few)) (lifted_steps t m full k c.requires.held c.requires.high c.requires.span split k1 lifts) c.stand_below-stand.ensures.spends in
-    steps.table ∙ c.requires.table
+    steps.calls.caller.table ∙ c.requires.table
 
 pub below-requires-clause-terms : goal.below-requires-clause-terms
 below-requires-clause-terms g c =
@@ -69,7 +69,7 @@ below-requires-clause-terms g c =
     let k2 = c.stand_below-stand.new.me in let stand = c.stand_below-stand.result in let few = c.stand_below-stand.ensures.fewer in
     let low = subst (λ (h : Held). h.content.level ≤ 11) (sym c.stand_below-stand.ensures.at) (lifted_level t m full k c.requires.held c.requires.high c.requires.span split k1 lifts) in
     let steps = steps_after 1 (1 - length (kept_above stand.beyond)) (2 - length (kept_above stand.beyond)) k k1 k2 (omega (arith, few)) (lifted_steps t m full k c.requires.held c.requires.high c.requires.span split k1 lifts) c.stand_below-stand.ensures.spends in
-    steps.terms ∙ c.requires.terms
+    steps.calls.caller.terms ∙ c.requires.terms
 
 pub below-requires-clause-due : goal.below-requires-clause-due
 below-requires-clause-due g c =

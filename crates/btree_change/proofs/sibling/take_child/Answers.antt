@@ -1,7 +1,6 @@
 use Rattle.std.proofs.Common.{◌<◌, ◌∙◌, sym, ap, subst, refl, arith}
 use Rattle.word_rule.specs.CallerData.{CallerData, surplus}
 use Rattle.btree_change.specs.Removing.{HoldsAlone, HoldsLock}
-use Rattle.btree_change.proofs.Descending.{steps_then}
 use Rattle.btree_change.proofs.HeldOutlines.{alone_spells}
 use Rattle.btree_change.proofs.Outlining.{spells_later, steps_of_loads}
 use Rattle.btree_change.proofs.Loading.{found_between, found_busy}
@@ -11,6 +10,7 @@ use Rattle.btree_change.proofs.Spending.{more_spent, spends_same, steps_after}
 use Rattle.word_rule.specs.declared.log.LockId.TheVariants as lock
 use Rattle.btree_change.proofs.sibling.take_child.Goals as goal
 use Rattle.btree_change.proofs.Lowering.{settled_order}
+use Rattle.btree_change.proofs.NodeSteps.{steps_then}
 
 pub slot_of-slot-requires-clause-spells : goal.slot_of-slot-requires-clause-spells
 slot_of-slot-requires-clause-spells g c = alone_spells c.args.words.now.terms c.args.above c.args.me.now.log c.requires.alone

@@ -3,7 +3,6 @@ use Rattle.tree_shape.specs.Changes.{pair}
 use Rattle.tree_shape.specs.NodeData.{pairs_of}
 use Rattle.word_rule.specs.CallerData.{CallerData, surplus}
 use Rattle.btree_change.specs.Siblings.{HoldsChild}
-use Rattle.btree_change.proofs.Descending.{steps_then}
 use Rattle.btree_change.proofs.Descents.{steps_of_load}
 use Rattle.btree_change.proofs.HeldOutlines.{parent_spells}
 use Rattle.btree_change.proofs.Outlining.{steps_of_loads}
@@ -14,6 +13,7 @@ use Rattle.btree_change.proofs.Spending.{more_spent, spends_same, steps_after}
 use Rattle.word_rule.specs.declared.log.LockId.TheVariants as lock
 use Rattle.btree_change.proofs.sibling.take_sibling.Goals as goal
 use Rattle.btree_change.proofs.Lowering.{settled_inner}
+use Rattle.btree_change.proofs.NodeSteps.{steps_then}
 
 pub slot_of_two-first-requires-clause-inner : goal.slot_of_two-first-requires-clause-inner
 slot_of_two-first-requires-clause-inner g c = settled_inner c.args.words.now.terms c.args.child.above.node c.args.child.above.content c.args.child.above.changed c.requires.held.upper c.requires.held.parent (let level = c.requires.held.level in omega (arith, level))

@@ -1,6 +1,7 @@
 use Rattle.std.proofs.Common.{arith, ◌∙◌}
-use Rattle.btree_change.proofs.Descending.{steps_of_letting_go, steps_of_read, steps_then}
+use Rattle.btree_change.proofs.Descending.{steps_of_letting_go, steps_of_read}
 use Rattle.btree_change.proofs.FreshSpines.{leaf_within, leaf_clean, leaf_let_go_of, top_within, may_read_top, top_pairs, fresh_below, top_clean, top_let_go_of}
+use Rattle.btree_change.proofs.NodeSteps.{steps_then}
 use Rattle.btree_change.proofs.spines.+let_go_of_spine.Goals as goal
 
 pub let_go_same-requires-clause-lock : goal.let_go_same-requires-clause-lock
@@ -30,7 +31,7 @@ let_go_of_spine-requires g t c κs within = (
   (
     within,
     (
-      (steps_of_read c.args.node c.args.me.now c.read_held-content.new.me c.read_held-content.result c.read_held-content.ensures.reads).table ∙ c.requires.table,
+      (steps_of_read c.args.node c.args.me.now c.read_held-content.new.me c.read_held-content.result c.read_held-content.ensures.reads).calls.caller.table ∙ c.requires.table,
       fresh_below c.args.words.now.terms c.args.node c.args.level c.args.me.now c.requires.spine c.if-level-eq0.false c.read_held-content.new.me c.read_held-content.result c.read_held-content.ensures.reads c.read_held-content.ensures.holdings c.child_at_start-child.result c.child_at_start-child.ensures,
     ),
   ),

@@ -11,7 +11,7 @@ use Rattle.node_store.specs.Holding.{ReadsHeld}
 use Rattle.node_store.specs.Locking.{Locks}
 use Rattle.btree_change.specs.Paths.{StepsOnNodes}
 use Rattle.btree_change.specs.Spines.{LocksSpine, NamesChild}
-use Rattle.btree_change.proofs.Descending.{steps_of_letting_go, steps_of_read, steps_of_take, steps_then}
+use Rattle.btree_change.proofs.Descending.{steps_of_letting_go, steps_of_read, steps_of_take}
 use Rattle.btree_change.proofs.Descents.{steps_of_load}
 use Rattle.btree_change.proofs.Loading.{found_between, keeps_none}
 use Rattle.btree_change.proofs.LockedSpines.{IsLocked, Relocked, locked_so, relocked, read_locked, names_first, locks_leaf, locks_more, let_go_again, clean_again}
@@ -19,6 +19,7 @@ use Rattle.word_rule.specs.Held.{held_of}
 use Rattle.btree_change.proofs.Outlining.{spells_same, steps_of_loads}
 use Rattle.btree_change.proofs.spines.+lock_spine.Goals as goal
 use Rattle.btree_change.proofs.HeldLists.{found_head}
+use Rattle.btree_change.proofs.NodeSteps.{steps_then}
 
 -- the node was locked, read, and a word of it loaded
 module _ (t : Terms) (n level found : ℕ) (shape : NodeData) (k k1 k2 k3 : CallerData) (terms : k.log.terms ≡ t) (names : NamesChild t n level k.log.holdings) (locks : Locks (lock.Node n) k k1) (reads : ReadsHeld n k1 k2 shape) (same : k2.log.holdings ≡ k1.log.holdings) (loads : k3 ≡ record k2 { log = after_node_load n 2 found k2.log }) where
@@ -77,9 +78,9 @@ lock_spine-requires g t c κs within =
       (
         within,
         (
-          steps.table ∙ c.requires.table,
+          steps.calls.caller.table ∙ c.requires.table,
           (
-            steps.terms ∙ c.requires.terms,
+            steps.calls.caller.terms ∙ c.requires.terms,
             names_child c.args.words.now.terms c.args.node c.args.level c.load_node.result c.read_held-content.result c.args.me.now c.take_node.new.me c.read_held-content.new.me c.load_node.new.me c.requires.terms c.requires.child c.in_ok-take_node.ensures.ok c.read_held-content.ensures.reads c.read_held-content.ensures.holdings c.load_node.ensures.log c.load_node.ensures.tree c.if-level-eq0.false c.child_at_start-child.result c.child_at_start-child.ensures,
           ),
         ),

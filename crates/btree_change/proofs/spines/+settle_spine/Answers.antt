@@ -34,7 +34,7 @@ settle_spine-requires g t c κs within = (
   (
     within,
     (
-      (steps_of_read c.args.node c.args.me.now c.read_held-content.new.me c.read_held-content.result c.read_held-content.ensures.reads).table ∙ c.requires.table,
+      (steps_of_read c.args.node c.args.me.now c.read_held-content.new.me c.read_held-content.result c.read_held-content.ensures.reads).calls.caller.table ∙ c.requires.table,
       (pending_below c.args.words.now.terms c.args.node c.args.level c.args.me.now c.requires.spine c.if-level-eq0.false c.read_held-content.new.me c.read_held-content.result c.read_held-content.ensures.reads c.read_held-content.ensures.holdings c.child_at_start-child.result c.child_at_start-child.ensures, surplus_below c.args.words.now.terms c.args.node c.args.level c.args.me.now c.requires.spine c.if-level-eq0.false c.read_held-content.new.me c.read_held-content.result c.read_held-content.ensures.reads c.read_held-content.ensures.holdings c.requires.surplus),
     ),
   ),

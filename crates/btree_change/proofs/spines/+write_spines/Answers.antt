@@ -3,8 +3,9 @@ use Rattle.tree_shape.specs.NodeData.{NodeData}
 use Rattle.word_rule.specs.CallerData.{CallerData}
 use Rattle.node_store.specs.Holding.{ReadsHeld}
 use Rattle.btree_change.specs.Paths.{StepsOnNodes}
-use Rattle.btree_change.proofs.Descending.{steps_of_read, steps_then}
+use Rattle.btree_change.proofs.Descending.{steps_of_read}
 use Rattle.btree_change.proofs.WrittenSpines.{fence_inside, left_pairs, may_read_l, may_read_r, may_store_l, may_store_r, right_pairs, spines_below, steps_l, steps_r, within_l, within_r, wrote_leaves, wrote_more}
+use Rattle.btree_change.proofs.NodeSteps.{steps_then}
 use Rattle.btree_change.proofs.spines.+write_spines.Goals as goal
 
 steps4 : (l r : ℕ) (left right : NodeData) (k k1 k2 k3 k4 : CallerData) → ReadsHeld l k k1 left → ReadsHeld r k1 k2 right → StepsOnNodes k2 k3 → StepsOnNodes k3 k4 → StepsOnNodes k k4
@@ -38,7 +39,7 @@ pub write_held-requires-2-clause-may : goal.write_held-requires-2-clause-may
 write_held-requires-2-clause-may t c = may_store_r c.args.words.now.terms c.args.tops.left c.args.tops.right c.args.level c.args.fence c.args.me.now c.requires.spines c.read_held-left.new.me c.read_held-right.new.me c.read_held-left.result c.read_held-right.result c.read_held-left.ensures.reads c.read_held-left.ensures.holdings c.read_held-right.ensures.reads c.read_held-right.ensures.holdings c.write_held.new.me c.move_fence-moved.result.0 (c.move_fence-moved.ensures.left ∙ refl) c.write_held.ensures.stores c.write_held.ensures.spells
 
 pub write_held-requires-2-clause-table : goal.write_held-requires-2-clause-table
-write_held-requires-2-clause-table t c = (steps_then c.args.me.now c.read_held-right.new.me c.write_held.new.me (steps_then c.args.me.now c.read_held-left.new.me c.read_held-right.new.me (steps_of_read c.args.tops.left c.args.me.now c.read_held-left.new.me c.read_held-left.result c.read_held-left.ensures.reads) (steps_of_read c.args.tops.right c.read_held-left.new.me c.read_held-right.new.me c.read_held-right.result c.read_held-right.ensures.reads)) (steps_l c.args.words.now.terms c.args.tops.left c.args.tops.right c.args.level c.args.fence c.args.me.now c.requires.spines c.read_held-left.new.me c.read_held-right.new.me c.read_held-left.result c.read_held-right.result c.read_held-left.ensures.reads c.read_held-left.ensures.holdings c.read_held-right.ensures.reads c.read_held-right.ensures.holdings c.write_held.new.me c.move_fence-moved.result.0 (c.move_fence-moved.ensures.left ∙ refl) c.write_held.ensures.stores c.write_held.ensures.spells)).table ∙ c.requires.table
+write_held-requires-2-clause-table t c = (steps_then c.args.me.now c.read_held-right.new.me c.write_held.new.me (steps_then c.args.me.now c.read_held-left.new.me c.read_held-right.new.me (steps_of_read c.args.tops.left c.args.me.now c.read_held-left.new.me c.read_held-left.result c.read_held-left.ensures.reads) (steps_of_read c.args.tops.right c.read_held-left.new.me c.read_held-right.new.me c.read_held-right.result c.read_held-right.ensures.reads)) (steps_l c.args.words.now.terms c.args.tops.left c.args.tops.right c.args.level c.args.fence c.args.me.now c.requires.spines c.read_held-left.new.me c.read_held-right.new.me c.read_held-left.result c.read_held-right.result c.read_held-left.ensures.reads c.read_held-left.ensures.holdings c.read_held-right.ensures.reads c.read_held-right.ensures.holdings c.write_held.new.me c.move_fence-moved.result.0 (c.move_fence-moved.ensures.left ∙ refl) c.write_held.ensures.stores c.write_held.ensures.spells)).calls.caller.table ∙ c.requires.table
 
 pub returns-then-level-eq0-clause-writes : goal.returns-then-level-eq0-clause-writes
 returns-then-level-eq0-clause-writes t c s = wrote_leaves c.args.words.now.terms c.args.tops.left c.args.tops.right c.args.level c.args.fence c.args.me.now s c.read_held-left.new.me c.read_held-right.new.me c.read_held-left.result c.read_held-right.result c.read_held-left.ensures.reads c.read_held-left.ensures.holdings c.read_held-right.ensures.reads c.read_held-right.ensures.holdings c.write_held.new.me c.move_fence-moved.result.0 (c.move_fence-moved.ensures.left ∙ refl) c.write_held.ensures.stores c.write_held.ensures.spells c.write_held-2.new.me c.move_fence-moved.result.1 c.move_fence-moved.ensures.right c.write_held-2.ensures.stores c.write_held-2.ensures.spells c.if-level-eq0.true
@@ -55,7 +56,7 @@ child_at_start-lower_right-requires t c = right_pairs c.args.words.now.terms c.a
 pub write_spines-requires : goal.write_spines-requires
 write_spines-requires t c = (
   (let some = c.if-level-eq0.false in let d = c.decreases in omega (arith, some, d)),
-  ((steps4 c.args.tops.left c.args.tops.right c.read_held-left.result c.read_held-right.result c.args.me.now c.read_held-left.new.me c.read_held-right.new.me c.write_held.new.me c.write_held-2.new.me c.read_held-left.ensures.reads c.read_held-right.ensures.reads (steps_l c.args.words.now.terms c.args.tops.left c.args.tops.right c.args.level c.args.fence c.args.me.now c.requires.spines c.read_held-left.new.me c.read_held-right.new.me c.read_held-left.result c.read_held-right.result c.read_held-left.ensures.reads c.read_held-left.ensures.holdings c.read_held-right.ensures.reads c.read_held-right.ensures.holdings c.write_held.new.me c.move_fence-moved.result.0 (c.move_fence-moved.ensures.left ∙ refl) c.write_held.ensures.stores c.write_held.ensures.spells) (steps_r c.args.words.now.terms c.args.tops.left c.args.tops.right c.args.level c.args.fence c.args.me.now c.requires.spines c.read_held-left.new.me c.read_held-right.new.me c.read_held-left.result c.read_held-right.result c.read_held-left.ensures.reads c.read_held-left.ensures.holdings c.read_held-right.ensures.reads c.read_held-right.ensures.holdings c.write_held.new.me c.move_fence-moved.result.0 (c.move_fence-moved.ensures.left ∙ refl) c.write_held.ensures.stores c.write_held.ensures.spells c.write_held-2.new.me c.move_fence-moved.result.1 c.move_fence-moved.ensures.right c.write_held-2.ensures.stores c.write_held-2.ensures.spells)).table ∙ c.requires.table, spines_below c.args.words.now.terms c.args.tops.left c.args.tops.right c.args.level c.args.fence c.args.me.now c.requires.spines c.read_held-left.new.me c.read_held-right.new.me c.read_held-left.result c.read_held-right.result c.read_held-left.ensures.reads c.read_held-left.ensures.holdings c.read_held-right.ensures.reads c.read_held-right.ensures.holdings c.write_held.new.me c.move_fence-moved.result.0 (c.move_fence-moved.ensures.left ∙ refl) c.write_held.ensures.stores c.write_held.ensures.spells c.write_held-2.new.me c.move_fence-moved.result.1 c.move_fence-moved.ensures.right c.write_held-2.ensures.stores c.write_held-2.ensures.spells c.if-level-eq0.false c.child_at_end-lower_left.result c.child_at_start-lower_right.result c.child_at_end-lower_left.ensures c.child_at_start-lower_right.ensures),
+  ((steps4 c.args.tops.left c.args.tops.right c.read_held-left.result c.read_held-right.result c.args.me.now c.read_held-left.new.me c.read_held-right.new.me c.write_held.new.me c.write_held-2.new.me c.read_held-left.ensures.reads c.read_held-right.ensures.reads (steps_l c.args.words.now.terms c.args.tops.left c.args.tops.right c.args.level c.args.fence c.args.me.now c.requires.spines c.read_held-left.new.me c.read_held-right.new.me c.read_held-left.result c.read_held-right.result c.read_held-left.ensures.reads c.read_held-left.ensures.holdings c.read_held-right.ensures.reads c.read_held-right.ensures.holdings c.write_held.new.me c.move_fence-moved.result.0 (c.move_fence-moved.ensures.left ∙ refl) c.write_held.ensures.stores c.write_held.ensures.spells) (steps_r c.args.words.now.terms c.args.tops.left c.args.tops.right c.args.level c.args.fence c.args.me.now c.requires.spines c.read_held-left.new.me c.read_held-right.new.me c.read_held-left.result c.read_held-right.result c.read_held-left.ensures.reads c.read_held-left.ensures.holdings c.read_held-right.ensures.reads c.read_held-right.ensures.holdings c.write_held.new.me c.move_fence-moved.result.0 (c.move_fence-moved.ensures.left ∙ refl) c.write_held.ensures.stores c.write_held.ensures.spells c.write_held-2.new.me c.move_fence-moved.result.1 c.move_fence-moved.ensures.right c.write_held-2.ensures.stores c.write_held-2.ensures.spells)).calls.caller.table ∙ c.requires.table, spines_below c.args.words.now.terms c.args.tops.left c.args.tops.right c.args.level c.args.fence c.args.me.now c.requires.spines c.read_held-left.new.me c.read_held-right.new.me c.read_held-left.result c.read_held-right.result c.read_held-left.ensures.reads c.read_held-left.ensures.holdings c.read_held-right.ensures.reads c.read_held-right.ensures.holdings c.write_held.new.me c.move_fence-moved.result.0 (c.move_fence-moved.ensures.left ∙ refl) c.write_held.ensures.stores c.write_held.ensures.spells c.write_held-2.new.me c.move_fence-moved.result.1 c.move_fence-moved.ensures.right c.write_held-2.ensures.stores c.write_held-2.ensures.spells c.if-level-eq0.false c.child_at_end-lower_left.result c.child_at_start-lower_right.result c.child_at_end-lower_left.ensures c.child_at_start-lower_right.ensures),
 )
 
 pub returns-clause-writes : goal.returns-clause-writes

@@ -3,8 +3,9 @@ use Rattle.tree_shape.specs.Changes.{at_slot, divide, first_half, last_half}
 use Rattle.tree_shape.specs.Lawful.{IsOrdered}
 use Rattle.tree_shape.specs.NodeData.{NodeData, InOrder, IsInner, Pairs, pairs_of, slot_for}
 use Rattle.tree_shape.specs.Steps.{IsFull, middle, middle_fence}
-use Rattle.btree_change.proofs.Descending.{steps_of_read, steps_then}
+use Rattle.btree_change.proofs.Descending.{steps_of_read}
 use Rattle.btree_change.proofs.Outlining.{may_read, spell_one, spells_later, spells_read}
+use Rattle.btree_change.proofs.NodeSteps.{steps_then}
 use Rattle.btree_change.proofs.split.parts_of.Goals as goal
 
 pub read_held-child-requires-clause-held : goal.read_held-child-requires-clause-held
@@ -14,7 +15,7 @@ read_held-child-requires-clause-held c =
 pub read_held-parent-requires-clause-table : goal.read_held-parent-requires-clause-table
 read_held-parent-requires-clause-table c =
     let full = c.args.full.now in let k = c.args.me.now in let k1 = c.read_held-child.new.me in
-    (steps_of_read full.child.node k k1 c.read_held-child.result c.read_held-child.ensures.reads).table ∙ c.requires.table
+    (steps_of_read full.child.node k k1 c.read_held-child.result c.read_held-child.ensures.reads).calls.caller.table ∙ c.requires.table
 
 pub read_held-parent-requires-clause-held : goal.read_held-parent-requires-clause-held
 read_held-parent-requires-clause-held c =

@@ -1,9 +1,10 @@
 use Rattle.std.proofs.Common.{ap, ◌∙◌}
 use Rattle.word_rule.specs.CallerData.{CallerData}
-use Rattle.btree_change.proofs.Descending.{in_order, steps_then}
+use Rattle.btree_change.proofs.Descending.{in_order}
 use Rattle.btree_change.proofs.Descents.{steps_of_load}
 use Rattle.btree_change.proofs.HeldParts.{place_of_lock}
 use Rattle.btree_change.proofs.Splitting.{child_spelled, may_first, may_second, may_third, parent_spelled, split_written, table_then}
+use Rattle.btree_change.proofs.NodeSteps.{steps_then}
 use Rattle.btree_change.proofs.split.write_parts.Goals as goal
 
 pub parts_of-parts-requires-clause-in_order : goal.parts_of-parts-requires-clause-in_order
@@ -33,7 +34,7 @@ pub write_held-requires-3-clause-table : goal.write_held-requires-3-clause-table
 write_held-requires-3-clause-table c =
     let parts = c.parts_of-parts in let first = c.write_held in let second = c.write_held-2 in
     table_then c.args.words.now.terms c.args.full.now c.args.pc c.args.me.now c.requires.held c.load_node.ensures.tree parts.result parts.ensures.parts parts.new.me first.new.me (parts.ensures.holdings ∙ ap (λ (z : CallerData). z.log.holdings) c.load_node.ensures.log) first.ensures.stores first.ensures.spells second.new.me second.ensures.stores second.ensures.spells
-    ∙ (parts.ensures.same.table ∙ (ap (λ (z : CallerData). z.table) c.load_node.ensures.log ∙ c.requires.table))
+    ∙ (parts.ensures.same.calls.caller.table ∙ (ap (λ (z : CallerData). z.table) c.load_node.ensures.log ∙ c.requires.table))
 
 pub write_held-requires-3-clause-may : goal.write_held-requires-3-clause-may
 write_held-requires-3-clause-may c =

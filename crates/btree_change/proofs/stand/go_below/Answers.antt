@@ -86,7 +86,7 @@ stand_below-requires-clause-height g c =
     let same = ap (λ f. f.level) c.in-Ok-split_if_full.ensures.ok.frame in let high = c.requires.stands.height in omega (arith, same, high)
 
 pub stand_below-requires-clause-loader : goal.stand_below-requires-clause-loader
-stand_below-requires-clause-loader g c = c.in-Ok-split_if_full.ensures.ok.steps.loader ∙ (c.in-Ok.ensures.same.loader ∙ c.requires.stands.loader)
+stand_below-requires-clause-loader g c = c.in-Ok-split_if_full.ensures.ok.steps.calls.caller.loader ∙ (c.in-Ok.ensures.same.calls.caller.loader ∙ c.requires.stands.loader)
 
 pub stand_below-requires-clause-surplus : goal.stand_below-requires-clause-surplus
 stand_below-requires-clause-surplus g c =

@@ -14,7 +14,7 @@ pub let_go_of-requires-clause-surplus : goal.let_go_of-requires-clause-surplus
 let_go_of-requires-clause-surplus g c = let e = c.requires.surplus in omega (arith, e)
 
 pub let_go_of_kept-requires-clause-table : goal.let_go_of_kept-requires-clause-table
-let_go_of_kept-requires-clause-table g c = c.let_go_of.ensures.steps.table ∙ c.requires.table
+let_go_of_kept-requires-clause-table g c = c.let_go_of.ensures.steps.calls.caller.table ∙ c.requires.table
 
 pub let_go_of_kept-requires-clause-path : goal.let_go_of_kept-requires-clause-path
 let_go_of_kept-requires-clause-path g c = ([], kept_gone c.args.words.now.terms c.args.lowest (kept_above c.args.beyond) [] c.args.me.now.log.holdings c.requires.path c.args.me.now c.let_go_of.new.me refl c.let_go_of.ensures)

@@ -2,9 +2,9 @@ use Rattle.std.proofs.Common.{drop, false, sym, subst, ◌∙◌}
 use Rattle.word_rule.specs.declared.log.Holdings.{Holdings}
 use Rattle.node_store.proofs.Outlined.{loads_hold}
 use Rattle.btree_change.specs.Stands.{HoldsPair, StandsAt}
-use Rattle.btree_change.proofs.Descending.{steps_then}
 use Rattle.btree_change.proofs.Lowering.{lowered, may_read_child, settled_inner, settled_order, steps_lowered}
 use Rattle.btree_change.proofs.Outlining.{stands_spelled, steps_of_loads}
+use Rattle.btree_change.proofs.NodeSteps.{steps_then}
 use Rattle.btree_change.proofs.stand.lower.Goals as goal
 
 pub child_for-node-requires-clause-inside : goal.child_for-node-requires-clause-inside
@@ -24,14 +24,14 @@ outline_of-content-requires-clause-held g c =
     let t = c.args.words.now.terms in let at = c.args.at.now in let k = c.args.me.now in let k0 = c.child_for-node.new.me in
     let kept = loads_hold k k0 c.child_for-node.ensures.loads in let before = steps_of_loads k k0 c.child_for-node.ensures.loads in
     let stands = subst (StandsAt t at) (sym kept) c.requires.stands in
-    may_read_child t at c.args.pc c.child_for-node.result k0 c.take_node.new.me (before.terms ∙ c.requires.terms) stands c.requires.inner c.child_for-node.ensures.child c.in_ok-take_node.ensures.ok
+    may_read_child t at c.args.pc c.child_for-node.result k0 c.take_node.new.me (before.calls.caller.terms ∙ c.requires.terms) stands c.requires.inner c.child_for-node.ensures.child c.in_ok-take_node.ensures.ok
 
 pub returns-clause-ok : goal.returns-clause-ok
 returns-clause-ok g c =
     let t = c.args.words.now.terms in let at = c.args.at.now in let k = c.args.me.now in let k0 = c.child_for-node.new.me in
     let kept = loads_hold k k0 c.child_for-node.ensures.loads in let before = steps_of_loads k k0 c.child_for-node.ensures.loads in
     let stands = subst (StandsAt t at) (sym kept) c.requires.stands in
-    let low = lowered t at c.args.pc c.child_for-node.result k0 c.take_node.new.me (before.terms ∙ c.requires.terms) stands c.requires.inner c.child_for-node.ensures.child c.in_ok-take_node.ensures.ok c.outline_of-content.result c.outline_of-content.new.me c.outline_of-content.ensures.spells c.outline_of-content.ensures.holdings in
+    let low = lowered t at c.args.pc c.child_for-node.result k0 c.take_node.new.me (before.calls.caller.terms ∙ c.requires.terms) stands c.requires.inner c.child_for-node.ensures.child c.in_ok-take_node.ensures.ok c.outline_of-content.result c.outline_of-content.new.me c.outline_of-content.ensures.spells c.outline_of-content.ensures.holdings in
     (subst (λ (hs : Holdings). HoldsPair t c.args.pc at (record { node = c.child_for-node.result; content = c.outline_of-content.result; changed = false }) (drop 1 hs.held) c.outline_of-content.new.me.log.holdings) kept low.0, low.1)
 
 pub returns-clause-same : goal.returns-clause-same
@@ -40,4 +40,4 @@ returns-clause-same g c =
     let kept = loads_hold k k0 c.child_for-node.ensures.loads in let before = steps_of_loads k k0 c.child_for-node.ensures.loads in
     let stands = subst (StandsAt t at) (sym kept) c.requires.stands in
     steps_then k k0 c.outline_of-content.new.me before
-    (steps_lowered t at c.args.pc c.child_for-node.result k0 c.take_node.new.me (before.terms ∙ c.requires.terms) stands c.requires.inner c.child_for-node.ensures.child c.in_ok-take_node.ensures.ok c.outline_of-content.new.me c.outline_of-content.ensures.loads)
+    (steps_lowered t at c.args.pc c.child_for-node.result k0 c.take_node.new.me (before.calls.caller.terms ∙ c.requires.terms) stands c.requires.inner c.child_for-node.ensures.child c.in_ok-take_node.ensures.ok c.outline_of-content.new.me c.outline_of-content.ensures.loads)

@@ -5,13 +5,13 @@ use Rattle.node_store.proofs.Outlined.{loads_hold}
 use Rattle.btree_change.specs.Kept.{HoldsPath}
 use Rattle.btree_change.specs.declared.stand.Beyond.{Beyond}
 use Rattle.btree_change.specs.Stands.{IsReach, StandsOnWay, kept_above, kept_node}
-use Rattle.btree_change.proofs.Descending.{steps_then}
 use Rattle.btree_change.proofs.Descents.{steps_of_load}
 use Rattle.btree_change.proofs.KeptPaths.{kept_gone, kept_may, none_kept}
 use Rattle.btree_change.proofs.Lowering.{settled_inner, settled_order}
 use Rattle.btree_change.proofs.Outlining.{steps_of_loads}
 use Rattle.btree_change.proofs.Spending.{more_spent, spends_same, steps_after, surplus_steps}
 use Rattle.btree_change.proofs.Standing.{above_path, child_ends, kept_length, lower_spelled, none_above, parent_path, stands_above, stands_child, stands_parent, upper_spelled}
+use Rattle.btree_change.proofs.NodeSteps.{steps_then}
 use Rattle.btree_change.proofs.stand.stand_below.Goals as goal
 
 pub load_node-requires-clause-inside : goal.load_node-requires-clause-inside

@@ -1,9 +1,9 @@
 use Rattle.std.proofs.Common.{◌-◌, ◌<◌, ◌∙◌, sym, ap, subst, arith}
 use Rattle.word_rule.specs.CallerData.{CallerData, due}
-use Rattle.btree_change.proofs.Descending.{steps_then}
 use Rattle.btree_change.proofs.Lowering.{settled_order}
 use Rattle.btree_change.proofs.Takings.{may_take, take_so}
 use Rattle.btree_change.proofs.TakingThere.{cut_alone, cut_leaf, cut_spells, cut_steps, cut_there, cut_tree, cut_written, may_cut_there, taken_there}
+use Rattle.btree_change.proofs.NodeSteps.{steps_then}
 use Rattle.btree_change.proofs.taking.take_in_leaf.Goals as goal
 
 pub overflow_sub-begun : goal.overflow_sub-begun
@@ -45,7 +45,7 @@ commit-number-requires-clause-due c =
     let tree = cut_tree t at k k1 found alone load c.load_node.ensures.tree in
     let written = cut_written t at k k1 found alone load base c.args.begun k2 there.1 c.cut_in_place-member.ensures.stores c.cut_in_place-member.ensures.spells in
     let steps = steps_then k k1 k2 (cut_steps t at k k1 found alone load) written.same in
-    subst (λ d. 0 < d) (sym (λ i. (steps.budget i).allowance - steps.left i)) c.requires.due
+    subst (λ d. 0 < d) (sym (λ i. (steps.budget i).allowance - steps.calls.caller.left i)) c.requires.due
 
 pub commit-number-requires-clause-may : goal.commit-number-requires-clause-may
 commit-number-requires-clause-may c =
@@ -59,8 +59,8 @@ commit-number-requires-clause-may c =
     let tree = cut_tree t at k k1 found alone load c.load_node.ensures.tree in
     let written = cut_written t at k k1 found alone load base c.args.begun k2 there.1 c.cut_in_place-member.ensures.stores c.cut_in_place-member.ensures.spells in
     let steps = steps_then k k1 k2 (cut_steps t at k k1 found alone load) written.same in
-    let some : 0 < due k2 = subst (λ d. 0 < d) (sym (λ i. (steps.budget i).allowance - steps.left i)) c.requires.due in
-    may_take c.take.ensures.change (record { decided = c.exchange_decided.ensures; transfer = c.transfer.ensures.lawful; tests = c.transfer.ensures.tests }) t at base c.cut_in_place-member.result k k1 k2 now_alone tree leaf c.requires.level c.requires.here c.requires.spare (taken_there base c.args.begun at.content c.cut_in_place-member.result leaf order c.requires.held c.requires.begun c.cut_in_place-member.ensures.entry) written (omega (arith, some)) (steps.loader ∙ c.requires.loader)
+    let some : 0 < due k2 = subst (λ d. 0 < d) (sym (λ i. (steps.budget i).allowance - steps.calls.caller.left i)) c.requires.due in
+    may_take c.take.ensures.change (record { decided = c.exchange_decided.ensures; transfer = c.transfer.ensures.lawful; tests = c.transfer.ensures.tests }) t at base c.cut_in_place-member.result k k1 k2 now_alone tree leaf c.requires.level c.requires.here c.requires.spare (taken_there base c.args.begun at.content c.cut_in_place-member.result leaf order c.requires.held c.requires.begun c.cut_in_place-member.ensures.entry) written (omega (arith, some)) (steps.calls.caller.loader ∙ c.requires.loader)
 
 pub returns : goal.returns
 returns c =

@@ -15,10 +15,10 @@ pub loop-me-init : goal.loop-me-init
 loop-me-init g c = record { goes = goes_nowhere c.args.words.now.terms c.args.member.now c.args.stand c.args.me.now c.requires.stands }
 
 pub go_below-requires-clause-table : goal.go_below-requires-clause-table
-go_below-requires-clause-table g c = c.loop-me.invariant.goes.steps.table ∙ c.requires.table
+go_below-requires-clause-table g c = c.loop-me.invariant.goes.steps.calls.caller.table ∙ c.requires.table
 
 pub go_below-requires-clause-terms : goal.go_below-requires-clause-terms
-go_below-requires-clause-terms g c = c.loop-me.invariant.goes.steps.terms ∙ c.requires.terms
+go_below-requires-clause-terms g c = c.loop-me.invariant.goes.steps.calls.caller.terms ∙ c.requires.terms
 
 pub go_below-requires-clause-surplus : goal.go_below-requires-clause-surplus
 go_below-requires-clause-surplus g c =
@@ -34,10 +34,10 @@ returns-in_err-stand-clause-cause g c =
     rw (p.1, p.2) (found_after c.in_err-stand.field-0.0 c.args.me.now c.loop-me.me c.go_below.new.me c.loop-me.invariant.goes.steps.loads c.in_err-stand.ensures.cause)
 
 pub in_leaf-requires-clause-table : goal.in_leaf-requires-clause-table
-in_leaf-requires-clause-table g c = c.loop-me.invariant.goes.steps.table ∙ c.requires.table
+in_leaf-requires-clause-table g c = c.loop-me.invariant.goes.steps.calls.caller.table ∙ c.requires.table
 
 pub in_leaf-requires-clause-terms : goal.in_leaf-requires-clause-terms
-in_leaf-requires-clause-terms g c = c.loop-me.invariant.goes.steps.terms ∙ c.requires.terms
+in_leaf-requires-clause-terms g c = c.loop-me.invariant.goes.steps.calls.caller.terms ∙ c.requires.terms
 
 pub in_leaf-requires-clause-due : goal.in_leaf-requires-clause-due
 in_leaf-requires-clause-due g c = due_after (releases_from c.args.stand - releases_from c.loop-me.stand) c.args.me.now c.loop-me.me c.loop-me.invariant.goes.steps c.requires.due

@@ -28,7 +28,7 @@ refused-requires-clause-stands g c =
 
 pub let_go_of_all-requires-clause-table : goal.let_go_of_all-requires-clause-table
 let_go_of_all-requires-clause-table g c =
-    let steps = steps_of_loads c.args.me.now c.begun_in-begun.new.me c.begun_in-begun.ensures.loads in c.in-Some.ensures.overlaps.call.table ∙ (steps.table ∙ c.requires.table)
+    let steps = steps_of_loads c.args.me.now c.begun_in-begun.new.me c.begun_in-begun.ensures.loads in c.in-Some.ensures.overlaps.call.caller.table ∙ (steps.calls.caller.table ∙ c.requires.table)
 
 pub let_go_of_all-requires-clause-path : goal.let_go_of_all-requires-clause-path
 let_go_of_all-requires-clause-path g c =
@@ -59,14 +59,14 @@ in_free_leaf-requires-clause-table g c =
     let t = c.args.words.now.terms in let m = c.args.member.now in let stand = c.args.stand in let at = c.args.stand.at in let k = c.args.me.now in let k1 = c.refused.new.me in
     let loads = loads_then k c.begun_in-begun.new.me k1 c.begun_in-begun.ensures.loads c.in-None.ensures.free.1 in let kept = loads_hold k k1 loads in
     let steps = steps_of_loads k k1 loads in let s = stands_still t m stand k k1 kept steps c.requires.stands in
-    steps.table ∙ c.requires.table
+    steps.calls.caller.table ∙ c.requires.table
 
 pub in_free_leaf-requires-clause-terms : goal.in_free_leaf-requires-clause-terms
 in_free_leaf-requires-clause-terms g c =
     let t = c.args.words.now.terms in let m = c.args.member.now in let stand = c.args.stand in let at = c.args.stand.at in let k = c.args.me.now in let k1 = c.refused.new.me in
     let loads = loads_then k c.begun_in-begun.new.me k1 c.begun_in-begun.ensures.loads c.in-None.ensures.free.1 in let kept = loads_hold k k1 loads in
     let steps = steps_of_loads k k1 loads in let s = stands_still t m stand k k1 kept steps c.requires.stands in
-    steps.terms ∙ c.requires.terms
+    steps.calls.caller.terms ∙ c.requires.terms
 
 pub in_free_leaf-requires-clause-stands : goal.in_free_leaf-requires-clause-stands
 in_free_leaf-requires-clause-stands g c =
@@ -112,7 +112,7 @@ returns-in-None-clause-full g c =
     let steps = steps_of_loads k k1 loads in let s = stands_still t m stand k k1 kept steps c.requires.stands in
     let k2 = c.in_free_leaf.new.me in
     if_ok (λ answer. IfFull answer (HasCause stand.room m.span.first c.refused.new.me k2)) (λ answer. IfFull answer (HasCause stand.room m.span.first k k2)) c.in_free_leaf.result
-    (λ answer e. if_full answer (λ h. cause_after stand.room m.span.first k k1 k2 (ap (λ (r : Receipts). r.own) steps.receipts) steps.loads h) e) c.in_free_leaf.ensures.full
+    (λ answer e. if_full answer (λ h. cause_after stand.room m.span.first k k1 k2 (ap (λ (r : Receipts). r.own) steps.calls.receipts) steps.loads h) e) c.in_free_leaf.ensures.full
 
 pub returns-in-None-clause-busy : goal.returns-in-None-clause-busy
 returns-in-None-clause-busy g c =

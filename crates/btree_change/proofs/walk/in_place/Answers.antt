@@ -22,7 +22,7 @@ pub let_go_of-requires-clause-inside : goal.let_go_of-requires-clause-inside
 let_go_of-requires-clause-inside g c = c.requires.stands.at.within
 
 pub let_go_of-requires-clause-table : goal.let_go_of-requires-clause-table
-let_go_of-requires-clause-table g c = c.full_here-answer.ensures.refused.call.table ∙ c.requires.table
+let_go_of-requires-clause-table g c = c.full_here-answer.ensures.refused.call.caller.table ∙ c.requires.table
 
 pub let_go_of-requires-clause-may : goal.let_go_of-requires-clause-may
 let_go_of-requires-clause-may g c =

@@ -9,7 +9,7 @@ use Rattle.btree_change.specs.Insertion.{AnswersInsertion, Inserts, call_begun}
 use Rattle.tree_tests.proofs.insertions.insert_one.Goals as goal
 
 answered : (t : Terms) (m : Member) (answer : Inserted) (k k' : CallerData) → IsIdle k.log → AnswersInsertion t m answer (call_begun k) k' → (k'.table ≡ k.table) × IsIdle k'.log
-answered t m answer k k' idle a = (a.call.table, record { held = a.call.nothing.0; out = a.call.nothing.1; loader = a.call.loader ∙ idle.loader })
+answered t m answer k k' idle a = (a.call.caller.table, record { held = a.call.nothing.0; out = a.call.nothing.1; loader = a.call.caller.loader ∙ idle.loader })
 
 idle_after : (t : Terms) (m : Member) (answer : Inserted) (k k' : CallerData) → IsIdle k.log → Inserts t m k k' answer → (k'.table ≡ k.table) × IsIdle k'.log
 idle_after t m (inserted.Done number) k k' idle i = answered t m (inserted.Done number) k k' idle i.1
