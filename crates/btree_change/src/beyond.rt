@@ -28,7 +28,7 @@ use crate::path::let_go_of_path;
 use crate::stand::{Beyond, Room, kept, let_go_of_all};
 use node_store::{Busy, Locking, read_held};
 use reg_model::{Inserted, Member, Update};
-use word_rule::places::LOWER;
+use word_rule::places::updates_at;
 use word_rule::{Ask, Caller, Words};
 
 /// A leaf beyond which a span ends, and the node above it and the next one.
@@ -65,7 +65,7 @@ fn full_next(words: &Words, me: &mut Caller, leaf: &Held, right: &Held, member: 
     let update = Update::Register { member: *member };
     let clock = words.load_clock(me, Ask::Refused { update });
     Inserted::Full {
-        stamp: (clock % LOWER) as u32,
+        stamp: updates_at(clock),
     }
 }
 

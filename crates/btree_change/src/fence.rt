@@ -26,7 +26,7 @@ use node_store::{Busy, Locking, read_held, write_held};
 use reg_model::{Inserted, Member, Update};
 use tree_shape::{first_overlap, laws, set_separator};
 use word_rule::exchange::exchange_decided;
-use word_rule::places::{LEVEL, LOWER};
+use word_rule::places::{LEVEL, updates_at};
 use word_rule::{Ask, Caller, Words};
 
 /// Locks the right spine of a fence, each node while its parent is held, down to the next leaf.
@@ -99,7 +99,7 @@ pub(crate) fn refused_next(
     let clock = words.load_clock(me, Ask::Refused { update });
     Some(Inserted::Overlap {
         member: other,
-        stamp: (clock % LOWER) as u32,
+        stamp: updates_at(clock),
     })
 }
 

@@ -19,7 +19,7 @@ use node_store::{Placed, entry_of, put_in_place, write_held};
 use reg_model::{Inserted, Member, Span, Update};
 use tree_shape::{ENTRIES, Node, laws, put_entry};
 use word_rule::exchange::exchange_decided;
-use word_rule::places::{COUNT, LOWER};
+use word_rule::places::{COUNT, updates_at};
 use word_rule::{Ask, Caller, Words};
 
 /// Writes a member into a leaf that is held and was read, in which it has room and overlaps
@@ -173,7 +173,7 @@ pub(crate) fn refused(
     let clock = words.load_clock(me, Ask::Refused { update });
     Some(Inserted::Overlap {
         member: other,
-        stamp: (clock % LOWER) as u32,
+        stamp: updates_at(clock),
     })
 }
 
@@ -194,6 +194,6 @@ pub(crate) fn full_here(words: &Words, me: &mut Caller, leaf: &Held, member: &Me
     let update = Update::Register { member: *member };
     let clock = words.load_clock(me, Ask::Refused { update });
     Inserted::Full {
-        stamp: (clock % LOWER) as u32,
+        stamp: updates_at(clock),
     }
 }

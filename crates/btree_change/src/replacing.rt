@@ -14,7 +14,7 @@ use node_store::{begun_in, entry_of, read_held, write_held};
 use reg_model::{Member, Replaced, Span, Update};
 use tree_shape::{laws, replace_entry};
 use word_rule::exchange::exchange_decided;
-use word_rule::places::{COUNT, LOWER};
+use word_rule::places::{COUNT, updates_at};
 use word_rule::{Ask, Caller, Words};
 
 /// The entry of a held leaf that has a whole span. It could only be the last of those that begin at
@@ -52,7 +52,7 @@ pub(crate) fn none_with(words: &Words, me: &mut Caller, leaf: &Held, member: &Me
     let update = Update::Replace { member: *member };
     let clock = words.load_clock(me, Ask::Refused { update });
     Replaced::NotFound {
-        stamp: (clock % LOWER) as u32,
+        stamp: updates_at(clock),
     }
 }
 

@@ -13,7 +13,7 @@ use node_store::{cut_in_place, entry_of};
 use reg_model::{Member, Removed, Update};
 use tree_shape::laws;
 use word_rule::exchange::exchange_decided;
-use word_rule::places::{COUNT, LOWER};
+use word_rule::places::{COUNT, updates_at};
 use word_rule::{Ask, Caller, Words};
 
 /// Whether an entry of a held leaf begins at a base. It could only be the last of those that begin
@@ -63,7 +63,7 @@ pub(crate) fn not_found(
     let update = Update::Deregister { base };
     let clock = words.load_clock(me, Ask::Refused { update });
     Some(Removed::NotFound {
-        stamp: (clock % LOWER) as u32,
+        stamp: updates_at(clock),
     })
 }
 

@@ -3,6 +3,8 @@ use Rattle.reg_model.specs.State.{IsFree, IsLowestOverlap}
 use Rattle.tree_shape.specs.NodeData.{NodeData, IsLeaf, InOrder, entries_of}
 use Rattle.word_rule.specs.CallerData.{CallerData}
 use Rattle.node_store.specs.Holding.{ReadsHeld, SpellsHeld}
+use Rattle.reg_model.specs.declared.answer.Inserted.TheVariants as inserted
+use Rattle.btree_change.specs.Insertion.{RefusesMember}
 use Rattle.btree_change.specs.Spines.{HoldsLeafPair}
 use Rattle.btree_change.proofs.Descending.{steps_of_read}
 use Rattle.btree_change.proofs.NextOverlaps.{lies_above, refused_next_so, right_leaf, right_order, shows_next}
@@ -41,9 +43,10 @@ returns-clause-overlaps c =
     let is = same_read c.args.right.now.node k k1 c.args.right.now.content c.read_held-content.result c.requires.spells c.read_held-content.ensures.reads in
     let pair = subst (HoldsLeafPair c.args.leaf.now.node c.args.leaf.now.content c.args.right.now.node c.args.right.now.content) (sym kept) c.requires.leaves.0 in
     let found = subst (λ (s : NodeData). IsLowestOverlap m.span (entries_of s) c.in_ok-other.other) (sym is) c.in_ok-other.ensures.found in
-    refused_after t m _ k k1 c.load_clock-clock.new.me kept (steps_of_read c.args.right.now.node k k1 c.read_held-content.result c.read_held-content.ensures.reads)
+    subst (λ s. RefusesMember t m (inserted.Overlap c.in_ok-other.other s) k c.load_clock-clock.new.me) (sym c.updates_at.ensures)
+    (refused_after t m _ k k1 c.load_clock-clock.new.me kept (steps_of_read c.args.right.now.node k k1 c.read_held-content.result c.read_held-content.ensures.reads)
     (refused_next_so t c.args.leaf.now.node c.args.leaf.now.content c.args.right.now.node c.args.right.now.content m k1 pair c.requires.leaves.1 c.requires.here c.requires.free c.in_ok-other.other found
-    c.load_clock-clock.new.me c.load_clock-clock.result c.load_clock-clock.ensures.log c.load_clock-clock.ensures.refusal c.load_clock-clock.ensures.rest)
+    c.load_clock-clock.new.me c.load_clock-clock.result c.load_clock-clock.ensures.log c.load_clock-clock.ensures.refusal c.load_clock-clock.ensures.rest))
 
 if_none : {A : Type 0} (P : Type 0) (o : Option A) → P → IfNone o P
 if_none P None p = p

@@ -1,5 +1,7 @@
 use Rattle.std.proofs.Common.{inl, sym, subst}
 use Rattle.node_store.proofs.Outlined.{loads_hold}
+use Rattle.reg_model.specs.declared.answer.Inserted.TheVariants as inserted
+use Rattle.btree_change.specs.Insertion.{RefusesMember}
 use Rattle.btree_change.specs.Stands.{StandsAt}
 use Rattle.btree_change.proofs.Lowering.{settled_live, settled_order}
 use Rattle.btree_change.proofs.Outlining.{stands_spelled, steps_of_loads}
@@ -35,6 +37,7 @@ returns-clause-overlaps c =
     let t = c.args.words.now.terms in let at = c.args.leaf.now in let k = c.args.me.now in let k1 = c.overlap_in.new.me in
     let same = loads_hold k k1 c.overlap_in.ensures.loads in
     let stands = subst (StandsAt t at) (sym same) c.requires.stands in
-    refused_after t c.args.member.now _ k k1 c.load_clock-clock.new.me same (steps_of_loads k k1 c.overlap_in.ensures.loads)
+    subst (λ s. RefusesMember t c.args.member.now (inserted.Overlap c.in_ok-other.other s) k c.load_clock-clock.new.me) (sym c.updates_at.ensures)
+    (refused_after t c.args.member.now _ k k1 c.load_clock-clock.new.me same (steps_of_loads k k1 c.overlap_in.ensures.loads)
     (refused_so t at.node at.content at.changed c.args.member.now c.in_ok-other.other k1 stands c.requires.level c.requires.here c.in_ok-other.ensures.found
-    c.load_clock-clock.new.me c.load_clock-clock.result c.load_clock-clock.ensures.log c.load_clock-clock.ensures.refusal c.load_clock-clock.ensures.rest)
+    c.load_clock-clock.new.me c.load_clock-clock.result c.load_clock-clock.ensures.log c.load_clock-clock.ensures.refusal c.load_clock-clock.ensures.rest))

@@ -1,5 +1,7 @@
 use Rattle.std.proofs.Common.{◌∙◌, sym, subst}
+use Rattle.reg_model.specs.declared.answer.Removed.TheVariants as removed
 use Rattle.btree_change.specs.Removing.{HoldsAlone}
+use Rattle.btree_change.specs.Takings.{RefusesBase}
 use Rattle.node_store.proofs.Outlined.{loads_hold}
 use Rattle.btree_change.proofs.Absences.{absent_after, absent_so, none_of, shows_none}
 use Rattle.btree_change.proofs.HeldOutlines.{alone_spells}
@@ -32,6 +34,7 @@ returns-clause-none c =
     let t = c.args.words.now.terms in let at = c.args.leaf.now in let k = c.args.me.now in let k1 = c.begins_at-begins.new.me in
     let none = none_of _ (sym c.begins_at-begins.ensures.begins ∙ c.if-begins.false) in
     let alone = subst (HoldsAlone t at) (sym (loads_hold k k1 c.begins_at-begins.ensures.loads)) c.requires.alone in
-    absent_after t c.args.base _ k k1 c.load_clock-clock.new.me c.begins_at-begins.ensures.loads
+    subst (λ s. RefusesBase t c.args.base (removed.NotFound s) k c.load_clock-clock.new.me) (sym c.updates_at.ensures)
+    (absent_after t c.args.base _ k k1 c.load_clock-clock.new.me c.begins_at-begins.ensures.loads
     (absent_so t at c.args.base k1 alone c.requires.level c.requires.here none
-    c.load_clock-clock.new.me c.load_clock-clock.result c.load_clock-clock.ensures.log c.load_clock-clock.ensures.refusal c.load_clock-clock.ensures.rest)
+    c.load_clock-clock.new.me c.load_clock-clock.result c.load_clock-clock.ensures.log c.load_clock-clock.ensures.refusal c.load_clock-clock.ensures.rest))
