@@ -1,5 +1,5 @@
 -- An insertion at the root, and below a lifted one.
-use Rattle.std.proofs.Common.{◌≡◌, ℕ, ◌+◌, ◌<◌, ◌≤◌, ◌⊎◌, inl, inr, List, [], ◌∷◌, drop, sym, refl, ap, ◌∙◌, subst, arith, None, Result, Ok, Err, IfOk, OnOk, IfErr}
+use Rattle.std.proofs.Common.{◌≡◌, ℕ, ◌+◌, ◌<◌, ◌≤◌, ◌⊎◌, inl, inr, Bool, true, List, [], ◌∷◌, drop, sym, refl, ap, ◌∙◌, subst, arith, None, Result, Ok, Err, IfOk, OnOk, IfErr}
 use Rattle.reg_model.specs.SpanData.{IsSpan}
 use Rattle.reg_model.specs.declared.answer.Inserted.{Inserted}
 use Rattle.reg_model.specs.declared.answer.Receipt.TheVariants as receipt
@@ -19,15 +19,16 @@ use Rattle.btree_change.specs.declared.lift.FullRoot.{FullRoot}
 use Rattle.btree_change.specs.declared.lift.TwoNodes.{TwoNodes}
 use Rattle.btree_change.specs.declared.split.Split.{Split}
 use Rattle.btree_change.specs.declared.stand.Room.{Room}
+use Rattle.btree_change.specs.declared.stand.Room.TheVariants as room
 use Rattle.reg_model.specs.declared.answer.Inserted.TheVariants as inserted
 use Rattle.btree_change.specs.Insertion.{AnswersInsertion, IfFull, Inserts, call_begun, taken_by}
 use Rattle.btree_change.specs.Loads.{FoundNoRoom}
 use Rattle.node_store.specs.Locking.{FoundBusy}
 use Rattle.btree_change.specs.Paths.{AreHigher, HoldsNothing, IsLeftOut, StepsOnNodes}
 use Rattle.btree_change.specs.Releases.{LetsGo, Spends}
-use Rattle.btree_change.specs.Roots.{EndsInsertion, GivesUpWhole}
+use Rattle.btree_change.specs.Roots.{EndsInsertion, EndsPart, GivesUpWhole}
 use Rattle.btree_change.specs.Splits.{HoldsFullAlone, HoldsFullRoot, KeepsHeld, LiftsRoot, TakesTwo, with_release_less}
-use Rattle.btree_change.specs.Stands.{HasWayOn, HoldsPair, HoldsRoot, Reaches, StandsOnWay, StandsAt}
+use Rattle.btree_change.specs.Stands.{HasCause, HasWayOn, HoldsPair, HoldsRoot, Reaches, StandsOnWay, StandsAt}
 use Rattle.btree_change.specs.Updates.{GivesUp}
 use Rattle.btree_change.proofs.Loading.{found_after, nothing_left}
 use Rattle.btree_change.proofs.Lowering.{settled_live}
@@ -163,6 +164,10 @@ ends_after t m answer a b c k l n sum s e = record {
 pub gives_up_after : (a b c : ℕ) (why : Busy) (k l n : CallerData) → a + b ≤ c → Spends a k l → GivesUpWhole b why l n → GivesUpWhole c why k n
 gives_up_after a b c why k l n sum s g = record { steps = steps_after a b c k l n sum s g.steps; nothing = g.nothing }
 
+pub ends_part : (t : Terms) (m : Member) (a b c : ℕ) (way later : Room) (gives_up : Bool) (k l n : CallerData) (r : Result Inserted Busy) → a + b ≤ c → Spends a k l → (HasCause later m.span.first l n → HasCause way m.span.first k n) → EndsPart t m b later gives_up l n r → EndsPart t m c way gives_up k n r
+ends_part t m a b c way later gives_up k l n (Ok answer) sum s cause (e, full) = (ends_after t m answer a b c k l n sum s e, if_full answer cause full)
+ends_part t m a b c way later gives_up k l n (Err why) sum s cause (g, up, found) = (gives_up_after a b c why k l n sum s g, up, found_after why k l n s.loads found)
+
 pub update_answered : (t : Terms) (m : Member) (answer : Inserted) (k l n : CallerData) → StepsOnNodes k l → EndsInsertion t m answer 64 l n → IfFull answer (FoundNoRoom m.span.first l n) → AnswersInsertion t m answer k n
 update_answered t m answer k l n same e full =
     let all = ends_after t m answer 0 64 64 k l n (omega arith) (spends_same k l same) e in record {
@@ -211,17 +216,18 @@ pub on_ok : {A E : Type 0} (P Q : Type 0) (r : Result A E) → (P → Q) → OnO
 on_ok P Q (Ok a) f p = f p
 on_ok P Q (Err e) f p = tt
 
-pub if_ok_both : {A E : Type 0} (P R Q : A → Type 0) (r : Result A E) → ((a : A) → P a → R a → Q a) → IfOk r P → IfOk r R → IfOk r Q
-if_ok_both P R Q (Ok a) f p x = f a p x
-if_ok_both P R Q (Err e) f p x = tt
-
 pub if_err : {A E : Type 0} (P Q : E → Type 0) (r : Result A E) → ((e : E) → P e → Q e) → IfErr r P → IfErr r Q
 if_err P Q (Ok a) f p = tt
 if_err P Q (Err e) f p = f e p
 
-pub if_err_both : {A E : Type 0} (P R Q : E → Type 0) (r : Result A E) → ((e : E) → P e → R e → Q e) → IfErr r P → IfErr r R → IfErr r Q
-if_err_both P R Q (Ok a) f p x = tt
-if_err_both P R Q (Err e) f p x = f e p x
+-- the whole of an insertion, by how its part ends after steps that took no release
+pub answered_so : (t : Terms) (m : Member) (gives_up : Bool) (k l n : CallerData) (r : Result Inserted Busy) → StepsOnNodes k l → EndsPart t m 64 room.Splitting gives_up l n r → IfOk r (λ answer. AnswersInsertion t m answer k n)
+answered_so t m gives_up k l n (Ok answer) same (e, full) = update_answered t m answer k l n same e full
+answered_so t m gives_up k l n (Err why) same e = tt
+
+pub given_up_so : (t : Terms) (m : Member) (gives_up : Bool) (k l n : CallerData) (r : Result Inserted Busy) → StepsOnNodes k l → EndsPart t m 64 room.Splitting gives_up l n r → IfErr r (λ why. GivesUp why k n × (gives_up ≡ true))
+given_up_so t m gives_up k l n (Ok answer) same e = tt
+given_up_so t m gives_up k l n (Err why) same (g, up, found) = (update_given_up why k l n same found g, up)
 
 pub inserts_so : (t : Terms) (m : Member) (answer : Inserted) (k k' : CallerData) → 0 < k.left → AnswersInsertion t m answer (call_begun k) k' → Inserts t m k k' answer
 inserts_so t m (inserted.Done number) k k' some a = (some, a)

@@ -1,5 +1,5 @@
 -- An insertion whose span ends in the next leaf.
-use Rattle.std.proofs.Common.{◌≡◌, ◌≢◌, ℕ, ◌+◌, ◌%◌, ◌<◌, ◌≤◌, List, [], ◌∷◌, ◌++◌, length, drop, map, sym, refl, ap, ◌∙◌, subst, arith, true, None, Some, IsSome, IsSomeAnd}
+use Rattle.std.proofs.Common.{◌≡◌, ◌≢◌, ℕ, ◌+◌, ◌%◌, ◌<◌, ◌≤◌, List, [], ◌∷◌, ◌++◌, length, drop, map, sym, refl, ap, ◌∙◌, subst, arith, true, Some, IsSome, IsSomeAnd}
 use Rattle.std.proofs.lemmas.List.{length-map}
 use Rattle.std.specs.List.{AllByRecursion}
 use Rattle.reg_model.specs.State.{IsFree}
@@ -12,7 +12,7 @@ use Rattle.tree_shape.specs.Changes.{ends_at_as, ends_at_fence}
 use Rattle.tree_shape.specs.NodeData.{NodeData, Body, Pairs, Entries, Link, IsInFences, entries_in, entries_of}
 use Rattle.tree_shape.specs.Steps.{LiesAbove}
 use Rattle.tree_shape.specs.declared.node.Frame.{Frame}
-use Rattle.word_rule.specs.CallerData.{CallerData, due, surplus}
+use Rattle.word_rule.specs.CallerData.{CallerData, WordsData, surplus}
 use Rattle.word_rule.specs.Clock.{AfterClock}
 use Rattle.word_rule.specs.Held.{held_of}
 use Rattle.word_rule.specs.NodeTells.{IsLiveNode}
@@ -30,7 +30,7 @@ use Rattle.btree_change.specs.declared.descent.Held.{Held}
 use Rattle.btree_change.specs.declared.path.KeptNode.{KeptNode}
 use Rattle.btree_change.specs.declared.stand.Room.TheVariants as room
 use Rattle.btree_change.specs.Far.{HoldsFar, IsAtNext, IsReadyFar, StandsFar}
-use Rattle.btree_change.specs.Insertion.{PutsMember, RefusesMember, taken_by}
+use Rattle.btree_change.specs.Insertion.{MayPut, PutsMember, RefusesMember, taken_by}
 use Rattle.btree_change.specs.Kept.{AreKept, HoldsPath, LeavesBelow, as_changed}
 use Rattle.btree_change.specs.Paths.{AreHigher, HoldsNothing, IsSettledLock, StepsOnNodes}
 use Rattle.btree_change.specs.Loads.{KeepsLoads}
@@ -49,7 +49,7 @@ use Rattle.btree_change.proofs.NextOverlaps.{both_free, both_leaves}
 use Rattle.btree_change.proofs.Refusing.{refused_full}
 use Rattle.btree_change.proofs.Releasing.{lowest_may}
 use Rattle.btree_change.proofs.Settling.{found_first}
-use Rattle.btree_change.proofs.Spending.{due_after, refused_call, right_before, spends_before, spends_same, steps_after, surplus_after, surplus_steps}
+use Rattle.btree_change.proofs.Spending.{may_still, refused_call, right_before, spends_before, spends_same, steps_after, surplus_after, surplus_steps}
 use Rattle.btree_change.proofs.Standing.{live_lock, lowest_of}
 use Rattle.btree_change.proofs.Stepping.{splits_on}
 use Rattle.btree_change.proofs.HeldLists.{found_head}
@@ -274,17 +274,8 @@ module _ (t : Terms) (m : Member) (far : Far) (k : CallerData) (ready : IsReadyF
             (steps_after 12 (length far.beyond.kept) (length far.beyond.kept + 12) k k1 k2 (omega arith) spent leaves.steps)
             (spends_same k2 k3 (steps_of_read far.leaf.node k2 k3 shape reads))
 
-        pub still_due : 0 < due k → 0 < due k3
-        still_due some = due_after (length far.beyond.kept + 12) k k3 spent3 some
-
-        pub terms3 : k.log.terms ≡ t → k3.log.terms ≡ t
-        terms3 e = spent3.calls.caller.terms ∙ e
-
-        pub loader3 : k.log.loader ≡ None → k3.log.loader ≡ None
-        loader3 e = spent3.calls.caller.loader ∙ e
-
-        pub table3 : k3.table ≡ k.table
-        table3 = spent3.calls.caller.table
+        pub may_put_far : (w : WordsData) → MayPut w m (length far.beyond.kept + 13) k → MayPut w m 0 k3
+        may_put_far w may = may_still w m (length far.beyond.kept + 12) (length far.beyond.kept + 13) 0 k k3 (omega arith) spent3 may
 
         -- the member was put there, and the leaf let go of
         module _ (number : ℕ) (k4 : CallerData) (puts : PutsMember t m far.leaf.node number k3 k4) where
@@ -292,7 +283,7 @@ module _ (t : Terms) (m : Member) (far : Far) (k : CallerData) (ready : IsReadyF
           put_answers = put_here t m far.leaf.node number k3 k4 puts
 
           pub table4 : k4.table ≡ k.table
-          table4 = puts.call.caller.table ∙ table3
+          table4 = puts.call.caller.table ∙ spent3.calls.caller.table
 
           pub put_may : MayGo far.leaf.node true k4.log.holdings
           put_may = lowest_may far.leaf.node true k4.log.holdings (here_lowest t m far.leaf.node (inserted.Done number) true k3 k4 put_answers)

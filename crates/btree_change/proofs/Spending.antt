@@ -9,14 +9,14 @@ use Rattle.reg_model.specs.declared.answer.Receipt.TheVariants as receipt
 use Rattle.word_rule.specs.Observations.{last_moment}
 use Rattle.reg_model.specs.declared.answer.Update.{Update}
 use Rattle.reg_model.specs.declared.span.Member.{Member}
-use Rattle.word_rule.specs.CallerData.{CallerData, KeepsCalls, due, surplus}
+use Rattle.word_rule.specs.CallerData.{CallerData, KeepsCalls, WordsData, due, surplus}
 use Rattle.reg_model.specs.History.{state_after}
 use Rattle.reg_model.specs.State.{IsFree, IsLowestOverlap}
 use Rattle.word_rule.specs.Callers.{IsAlone, start}
 use Rattle.word_rule.specs.TreeRefusals.{WasFilledSince}
 use Rattle.word_rule.specs.declared.log.Receipts.{Receipts}
 use Rattle.word_rule.specs.declared.log.Terms.{Terms}
-use Rattle.btree_change.specs.Insertion.{IsRightInsertion}
+use Rattle.btree_change.specs.Insertion.{IsRightInsertion, MayPut}
 use Rattle.btree_change.specs.Paths.{HoldsNothing, StepsOnNodes}
 use Rattle.btree_change.specs.Releases.{Spends}
 use Rattle.btree_change.specs.Splits.{with_release_less}
@@ -118,6 +118,17 @@ due_after a k l s some = let x = s.allowance in let y = s.calls.caller.left in o
 pub surplus_steps : (a : ℕ) (k l : CallerData) (need : ℕ) → Spends a k l → a + need ≤ surplus k → need ≤ surplus l
 surplus_steps a k l need s enough =
     let e = s.calls.caller.left in let c = s.credit in omega (arith, e, c, enough)
+
+-- what a part of a call asks to put a member, after steps that took some of the releases
+pub may_still : (w : WordsData) (m : Member) (a releases rest : ℕ) (k l : CallerData) → a + rest ≤ releases → Spends a k l → MayPut w m releases k → MayPut w m rest l
+may_still w m a releases rest k l sum s may = record {
+  table = s.calls.caller.table ∙ may.table;
+  terms = s.calls.caller.terms ∙ may.terms;
+  loader = s.calls.caller.loader ∙ may.loader;
+  payload = may.payload;
+  begun = due_after a k l s may.begun;
+  spare = surplus_steps a k l rest s (let enough = may.spare in omega (arith, sum, enough));
+}
 
 -- A Full tells the same of steps before, which leave the receipts and the callers.
 filled_before : (t : Terms) (past : List Update) (k l : CallerData) (r : Receipt) → KeepsCalls k l → WasFilledSince l.log t past r → WasFilledSince k.log t past r

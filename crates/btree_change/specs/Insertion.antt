@@ -1,5 +1,5 @@
 -- What the insertion of a member makes of its caller.
-use Rattle.std.specs.Prelude.{◌≡◌, ℕ, ◌-◌, ◌<◌, ◌≤◌, true, List, [], ◌∷◌, ◌++◌, length}
+use Rattle.std.specs.Prelude.{◌≡◌, ℕ, ◌-◌, ◌<◌, ◌≤◌, true, None, List, [], ◌∷◌, ◌++◌, length}
 use mathlib.Core.List.{IsPrefix}
 use Rattle.reg_model.specs.History.{state_after}
 use Rattle.reg_model.specs.State.{IsFree, IsLowestOverlap}
@@ -9,13 +9,24 @@ use Rattle.reg_model.specs.declared.answer.Receipt.TheVariants as receipt
 use Rattle.reg_model.specs.declared.answer.Update.{Update}
 use Rattle.reg_model.specs.declared.answer.Update.TheVariants as update
 use Rattle.reg_model.specs.declared.span.Member.{Member}
-use Rattle.word_rule.specs.CallerData.{CallerData, surplus}
+use Rattle.word_rule.specs.CallerData.{CallerData, WordsData, due, surplus}
 use Rattle.word_rule.specs.Callers.{IsMemberOf, start}
 use Rattle.word_rule.specs.Places.{CALL_CREDIT}
 use Rattle.word_rule.specs.declared.log.Terms.{Terms}
 use Rattle.word_rule.specs.TreeRefusals.{WasFilledSince}
 use Rattle.btree_change.specs.Loads.{FoundNoRoom}
 use Rattle.btree_change.specs.Updates.{AcceptsUpdate, AnswersUpdate, RefusesUpdate}
+
+-- What a part of a call that was begun asks of its caller, to put this member into a leaf: it is
+-- one of the words and not the loader, the payload is one of theirs, and so many releases are to
+-- spare.
+pub record MayPut (words : WordsData) (m : Member) (releases : ℕ) (k : CallerData) : Type 0 where
+  pub table : k.table ≡ words.table
+  pub terms : k.log.terms ≡ words.terms
+  pub loader : k.log.loader ≡ None
+  pub payload : m.payload < words.terms.payloads
+  pub begun : 0 < due k
+  pub spare : releases ≤ surplus k
 
 -- The answer to an insertion is right, where `k` was its caller when the call was begun and k' is
 -- it afterwards. Where it is Full, ten members were registered at some moment since the receipt

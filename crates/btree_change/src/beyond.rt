@@ -1,22 +1,21 @@
 //! An insertion whose span ends beyond its leaf: in the next one.
-ghost use Rattle.std.specs.Prelude.{◌≡◌, ◌≢◌, ◌<◌, ◌≤◌, true};
-ghost use Rattle.std.specs.Prelude.{IfOk, IfErr, IfSome, IfNone};
+ghost use Rattle.std.specs.Prelude.{◌≡◌, ◌≢◌, ◌<◌, true};
+ghost use Rattle.std.specs.Prelude.{IfSome, IfNone};
 ghost use Rattle.std.specs.Prelude.{◌+◌, None, length};
 ghost use Rattle.reg_model.specs.SpanData.{IsSpan};
 ghost use Rattle.reg_model.specs.State.{IsFree};
 ghost use Rattle.tree_shape.specs.NodeData.{IsInFences, entries_of};
 ghost use Rattle.tree_shape.specs.Steps.{LiesAbove};
 ghost use Rattle.tree_shape.specs.declared.node.Frame.{Frame};
-ghost use Rattle.word_rule.specs.CallerData.{due, surplus};
+ghost use Rattle.word_rule.specs.CallerData.{surplus};
 ghost use Rattle.word_rule.specs.NodeTells.{IsLiveNode};
 ghost use Rattle.word_rule.specs.TreeRefusals.{HadNoRoom};
 ghost use Rattle.node_store.specs.Holding.{SpellsHeld};
-ghost use Rattle.node_store.specs.Locking.{FoundBusy};
 ghost use Rattle.btree_change.specs.Loads.{KeepsLoads};
 ghost use Rattle.btree_change.specs.Paths.{HoldsNothing, StepsOnNodes};
-ghost use Rattle.btree_change.specs.Insertion.{IfFull, RefusesMember};
+ghost use Rattle.btree_change.specs.Insertion.{IfFull, MayPut, RefusesMember};
 ghost use Rattle.btree_change.specs.Releases.{Spends};
-ghost use Rattle.btree_change.specs.Roots.{EndsInsertion, GivesUpWhole};
+ghost use Rattle.btree_change.specs.Roots.{EndsInsertion, EndsPart};
 ghost use Rattle.btree_change.specs.Spines.{HoldsLeafPair};
 ghost use Rattle.btree_change.specs.Stands.{HasCause};
 ghost use Rattle.btree_change.specs.Far.{HoldsFar, IsAtNext, IsReadyFar, StandsFar, releases_far};
@@ -131,14 +130,9 @@ fn put_far<L: Locking>(
     member: &Member,
     far: Far,
 ) -> Inserted
-    requires table { me.old.table ≡ words.now.table }
-    requires terms { me.old.log.terms ≡ words.now.terms }
-    requires loader { me.old.log.loader ≡ None }
+    requires call { MayPut words.now member.now (releases_far far) me.old }
     requires ready { IsReadyFar words.now.terms member.now far me.old.log.holdings }
     requires span { IsSpan member.now.span }
-    requires due { 0 < due me.old }
-    requires surplus { releases_far far ≤ surplus me.old }
-    requires payload { member.now.payload < words.now.terms.payloads }
     ensures answer { EndsInsertion words.now.terms member.now result (releases_far far)
         me.old me.new }
     ensures never_full { IfFull result ⊥ }
@@ -162,14 +156,9 @@ fn at_next<L: Locking>(
     member: &Member,
     next: Next,
 ) -> Inserted
-    requires table { me.old.table ≡ words.now.table }
-    requires terms { me.old.log.terms ≡ words.now.terms }
-    requires loader { me.old.log.loader ≡ None }
+    requires call { MayPut words.now member.now (releases_far next.far) me.old }
     requires at { IsAtNext words.now.terms member.now next me.old.log }
     requires span { IsSpan member.now.span }
-    requires due { 0 < due me.old }
-    requires surplus { releases_far next.far ≤ surplus me.old }
-    requires payload { member.now.payload < words.now.terms.payloads }
     ensures answer { EndsInsertion words.now.terms member.now result (releases_far next.far)
         me.old me.new }
     ensures full { IfFull result
@@ -194,22 +183,13 @@ pub(crate) fn beyond_leaf<L: Locking>(
     member: &Member,
     far: Far,
 ) -> Result<Inserted, Busy>
-    requires table { me.old.table ≡ words.now.table }
-    requires terms { me.old.log.terms ≡ words.now.terms }
+    requires call { MayPut words.now member.now (releases_far far) me.old }
     requires stands { StandsFar words.now.terms member.now far me.old.log }
     requires level { far.leaf.content.level ≡ 0 }
     requires free { IsFree member.now.span (entries_of far.leaf.content) }
     requires span { IsSpan member.now.span }
-    requires due { 0 < due me.old }
-    requires surplus { releases_far far ≤ surplus me.old }
-    requires payload { member.now.payload < words.now.terms.payloads }
-    ensures answer { IfOk result (λ answer. EndsInsertion words.now.terms member.now answer
-        (releases_far far) me.old me.new) }
-    ensures full { IfOk result (λ answer. IfFull answer
-        (HasCause far.room member.now.span.first me.old me.new)) }
-    ensures busy { IfErr result (λ e. GivesUpWhole (releases_far far) e me.old me.new
-        × (L.gives_up ≡ true)) }
-    ensures cause { IfErr result (λ e. FoundBusy e me.old me.new) }
+    ensures { EndsPart words.now.terms member.now (releases_far far) far.room L.gives_up
+        me.old me.new result }
 {
     match next_leaf(locking, words, me, &far.leaf, &far.beyond) {
         Ok(right) => Ok(at_next(locking, words, me, member, Next { far, right })),

@@ -4,12 +4,10 @@ ghost use Rattle.reg_model.specs.SpanData.{IsSpan};
 ghost use Rattle.word_rule.specs.CallerData.{due, surplus};
 ghost use Rattle.word_rule.specs.Callers.{IsIdle};
 ghost use Rattle.word_rule.specs.Places.{CALL_CREDIT};
-ghost use Rattle.node_store.specs.Locking.{FoundBusy};
 ghost use Rattle.btree_change.specs.BySight.{HoldsFor};
-ghost use Rattle.btree_change.specs.Insertion.{AnswersInsertion, IfFull, Inserts};
-ghost use Rattle.btree_change.specs.Loads.{FoundNoRoom};
+ghost use Rattle.btree_change.specs.Insertion.{AnswersInsertion, Inserts, MayPut};
 ghost use Rattle.btree_change.specs.Paths.{HoldsNothing};
-ghost use Rattle.btree_change.specs.Roots.{EndsInsertion, GivesUpWhole};
+ghost use Rattle.btree_change.specs.Roots.{EndsPart};
 ghost use Rattle.btree_change.specs.Updates.{GivesUp};
 
 use crate::by_sight::{Request, hold_by_sight};
@@ -30,21 +28,12 @@ fn at_seen<L: Locking>(
     member: &Member,
     at: Held,
 ) -> Result<Inserted, Busy>
-    requires table { me.old.table ≡ words.now.table }
-    requires terms { me.old.log.terms ≡ words.now.terms }
+    requires call { MayPut words.now member.now CALL_CREDIT me.old }
     requires held { HoldsFor words.now.terms
         (Request.Insertion member.now.span.first member.now.span.last) at me.old.log.holdings }
-    requires loader { me.old.log.loader ≡ None }
     requires span { IsSpan member.now.span }
-    requires due { 0 < due me.old }
-    requires surplus { 64 ≤ surplus me.old }
-    requires payload { member.now.payload < words.now.terms.payloads }
-    ensures answer { IfOk result (λ answer. EndsInsertion words.now.terms member.now answer 64
-        me.old me.new) }
-    ensures full { IfOk result (λ answer. IfFull answer
-        (FoundNoRoom member.now.span.first me.old me.new)) }
-    ensures busy { IfErr result (λ e. GivesUpWhole 64 e me.old me.new × (L.gives_up ≡ true)) }
-    ensures cause { IfErr result (λ e. FoundBusy e me.old me.new) }
+    ensures { EndsPart words.now.terms member.now CALL_CREDIT Room.Splitting L.gives_up
+        me.old me.new result }
 {
     let stand = Stand {
         at,

@@ -7,9 +7,8 @@ ghost use Rattle.tree_shape.specs.NodeData.{InOrder, IsInFences, IsLeaf, entries
 ghost use Rattle.reg_model.specs.declared.span.Member.{Member};
 ghost use Rattle.node_store.specs.Holding.{SpellsHeld};
 ghost use Rattle.node_store.specs.Outlines.{OnlyLoads};
-ghost use Rattle.word_rule.specs.CallerData.{due};
 ghost use Rattle.word_rule.specs.TreeRefusals.{HadNoRoom};
-ghost use Rattle.btree_change.specs.Insertion.{IfFull, PutsMember, RefusesMember};
+ghost use Rattle.btree_change.specs.Insertion.{IfFull, MayPut, PutsMember, RefusesMember};
 ghost use Rattle.btree_change.specs.Loads.{KeepsLoads};
 ghost use Rattle.btree_change.specs.Removing.{HoldsAlone};
 ghost use Rattle.btree_change.specs.Stands.{StandsAt};
@@ -31,22 +30,18 @@ pub(crate) fn put_in_leaf(
     leaf: &Node,
     member: &Member,
 ) -> u32
-    requires table { me.old.table ≡ words.now.table }
-    requires terms { me.old.log.terms ≡ words.now.terms }
+    requires call { MayPut words.now member.now 0 me.old }
     requires leaf { (changed : Bool) × HoldsAlone words.now.terms (record {
       node = node;
       content = leaf.now;
       changed = changed;
     }) me.old.log.holdings }
-    requires loader { me.old.log.loader ≡ None }
     requires level { leaf.now.level ≡ 0 }
     requires span { IsSpan member.now.span }
     requires low { leaf.now.low ≤ member.now.span.first }
     requires high { member.now.span.last ≤ leaf.now.high }
     requires room { length (entries_of leaf.now) < ENTRIES }
     requires free { IsFree member.now.span (entries_of leaf.now) }
-    requires due { 0 < due me.old }
-    requires payload { member.now.payload < words.now.terms.payloads }
     ensures { PutsMember words.now.terms member.now node result me.old me.new }
 {
     laws::put();
@@ -61,10 +56,8 @@ pub(crate) fn put_in_leaf(
 /// Puts a member into a leaf that is held, in which it has room and overlaps nothing, and commits
 /// it: its number. The leaf's words are loaded and stored from the member's place on alone.
 pub(crate) fn put_in_held(words: &Words, me: &mut Caller, leaf: &Held, placed: &Placed) -> u32
-    requires table { me.old.table ≡ words.now.table }
-    requires terms { me.old.log.terms ≡ words.now.terms }
+    requires call { MayPut words.now placed.now.member 0 me.old }
     requires leaf { HoldsAlone words.now.terms leaf.now me.old.log.holdings }
-    requires loader { me.old.log.loader ≡ None }
     requires level { leaf.now.content.level ≡ 0 }
     requires span { IsSpan placed.now.member.span }
     requires low { leaf.now.content.low ≤ placed.now.member.span.first }
@@ -74,8 +67,6 @@ pub(crate) fn put_in_held(words: &Words, me: &mut Caller, leaf: &Held, placed: &
     requires place { placed.now.place
         ≡ place_for placed.now.member.span.first (entries_of leaf.now.content) }
     requires few { placed.now.place ≤ length (entries_of leaf.now.content) }
-    requires due { 0 < due me.old }
-    requires payload { placed.now.member.payload < words.now.terms.payloads }
     ensures { PutsMember words.now.terms placed.now.member leaf.now.node result me.old
         me.new }
 {

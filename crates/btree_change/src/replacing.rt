@@ -5,7 +5,7 @@ ghost use Rattle.reg_model.specs.State.{at_span};
 ghost use Rattle.tree_shape.specs.NodeData.{InOrder, IsInFences, IsLeaf, entries_of};
 ghost use Rattle.node_store.specs.Holding.{SpellsHeld};
 ghost use Rattle.node_store.specs.Outlines.{OnlyLoads};
-ghost use Rattle.word_rule.specs.CallerData.{due};
+ghost use Rattle.btree_change.specs.Insertion.{MayPut};
 ghost use Rattle.btree_change.specs.Removing.{HoldsAlone};
 ghost use Rattle.btree_change.specs.Replacement.{RefusesReplacement, ReplacesMember};
 
@@ -59,17 +59,13 @@ pub(crate) fn none_with(words: &Words, me: &mut Caller, leaf: &Held, member: &Me
 /// Stores a member's payload in a held leaf, where another one has its whole span with another
 /// payload, and commits that: its number.
 fn with_payload(words: &Words, me: &mut Caller, leaf: &Held, member: &Member, old: &Member) -> u32
-    requires table { me.old.table ≡ words.now.table }
-    requires terms { me.old.log.terms ≡ words.now.terms }
+    requires call { MayPut words.now member.now 0 me.old }
     requires alone { HoldsAlone words.now.terms leaf.now me.old.log.holdings }
     requires level { leaf.now.content.level ≡ 0 }
     requires here { IsInFences member.now.span.first leaf.now.content }
     requires held { at_span member.now.span (entries_of leaf.now.content) ≡ Some old.now }
     requires other { old.now.payload ≢ member.now.payload }
     requires span { IsSpan member.now.span }
-    requires due { 0 < due me.old }
-    requires loader { me.old.log.loader ≡ None }
-    requires payload { member.now.payload < words.now.terms.payloads }
     ensures { ReplacesMember words.now.terms member.now leaf.now.node old.now.payload result true
         me.old me.new }
 {
@@ -86,16 +82,12 @@ fn with_payload(words: &Words, me: &mut Caller, leaf: &Held, member: &Member, ol
 
 /// Commits the replacement of a member by itself, for which nothing is stored: its number.
 fn as_it_was(words: &Words, me: &mut Caller, leaf: &Held, member: &Member) -> u32
-    requires table { me.old.table ≡ words.now.table }
-    requires terms { me.old.log.terms ≡ words.now.terms }
+    requires call { MayPut words.now member.now 0 me.old }
     requires alone { HoldsAlone words.now.terms leaf.now me.old.log.holdings }
     requires level { leaf.now.content.level ≡ 0 }
     requires here { IsInFences member.now.span.first leaf.now.content }
     requires held { at_span member.now.span (entries_of leaf.now.content) ≡ Some member.now }
     requires span { IsSpan member.now.span }
-    requires due { 0 < due me.old }
-    requires loader { me.old.log.loader ≡ None }
-    requires payload { member.now.payload < words.now.terms.payloads }
     ensures { ReplacesMember words.now.terms member.now leaf.now.node member.now.payload result
         leaf.now.changed me.old me.new }
 {
@@ -116,16 +108,12 @@ pub(crate) fn replace_in_leaf(
     member: &Member,
     old: &Member,
 ) -> (u32, bool)
-    requires table { me.old.table ≡ words.now.table }
-    requires terms { me.old.log.terms ≡ words.now.terms }
+    requires call { MayPut words.now member.now 0 me.old }
     requires alone { HoldsAlone words.now.terms leaf.now me.old.log.holdings }
     requires level { leaf.now.content.level ≡ 0 }
     requires here { IsInFences member.now.span.first leaf.now.content }
     requires held { at_span member.now.span (entries_of leaf.now.content) ≡ Some old.now }
     requires span { IsSpan member.now.span }
-    requires due { 0 < due me.old }
-    requires loader { me.old.log.loader ≡ None }
-    requires payload { member.now.payload < words.now.terms.payloads }
     ensures { ReplacesMember words.now.terms member.now leaf.now.node old.now.payload result.0
         result.1 me.old me.new }
 {

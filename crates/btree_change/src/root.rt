@@ -1,11 +1,9 @@
 //! An insertion at the root, which is lifted where it is full.
-ghost use Rattle.std.specs.Prelude.{◌≡◌, ◌-◌, ◌^◌, ◌<◌, ◌≤◌, true, IfOk, IfErr, None};
+ghost use Rattle.std.specs.Prelude.{◌≡◌, ◌-◌, ◌^◌, ◌<◌, None};
 ghost use Rattle.reg_model.specs.SpanData.{IsSpan};
-ghost use Rattle.word_rule.specs.CallerData.{due, surplus};
-ghost use Rattle.btree_change.specs.Insertion.{IfFull};
-ghost use Rattle.btree_change.specs.Loads.{FoundNoRoom};
-ghost use Rattle.node_store.specs.Locking.{FoundBusy};
-ghost use Rattle.btree_change.specs.Roots.{EndsInsertion, GivesUpWhole};
+ghost use Rattle.word_rule.specs.Places.{CALL_CREDIT};
+ghost use Rattle.btree_change.specs.Insertion.{MayPut};
+ghost use Rattle.btree_change.specs.Roots.{EndsPart};
 ghost use Rattle.tree_shape.specs.Steps.{IsFull};
 ghost use Rattle.btree_change.specs.Splits.{HoldsFullRoot};
 ghost use Rattle.btree_change.specs.Stands.{HoldsRoot};
@@ -26,21 +24,12 @@ fn lifted<L: Locking>(
     member: &Member,
     full: FullRoot,
 ) -> Result<Inserted, Busy>
-    requires table { me.old.table ≡ words.now.table }
-    requires terms { me.old.log.terms ≡ words.now.terms }
+    requires call { MayPut words.now member.now 39 me.old }
     requires held { HoldsFullRoot words.now.terms full member.now.span.first me.old.log.holdings }
-    requires loader { me.old.log.loader ≡ None }
     requires high { full.root.content.high ≡ 2 ^ 64 - 1 }
     requires span { IsSpan member.now.span }
-    requires due { 0 < due me.old }
-    requires surplus { 39 ≤ surplus me.old }
-    requires payload { member.now.payload < words.now.terms.payloads }
-    ensures answer { IfOk result (λ answer. EndsInsertion words.now.terms member.now answer 39
-        me.old me.new) }
-    ensures full { IfOk result (λ answer. IfFull answer
-        (FoundNoRoom member.now.span.first me.old me.new)) }
-    ensures busy { IfErr result (λ e. GivesUpWhole 39 e me.old me.new × (L.gives_up ≡ true)) }
-    ensures cause { IfErr result (λ e. FoundBusy e me.old me.new) }
+    ensures { EndsPart words.now.terms member.now 39 Room.Splitting L.gives_up
+        me.old me.new result }
 {
     let split = lift(locking, words, me, &full, member.span.first());
     let step = Step {
@@ -61,21 +50,12 @@ fn at_full_root<L: Locking>(
     member: &Member,
     root: Held,
 ) -> Result<Inserted, Busy>
-    requires table { me.old.table ≡ words.now.table }
-    requires terms { me.old.log.terms ≡ words.now.terms }
+    requires call { MayPut words.now member.now CALL_CREDIT me.old }
     requires root { HoldsRoot words.now.terms root me.old.log.holdings }
-    requires loader { me.old.log.loader ≡ None }
     requires full { IsFull root.content.body }
     requires span { IsSpan member.now.span }
-    requires due { 0 < due me.old }
-    requires surplus { 64 ≤ surplus me.old }
-    requires payload { member.now.payload < words.now.terms.payloads }
-    ensures answer { IfOk result (λ answer. EndsInsertion words.now.terms member.now answer 64
-        me.old me.new) }
-    ensures full { IfOk result (λ answer. IfFull answer
-        (FoundNoRoom member.now.span.first me.old me.new)) }
-    ensures busy { IfErr result (λ e. GivesUpWhole 64 e me.old me.new × (L.gives_up ≡ true)) }
-    ensures cause { IfErr result (λ e. FoundBusy e me.old me.new) }
+    ensures { EndsPart words.now.terms member.now CALL_CREDIT Room.Splitting L.gives_up
+        me.old me.new result }
 {
     match room_for_root(locking, words, me, &root, member.span.first()) {
         Ok(Some(two)) => {
@@ -109,20 +89,11 @@ pub(crate) fn at_held_root<L: Locking>(
     member: &Member,
     root: Held,
 ) -> Result<Inserted, Busy>
-    requires table { me.old.table ≡ words.now.table }
-    requires terms { me.old.log.terms ≡ words.now.terms }
+    requires call { MayPut words.now member.now CALL_CREDIT me.old }
     requires root { HoldsRoot words.now.terms root me.old.log.holdings }
-    requires loader { me.old.log.loader ≡ None }
     requires span { IsSpan member.now.span }
-    requires due { 0 < due me.old }
-    requires surplus { 64 ≤ surplus me.old }
-    requires payload { member.now.payload < words.now.terms.payloads }
-    ensures answer { IfOk result (λ answer. EndsInsertion words.now.terms member.now answer 64
-        me.old me.new) }
-    ensures full { IfOk result (λ answer. IfFull answer
-        (FoundNoRoom member.now.span.first me.old me.new)) }
-    ensures busy { IfErr result (λ e. GivesUpWhole 64 e me.old me.new × (L.gives_up ≡ true)) }
-    ensures cause { IfErr result (λ e. FoundBusy e me.old me.new) }
+    ensures { EndsPart words.now.terms member.now CALL_CREDIT Room.Splitting L.gives_up
+        me.old me.new result }
 {
     if is_full(&root) {
         return at_full_root(locking, words, me, member, root);

@@ -1,12 +1,10 @@
 //! The way of an insertion from where it stands down to its leaf, and its answer there.
-ghost use Rattle.std.specs.Prelude.{◌≡◌, ◌<◌, ◌≤◌, true, IfOk, IfErr, None, length};
+ghost use Rattle.std.specs.Prelude.{◌≡◌, ◌<◌, ◌≤◌, true, None, length};
 ghost use Rattle.reg_model.specs.SpanData.{IsSpan};
 ghost use Rattle.reg_model.specs.State.{IsFree};
 ghost use Rattle.tree_shape.specs.NodeData.{entries_of, place_for};
-ghost use Rattle.word_rule.specs.CallerData.{due, surplus};
-ghost use Rattle.node_store.specs.Locking.{FoundBusy};
-ghost use Rattle.btree_change.specs.Insertion.{IfFull};
-ghost use Rattle.btree_change.specs.Roots.{EndsInsertion, GivesUpWhole};
+ghost use Rattle.btree_change.specs.Insertion.{IfFull, MayPut};
+ghost use Rattle.btree_change.specs.Roots.{EndsInsertion, EndsPart};
 ghost use Rattle.btree_change.specs.Stands.{HasCause, StandsOnWay, releases_from};
 
 use crate::beyond::{Far, beyond_leaf};
@@ -27,8 +25,7 @@ fn in_place<L: Locking>(
     leaf: &Held,
     room: Room,
 ) -> Inserted
-    requires table { me.old.table ≡ words.now.table }
-    requires terms { me.old.log.terms ≡ words.now.terms }
+    requires call { MayPut words.now placed.now.member 1 me.old }
     requires stands { StandsOnWay words.now.terms placed.now.member
         (record { at = leaf.now; beyond = None; room = room }) me.old.log }
     requires level { leaf.now.content.level ≡ 0 }
@@ -37,9 +34,6 @@ fn in_place<L: Locking>(
         ≡ place_for placed.now.member.span.first (entries_of leaf.now.content) }
     requires few { placed.now.place ≤ length (entries_of leaf.now.content) }
     requires span { IsSpan placed.now.member.span }
-    requires due { 0 < due me.old }
-    requires surplus { 0 < surplus me.old }
-    requires payload { placed.now.member.payload < words.now.terms.payloads }
     ensures answer { EndsInsertion words.now.terms placed.now.member result 1 me.old me.new }
     ensures full { IfFull result (HasCause room placed.now.member.span.first me.old me.new) }
 {
@@ -65,8 +59,7 @@ fn in_free_leaf<L: Locking>(
     placed: &Placed,
     stand: Stand,
 ) -> Result<Inserted, Busy>
-    requires table { me.old.table ≡ words.now.table }
-    requires terms { me.old.log.terms ≡ words.now.terms }
+    requires call { MayPut words.now placed.now.member (releases_from stand) me.old }
     requires stands { StandsOnWay words.now.terms placed.now.member stand me.old.log }
     requires level { stand.at.content.level ≡ 0 }
     requires free { IsFree placed.now.member.span (entries_of stand.at.content) }
@@ -74,16 +67,8 @@ fn in_free_leaf<L: Locking>(
         ≡ place_for placed.now.member.span.first (entries_of stand.at.content) }
     requires few { placed.now.place ≤ length (entries_of stand.at.content) }
     requires span { IsSpan placed.now.member.span }
-    requires due { 0 < due me.old }
-    requires surplus { releases_from stand ≤ surplus me.old }
-    requires payload { placed.now.member.payload < words.now.terms.payloads }
-    ensures answer { IfOk result (λ answer. EndsInsertion words.now.terms placed.now.member answer
-        (releases_from stand) me.old me.new) }
-    ensures full { IfOk result (λ answer. IfFull answer
-        (HasCause stand.room placed.now.member.span.first me.old me.new)) }
-    ensures busy { IfErr result (λ e. GivesUpWhole (releases_from stand) e me.old me.new
-        × (L.gives_up ≡ true)) }
-    ensures cause { IfErr result (λ e. FoundBusy e me.old me.new) }
+    ensures { EndsPart words.now.terms placed.now.member (releases_from stand) stand.room L.gives_up
+        me.old me.new result }
 {
     let Stand { at, beyond, room } = stand;
     match beyond {
@@ -107,21 +92,12 @@ fn in_leaf<L: Locking>(
     member: &Member,
     stand: Stand,
 ) -> Result<Inserted, Busy>
-    requires table { me.old.table ≡ words.now.table }
-    requires terms { me.old.log.terms ≡ words.now.terms }
+    requires call { MayPut words.now member.now (releases_from stand) me.old }
     requires stands { StandsOnWay words.now.terms member.now stand me.old.log }
     requires level { stand.at.content.level ≡ 0 }
     requires span { IsSpan member.now.span }
-    requires due { 0 < due me.old }
-    requires surplus { releases_from stand ≤ surplus me.old }
-    requires payload { member.now.payload < words.now.terms.payloads }
-    ensures answer { IfOk result (λ answer. EndsInsertion words.now.terms member.now answer
-        (releases_from stand) me.old me.new) }
-    ensures full { IfOk result (λ answer. IfFull answer
-        (HasCause stand.room member.now.span.first me.old me.new)) }
-    ensures busy { IfErr result (λ e. GivesUpWhole (releases_from stand) e me.old me.new
-        × (L.gives_up ≡ true)) }
-    ensures cause { IfErr result (λ e. FoundBusy e me.old me.new) }
+    ensures { EndsPart words.now.terms member.now (releases_from stand) stand.room L.gives_up
+        me.old me.new result }
 {
     let first = member.span.first();
     let begun = begun_in(words, me, stand.at.node, &stand.at.content, first);
@@ -148,20 +124,11 @@ pub(crate) fn below<L: Locking>(
     member: &Member,
     stand: Stand,
 ) -> Result<Inserted, Busy>
-    requires table { me.old.table ≡ words.now.table }
-    requires terms { me.old.log.terms ≡ words.now.terms }
+    requires call { MayPut words.now member.now (releases_from stand) me.old }
     requires stands { StandsOnWay words.now.terms member.now stand me.old.log }
     requires span { IsSpan member.now.span }
-    requires due { 0 < due me.old }
-    requires surplus { releases_from stand ≤ surplus me.old }
-    requires payload { member.now.payload < words.now.terms.payloads }
-    ensures answer { IfOk result (λ answer. EndsInsertion words.now.terms member.now answer
-        (releases_from stand) me.old me.new) }
-    ensures full { IfOk result (λ answer. IfFull answer
-        (HasCause stand.room member.now.span.first me.old me.new)) }
-    ensures busy { IfErr result (λ e. GivesUpWhole (releases_from stand) e me.old me.new
-        × (L.gives_up ≡ true)) }
-    ensures cause { IfErr result (λ e. FoundBusy e me.old me.new) }
+    ensures { EndsPart words.now.terms member.now (releases_from stand) stand.room L.gives_up
+        me.old me.new result }
 {
     let mut stand = stand;
     while stand.at.content.level() > 0 {

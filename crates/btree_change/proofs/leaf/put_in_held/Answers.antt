@@ -8,7 +8,7 @@ use Rattle.btree_change.proofs.NodeSteps.{steps_then}
 use Rattle.btree_change.proofs.leaf.put_in_held.Goals as goal
 
 pub put_in_place-requires-clause-table : goal.put_in_place-requires-clause-table
-put_in_place-requires-clause-table c = ap (λ (z : CallerData). z.table) c.load_node.ensures.log ∙ c.requires.table
+put_in_place-requires-clause-table c = ap (λ (z : CallerData). z.table) c.load_node.ensures.log ∙ c.requires.call.table
 
 pub put_in_place-requires-clause-may : goal.put_in_place-requires-clause-may
 put_in_place-requires-clause-may c = may_put_there c.args.words.now.terms c.args.leaf.now c.args.me.now c.load_node.new.me c.load_node.new.me c.load_node.result c.requires.leaf c.requires.level c.load_node.ensures.tree c.load_node.ensures.log (no_loads c.load_node.new.me)
@@ -29,7 +29,7 @@ commit-requires-clause-due c =
     let now_tree = still_tree t at k k0 k1 found c.requires.leaf c.requires.level tree load loads in
     let written = written_there t at k k0 k1 found c.requires.leaf c.requires.level tree load loads m c.args.placed.now.place k2 place c.put_in_place.ensures.stores c.put_in_place.ensures.spells in
     let steps = steps_then k k1 k2 (steps_there t at k k0 k1 found c.requires.leaf c.requires.level tree load loads) written.same in
-    let some : 0 < due k2 = subst (λ d. 0 < d) (sym (λ i. (steps.budget i).allowance - steps.calls.caller.left i)) c.requires.due in
+    let some : 0 < due k2 = subst (λ d. 0 < d) (sym (λ i. (steps.budget i).allowance - steps.calls.caller.left i)) c.requires.call.begun in
     some
 
 pub commit-requires-clause-may : goal.commit-requires-clause-may
@@ -42,8 +42,8 @@ commit-requires-clause-may c =
     let now_tree = still_tree t at k k0 k1 found c.requires.leaf c.requires.level tree load loads in
     let written = written_there t at k k0 k1 found c.requires.leaf c.requires.level tree load loads m c.args.placed.now.place k2 place c.put_in_place.ensures.stores c.put_in_place.ensures.spells in
     let steps = steps_then k k1 k2 (steps_there t at k k0 k1 found c.requires.leaf c.requires.level tree load loads) written.same in
-    let some : 0 < due k2 = subst (λ d. 0 < d) (sym (λ i. (steps.budget i).allowance - steps.calls.caller.left i)) c.requires.due in
-    may_put c.put.ensures.change (record { decided = c.exchange_decided.ensures; transfer = c.transfer.ensures.lawful; tests = c.transfer.ensures.tests }) t at m k k1 k2 path now_tree c.requires.level c.requires.low c.requires.high c.requires.span c.requires.room c.requires.free written (omega (arith, some)) c.requires.payload (steps.calls.caller.loader ∙ c.requires.loader)
+    let some : 0 < due k2 = subst (λ d. 0 < d) (sym (λ i. (steps.budget i).allowance - steps.calls.caller.left i)) c.requires.call.begun in
+    may_put c.put.ensures.change (record { decided = c.exchange_decided.ensures; transfer = c.transfer.ensures.lawful; tests = c.transfer.ensures.tests }) t at m k k1 k2 path now_tree c.requires.level c.requires.low c.requires.high c.requires.span c.requires.room c.requires.free written (omega (arith, some)) c.requires.call.payload (steps.calls.caller.loader ∙ c.requires.call.loader)
 
 pub returns : goal.returns
 returns c =
@@ -55,6 +55,6 @@ returns c =
     let now_tree = still_tree t at k k0 k1 found c.requires.leaf c.requires.level tree load loads in
     let written = written_there t at k k0 k1 found c.requires.leaf c.requires.level tree load loads m c.args.placed.now.place k2 place c.put_in_place.ensures.stores c.put_in_place.ensures.spells in
     let steps = steps_then k k1 k2 (steps_there t at k k0 k1 found c.requires.leaf c.requires.level tree load loads) written.same in
-    let some : 0 < due k2 = subst (λ d. 0 < d) (sym (λ i. (steps.budget i).allowance - steps.calls.caller.left i)) c.requires.due in
+    let some : 0 < due k2 = subst (λ d. 0 < d) (sym (λ i. (steps.budget i).allowance - steps.calls.caller.left i)) c.requires.call.begun in
     let log = c.commit.ensures.log in
     put_so c.put.ensures.change (record { decided = c.exchange_decided.ensures; transfer = c.transfer.ensures.lawful; tests = c.transfer.ensures.tests }) t at m k k1 k2 path now_tree c.requires.level c.requires.low c.requires.high c.requires.span c.requires.room c.requires.free written c.commit.new.me log.0 c.commit.result steps log.1 c.commit.ensures.number c.commit.ensures.rest

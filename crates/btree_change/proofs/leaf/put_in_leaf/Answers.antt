@@ -21,7 +21,7 @@ commit-requires-clause-due c =
     let now : NodeData = record s { body = Entries (with_entry m (entries_of s)) } in
     let written = rewritten_so now n path.lock [] [] k1 k2 (λ e. omega (arith, e)) path.here.node tt tt path.held (subst (λ z. StoresHeld n z k1 k2) c.put_entry.ensures c.write_held.ensures.stores) (subst (λ z. SpellsHeld n z k2.log) c.put_entry.ensures c.write_held.ensures.spells) in
     let steps = steps_then k k1 k2 (steps_of_load n 5 c.load_node.result k k1 c.load_node.ensures.log) written.same in
-    let some : 0 < due k2 = subst (λ d. 0 < d) (sym (λ i. (steps.budget i).allowance - steps.calls.caller.left i)) c.requires.due in
+    let some : 0 < due k2 = subst (λ d. 0 < d) (sym (λ i. (steps.budget i).allowance - steps.calls.caller.left i)) c.requires.call.begun in
     some
 
 pub commit-requires-clause-may : goal.commit-requires-clause-may
@@ -34,8 +34,8 @@ commit-requires-clause-may c =
     let now : NodeData = record s { body = Entries (with_entry m (entries_of s)) } in
     let written = rewritten_so now n path.lock [] [] k1 k2 (λ e. omega (arith, e)) path.here.node tt tt path.held (subst (λ z. StoresHeld n z k1 k2) c.put_entry.ensures c.write_held.ensures.stores) (subst (λ z. SpellsHeld n z k2.log) c.put_entry.ensures c.write_held.ensures.spells) in
     let steps = steps_then k k1 k2 (steps_of_load n 5 c.load_node.result k k1 c.load_node.ensures.log) written.same in
-    let some : 0 < due k2 = subst (λ d. 0 < d) (sym (λ i. (steps.budget i).allowance - steps.calls.caller.left i)) c.requires.due in
-    may_put c.put.ensures.change (record { decided = c.exchange_decided.ensures; transfer = c.transfer.ensures.lawful; tests = c.transfer.ensures.tests }) t (record { node = n; content = s; changed = b }) m k k1 k2 path tree c.requires.level c.requires.low c.requires.high c.requires.span c.requires.room c.requires.free written (omega (arith, some)) c.requires.payload (steps.calls.caller.loader ∙ c.requires.loader)
+    let some : 0 < due k2 = subst (λ d. 0 < d) (sym (λ i. (steps.budget i).allowance - steps.calls.caller.left i)) c.requires.call.begun in
+    may_put c.put.ensures.change (record { decided = c.exchange_decided.ensures; transfer = c.transfer.ensures.lawful; tests = c.transfer.ensures.tests }) t (record { node = n; content = s; changed = b }) m k k1 k2 path tree c.requires.level c.requires.low c.requires.high c.requires.span c.requires.room c.requires.free written (omega (arith, some)) c.requires.call.payload (steps.calls.caller.loader ∙ c.requires.call.loader)
 
 pub returns : goal.returns
 returns c =
@@ -47,6 +47,6 @@ returns c =
     let now : NodeData = record s { body = Entries (with_entry m (entries_of s)) } in
     let written = rewritten_so now n path.lock [] [] k1 k2 (λ e. omega (arith, e)) path.here.node tt tt path.held (subst (λ z. StoresHeld n z k1 k2) c.put_entry.ensures c.write_held.ensures.stores) (subst (λ z. SpellsHeld n z k2.log) c.put_entry.ensures c.write_held.ensures.spells) in
     let steps = steps_then k k1 k2 (steps_of_load n 5 c.load_node.result k k1 c.load_node.ensures.log) written.same in
-    let some : 0 < due k2 = subst (λ d. 0 < d) (sym (λ i. (steps.budget i).allowance - steps.calls.caller.left i)) c.requires.due in
+    let some : 0 < due k2 = subst (λ d. 0 < d) (sym (λ i. (steps.budget i).allowance - steps.calls.caller.left i)) c.requires.call.begun in
     let log = c.commit.ensures.log in
     put_so c.put.ensures.change (record { decided = c.exchange_decided.ensures; transfer = c.transfer.ensures.lawful; tests = c.transfer.ensures.tests }) t (record { node = n; content = s; changed = b }) m k k1 k2 path tree c.requires.level c.requires.low c.requires.high c.requires.span c.requires.room c.requires.free written c.commit.new.me log.0 c.commit.result steps log.1 c.commit.ensures.number c.commit.ensures.rest

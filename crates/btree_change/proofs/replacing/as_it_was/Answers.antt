@@ -7,7 +7,7 @@ use Rattle.btree_change.proofs.TakingThere.{cut_alone, cut_leaf, cut_steps, cut_
 use Rattle.btree_change.proofs.replacing.as_it_was.Goals as goal
 
 pub commit-requires-clause-table : goal.commit-requires-clause-table
-commit-requires-clause-table c = ap (λ (z : CallerData). z.table) c.load_node.ensures.log ∙ c.requires.table
+commit-requires-clause-table c = ap (λ (z : CallerData). z.table) c.load_node.ensures.log ∙ c.requires.call.table
 
 pub commit-requires-clause-due : goal.commit-requires-clause-due
 commit-requires-clause-due c =
@@ -21,7 +21,7 @@ commit-requires-clause-due c =
     let written = unwritten t at (paid_leaf m at.content) k1 now_alone (paid_leaf_same m at.content leaf order c.requires.held) in
     let steps = cut_steps t at k k1 found alone load in
     let laws : LeafLaws = record { decided = c.exchange_decided.ensures; transfer = c.transfer.ensures.lawful; tests = c.transfer.ensures.tests } in
-    subst (λ d. 0 < d) (sym (λ i. (steps.budget i).allowance - steps.calls.caller.left i)) c.requires.due
+    subst (λ d. 0 < d) (sym (λ i. (steps.budget i).allowance - steps.calls.caller.left i)) c.requires.call.begun
 
 pub commit-requires-clause-may : goal.commit-requires-clause-may
 commit-requires-clause-may c =
@@ -35,8 +35,8 @@ commit-requires-clause-may c =
     let written = unwritten t at (paid_leaf m at.content) k1 now_alone (paid_leaf_same m at.content leaf order c.requires.held) in
     let steps = cut_steps t at k k1 found alone load in
     let laws : LeafLaws = record { decided = c.exchange_decided.ensures; transfer = c.transfer.ensures.lawful; tests = c.transfer.ensures.tests } in
-    let some : 0 < due k1 = subst (λ d. 0 < d) (sym (λ i. (steps.budget i).allowance - steps.calls.caller.left i)) c.requires.due in
-    may_replace c.replace.ensures laws t at m m k k1 k1 now_alone tree leaf c.requires.level c.requires.here c.requires.held written (omega (arith, some)) (c.requires.span, c.requires.payload) (steps.calls.caller.loader ∙ c.requires.loader)
+    let some : 0 < due k1 = subst (λ d. 0 < d) (sym (λ i. (steps.budget i).allowance - steps.calls.caller.left i)) c.requires.call.begun in
+    may_replace c.replace.ensures laws t at m m k k1 k1 now_alone tree leaf c.requires.level c.requires.here c.requires.held written (omega (arith, some)) (c.requires.span, c.requires.call.payload) (steps.calls.caller.loader ∙ c.requires.call.loader)
 
 pub returns : goal.returns
 returns c =
@@ -51,4 +51,4 @@ returns c =
     let steps = cut_steps t at k k1 found alone load in
     let laws : LeafLaws = record { decided = c.exchange_decided.ensures; transfer = c.transfer.ensures.lawful; tests = c.transfer.ensures.tests } in
     let log = c.commit.ensures.log in
-    replace_so c.replace.ensures laws t at m m k k1 k1 now_alone tree leaf c.requires.level c.requires.here c.requires.held written c.commit.new.me log.0 c.commit.result at.changed (unwritten_stored t at (paid_leaf m at.content) k1 now_alone (paid_leaf_same m at.content leaf order c.requires.held)) steps c.requires.terms log.1 c.commit.ensures.number c.commit.ensures.rest
+    replace_so c.replace.ensures laws t at m m k k1 k1 now_alone tree leaf c.requires.level c.requires.here c.requires.held written c.commit.new.me log.0 c.commit.result at.changed (unwritten_stored t at (paid_leaf m at.content) k1 now_alone (paid_leaf_same m at.content leaf order c.requires.held)) steps c.requires.call.terms log.1 c.commit.ensures.number c.commit.ensures.rest

@@ -11,7 +11,7 @@ use Rattle.btree_change.proofs.NodeSteps.{steps_then}
 use Rattle.btree_change.proofs.replacing.with_payload.Goals as goal
 
 pub read_held-content-requires-clause-table : goal.read_held-content-requires-clause-table
-read_held-content-requires-clause-table c = ap (λ (z : CallerData). z.table) c.load_node.ensures.log ∙ c.requires.table
+read_held-content-requires-clause-table c = ap (λ (z : CallerData). z.table) c.load_node.ensures.log ∙ c.requires.call.table
 
 pub read_held-content-requires-clause-held : goal.read_held-content-requires-clause-held
 read_held-content-requires-clause-held c =
@@ -52,7 +52,7 @@ write_held-requires-clause-table c =
     let found = c.load_node.result in let content = c.read_held-content.result in let alone = c.requires.alone in let load = c.load_node.ensures.log in
     let reads = c.read_held-content.ensures.reads in let same = c.read_held-content.ensures.holdings in
     let leaf = cut_leaf t at k k1 found alone load c.requires.level in
-    (read_steps t at m k k1 k2 found content alone load reads same).calls.caller.table ∙ c.requires.table
+    (read_steps t at m k k1 k2 found content alone load reads same).calls.caller.table ∙ c.requires.call.table
 
 pub write_held-requires-clause-may : goal.write_held-requires-clause-may
 write_held-requires-clause-may c =
@@ -74,7 +74,7 @@ commit-requires-clause-table c =
     let tree = read_tree t at m k k1 k2 found content alone load reads same c.load_node.ensures.tree in
     let written = read_written t at m k k1 k2 found content alone load reads same k3 c.replace_entry.result c.replace_entry.ensures c.write_held.ensures.stores c.write_held.ensures.spells in
     let steps = steps_then k k2 k3 (read_steps t at m k k1 k2 found content alone load reads same) written.same in
-    steps.calls.caller.table ∙ c.requires.table
+    steps.calls.caller.table ∙ c.requires.call.table
 
 pub commit-requires-clause-due : goal.commit-requires-clause-due
 commit-requires-clause-due c =
@@ -87,7 +87,7 @@ commit-requires-clause-due c =
     let tree = read_tree t at m k k1 k2 found content alone load reads same c.load_node.ensures.tree in
     let written = read_written t at m k k1 k2 found content alone load reads same k3 c.replace_entry.result c.replace_entry.ensures c.write_held.ensures.stores c.write_held.ensures.spells in
     let steps = steps_then k k2 k3 (read_steps t at m k k1 k2 found content alone load reads same) written.same in
-    subst (λ d. 0 < d) (sym (λ i. (steps.budget i).allowance - steps.calls.caller.left i)) c.requires.due
+    subst (λ d. 0 < d) (sym (λ i. (steps.budget i).allowance - steps.calls.caller.left i)) c.requires.call.begun
 
 pub commit-requires-clause-may : goal.commit-requires-clause-may
 commit-requires-clause-may c =
@@ -100,8 +100,8 @@ commit-requires-clause-may c =
     let tree = read_tree t at m k k1 k2 found content alone load reads same c.load_node.ensures.tree in
     let written = read_written t at m k k1 k2 found content alone load reads same k3 c.replace_entry.result c.replace_entry.ensures c.write_held.ensures.stores c.write_held.ensures.spells in
     let steps = steps_then k k2 k3 (read_steps t at m k k1 k2 found content alone load reads same) written.same in
-    let some : 0 < due k3 = subst (λ d. 0 < d) (sym (λ i. (steps.budget i).allowance - steps.calls.caller.left i)) c.requires.due in
-    may_replace c.replace.ensures (record { decided = c.exchange_decided.ensures; transfer = c.transfer.ensures.lawful; tests = c.transfer.ensures.tests }) t at m old k k2 k3 now_alone tree leaf c.requires.level c.requires.here c.requires.held written (omega (arith, some)) (c.requires.span, c.requires.payload) (steps.calls.caller.loader ∙ c.requires.loader)
+    let some : 0 < due k3 = subst (λ d. 0 < d) (sym (λ i. (steps.budget i).allowance - steps.calls.caller.left i)) c.requires.call.begun in
+    may_replace c.replace.ensures (record { decided = c.exchange_decided.ensures; transfer = c.transfer.ensures.lawful; tests = c.transfer.ensures.tests }) t at m old k k2 k3 now_alone tree leaf c.requires.level c.requires.here c.requires.held written (omega (arith, some)) (c.requires.span, c.requires.call.payload) (steps.calls.caller.loader ∙ c.requires.call.loader)
 
 pub returns : goal.returns
 returns c =
@@ -116,4 +116,4 @@ returns c =
     let steps = steps_then k k2 k3 (read_steps t at m k k1 k2 found content alone load reads same) written.same in
     let laws : LeafLaws = record { decided = c.exchange_decided.ensures; transfer = c.transfer.ensures.lawful; tests = c.transfer.ensures.tests } in
     let log = c.commit.ensures.log in
-    replace_so c.replace.ensures laws t at m old k k2 k3 now_alone tree leaf c.requires.level c.requires.here c.requires.held written c.commit.new.me log.0 c.commit.result true (written.stored at.content now_alone.here.spells (differs c.replace.ensures laws t at m old k k2 k3 now_alone tree leaf c.requires.level c.requires.here c.requires.held written c.requires.other)) steps c.requires.terms log.1 c.commit.ensures.number c.commit.ensures.rest
+    replace_so c.replace.ensures laws t at m old k k2 k3 now_alone tree leaf c.requires.level c.requires.here c.requires.held written c.commit.new.me log.0 c.commit.result true (written.stored at.content now_alone.here.spells (differs c.replace.ensures laws t at m old k k2 k3 now_alone tree leaf c.requires.level c.requires.here c.requires.held written c.requires.other)) steps c.requires.call.terms log.1 c.commit.ensures.number c.commit.ensures.rest

@@ -1,9 +1,10 @@
-use Rattle.std.proofs.Common.{subst, sym, true, ◌∙◌}
+use Rattle.std.proofs.Common.{arith, subst, sym, true, ◌∙◌}
 use Rattle.reg_model.specs.declared.answer.Inserted.TheVariants as inserted
 use Rattle.btree_change.specs.Stands.{HasCause, HasWayOn}
 use Rattle.btree_change.proofs.Answering.{here_ends, here_lowest, here_surplus, holds_leaf, leaf_room, put_here, refused_here}
 use Rattle.btree_change.proofs.NoRoom.{any_full, cause_still}
 use Rattle.btree_change.proofs.Releasing.{lowest_may}
+use Rattle.btree_change.proofs.Spending.{may_still, spends_all}
 use Rattle.btree_change.proofs.walk.in_place.Goals as goal
 
 pub full_here-answer-requires-clause-stands : goal.full_here-answer-requires-clause-stands
@@ -22,7 +23,7 @@ pub let_go_of-requires-clause-inside : goal.let_go_of-requires-clause-inside
 let_go_of-requires-clause-inside g c = c.requires.stands.at.within
 
 pub let_go_of-requires-clause-table : goal.let_go_of-requires-clause-table
-let_go_of-requires-clause-table g c = c.full_here-answer.ensures.refused.call.caller.table ∙ c.requires.table
+let_go_of-requires-clause-table g c = c.full_here-answer.ensures.refused.call.caller.table ∙ c.requires.call.table
 
 pub let_go_of-requires-clause-may : goal.let_go_of-requires-clause-may
 let_go_of-requires-clause-may g c =
@@ -32,7 +33,7 @@ let_go_of-requires-clause-may g c =
 pub let_go_of-requires-clause-surplus : goal.let_go_of-requires-clause-surplus
 let_go_of-requires-clause-surplus g c =
     let t = c.args.words.now.terms in let m = c.args.placed.now.member in let leaf = c.args.leaf.now in let k = c.args.me.now in let k1 = c.full_here-answer.new.me in
-    here_surplus t m leaf.node c.full_here-answer.result leaf.changed k k1 (refused_here t m leaf k (holds_leaf t m leaf c.args.room k.log c.requires.stands) c.full_here-answer.result k1 c.full_here-answer.ensures.refused) 1 c.requires.surplus
+    here_surplus t m leaf.node c.full_here-answer.result leaf.changed k k1 (refused_here t m leaf k (holds_leaf t m leaf c.args.room k.log c.requires.stands) c.full_here-answer.result k1 c.full_here-answer.ensures.refused) 1 c.requires.call.spare
 
 pub returns-in-NoneFree-clause-answer : goal.returns-in-NoneFree-clause-answer
 returns-in-NoneFree-clause-answer g c =
@@ -46,9 +47,6 @@ returns-in-NoneFree-clause-full g c =
 
 pub put_in_held-number-requires-clause-leaf : goal.put_in_held-number-requires-clause-leaf
 put_in_held-number-requires-clause-leaf g c = holds_leaf c.args.words.now.terms c.args.placed.now.member c.args.leaf.now c.args.room c.args.me.now.log c.requires.stands
-
-pub put_in_held-number-requires-clause-loader : goal.put_in_held-number-requires-clause-loader
-put_in_held-number-requires-clause-loader g c = c.requires.stands.loader
 
 pub put_in_held-number-requires-clause-low : goal.put_in_held-number-requires-clause-low
 put_in_held-number-requires-clause-low g c = c.requires.stands.here.0
@@ -70,9 +68,12 @@ let_go_of-requires-in-Splitting-clause-may g c =
 pub let_go_of-requires-in-Splitting-clause-surplus : goal.let_go_of-requires-in-Splitting-clause-surplus
 let_go_of-requires-in-Splitting-clause-surplus g c =
     let t = c.args.words.now.terms in let m = c.args.placed.now.member in let n = c.args.leaf.now.node in let k = c.args.me.now in let k1 = c.put_in_held-number.new.me in let number = c.put_in_held-number.result in
-    here_surplus t m n (inserted.Done number) true k k1 (put_here t m n number k k1 c.put_in_held-number.ensures) 1 c.requires.surplus
+    here_surplus t m n (inserted.Done number) true k k1 (put_here t m n number k k1 c.put_in_held-number.ensures) 1 c.requires.call.spare
 
 pub returns-in-Splitting-clause-answer : goal.returns-in-Splitting-clause-answer
 returns-in-Splitting-clause-answer g c =
     let t = c.args.words.now.terms in let m = c.args.placed.now.member in let n = c.args.leaf.now.node in let k = c.args.me.now in let k1 = c.put_in_held-number.new.me in let number = c.put_in_held-number.result in
     here_ends t m n (inserted.Done number) true k k1 (put_here t m n number k k1 c.put_in_held-number.ensures) c.let_go_of-in-Splitting.new.me c.let_go_of-in-Splitting.ensures
+
+pub put_in_held-number-requires-clause-call : goal.put_in_held-number-requires-clause-call
+put_in_held-number-requires-clause-call g c = let k = c.args.me.now in may_still c.args.words.now c.args.placed.now.member 0 1 0 k k (omega arith) (spends_all 0 k) c.requires.call
