@@ -35,6 +35,7 @@ use Rattle.btree_change.proofs.Lowering.{settled_live}
 use Rattle.btree_change.proofs.NoRoom.{if_full, no_room_after}
 use Rattle.btree_change.proofs.Releasing.{IsLowest, left_above}
 use Rattle.btree_change.proofs.Spending.{answers_so, more_spent, right_after, spends_after, spends_one, spends_same, steps_after}
+use Rattle.word_rule.specs.Places.{CALL_CREDIT}
 
 -- the root alone is where an insertion stands
 abbrev pub root_stands : (t : Terms) (root : Held) (holdings : Holdings) → HoldsRoot t root holdings → StandsAt t root holdings
@@ -168,15 +169,15 @@ pub ends_part : (t : Terms) (m : Member) (a b c : ℕ) (way later : Room) (gives
 ends_part t m a b c way later gives_up k l n (Ok answer) sum s cause (e, full) = (ends_after t m answer a b c k l n sum s e, if_full answer cause full)
 ends_part t m a b c way later gives_up k l n (Err why) sum s cause (g, up, found) = (gives_up_after a b c why k l n sum s g, up, found_after why k l n s.loads found)
 
-pub update_answered : (t : Terms) (m : Member) (answer : Inserted) (k l n : CallerData) → StepsOnNodes k l → EndsInsertion t m answer 64 l n → IfFull answer (FoundNoRoom m.span.first l n) → AnswersInsertion t m answer k n
+pub update_answered : (t : Terms) (m : Member) (answer : Inserted) (k l n : CallerData) → StepsOnNodes k l → EndsInsertion t m answer CALL_CREDIT l n → IfFull answer (FoundNoRoom m.span.first l n) → AnswersInsertion t m answer k n
 update_answered t m answer k l n same e full =
-    let all = ends_after t m answer 0 64 64 k l n (omega arith) (spends_same k l same) e in record {
+    let all = ends_after t m answer 0 CALL_CREDIT CALL_CREDIT k l n (omega arith) (spends_same k l same) e in record {
       right = all.right;
       cause = if_full answer (no_room_after m.span.first k l n (ap (λ r. r.own) same.calls.receipts) same.loads) full;
-      call = answers_so (receipt.Register m answer) (taken_by answer) 64 k n (omega arith) all.call all.nothing;
+      call = answers_so (receipt.Register m answer) (taken_by answer) CALL_CREDIT k n (omega arith) all.call all.nothing;
     }
 
-gives_so : (why : Busy) (most : ℕ) (k n : CallerData) → most ≤ 64 → FoundBusy why k n → GivesUpWhole most why k n → GivesUp why k n
+gives_so : (why : Busy) (most : ℕ) (k n : CallerData) → most ≤ CALL_CREDIT → FoundBusy why k n → GivesUpWhole most why k n → GivesUp why k n
 gives_so why most k n few cause g = record {
   cause = cause;
   calls = g.steps.calls;
@@ -185,8 +186,8 @@ gives_so why most k n few cause g = record {
   nothing = g.nothing;
 }
 
-pub update_given_up : (why : Busy) (k l n : CallerData) → StepsOnNodes k l → FoundBusy why l n → GivesUpWhole 64 why l n → GivesUp why k n
-update_given_up why k l n same cause g = gives_so why 64 k n (omega arith) (found_after why k l n same.loads cause) (gives_up_after 0 64 64 why k l n (omega arith) (spends_same k l same) g)
+pub update_given_up : (why : Busy) (k l n : CallerData) → StepsOnNodes k l → FoundBusy why l n → GivesUpWhole CALL_CREDIT why l n → GivesUp why k n
+update_given_up why k l n same cause g = gives_so why CALL_CREDIT k n (omega arith) (found_after why k l n same.loads cause) (gives_up_after 0 CALL_CREDIT CALL_CREDIT why k l n (omega arith) (spends_same k l same) g)
 
 pub root_busy : (why : Busy) (k l : CallerData) → StepsOnNodes k l → FoundBusy why k l → HoldsNothing l.log.holdings → GivesUp why k l
 root_busy why k l same cause nothing = gives_so why 0 k l (omega arith) cause (record { steps = spends_same k l same; nothing = nothing_left why l.log.holdings nothing })
@@ -202,9 +203,9 @@ root_lowest t root k k1 h kept = record {
   apart = (tt, tt);
 }
 
-pub root_gone : (t : Terms) (root : Held) (why : Busy) (k k1 k2 : CallerData) → HoldsRoot t root k.log.holdings → KeepsHeld k k1 → IsLeftOut why k1.log.holdings.out → LetsGo root.node k1 k2 → GivesUpWhole 64 why k k2
+pub root_gone : (t : Terms) (root : Held) (why : Busy) (k k1 k2 : CallerData) → HoldsRoot t root k.log.holdings → KeepsHeld k k1 → IsLeftOut why k1.log.holdings.out → LetsGo root.node k1 k2 → GivesUpWhole CALL_CREDIT why k k2
 root_gone t root why k k1 k2 h kept left goes = record {
-  steps = steps_after 1 1 64 k k1 k2 (omega arith) (kept_steps k k1 kept) goes.steps;
+  steps = steps_after 1 1 CALL_CREDIT k k1 k2 (omega arith) (kept_steps k k1 kept) goes.steps;
   nothing = (left_above root.node root.changed k1 k2 (root_lowest t root k k1 h kept) goes ∙ ap (drop 1) (kept.held ∙ h.held), subst (IsLeftOut why) (sym goes.out) left);
 }
 
@@ -221,11 +222,11 @@ if_err P Q (Ok a) f p = tt
 if_err P Q (Err e) f p = f e p
 
 -- the whole of an insertion, by how its part ends after steps that took no release
-pub answered_so : (t : Terms) (m : Member) (gives_up : Bool) (k l n : CallerData) (r : Result Inserted Busy) → StepsOnNodes k l → EndsPart t m 64 room.Splitting gives_up l n r → IfOk r (λ answer. AnswersInsertion t m answer k n)
+pub answered_so : (t : Terms) (m : Member) (gives_up : Bool) (k l n : CallerData) (r : Result Inserted Busy) → StepsOnNodes k l → EndsPart t m CALL_CREDIT room.Splitting gives_up l n r → IfOk r (λ answer. AnswersInsertion t m answer k n)
 answered_so t m gives_up k l n (Ok answer) same (e, full) = update_answered t m answer k l n same e full
 answered_so t m gives_up k l n (Err why) same e = tt
 
-pub given_up_so : (t : Terms) (m : Member) (gives_up : Bool) (k l n : CallerData) (r : Result Inserted Busy) → StepsOnNodes k l → EndsPart t m 64 room.Splitting gives_up l n r → IfErr r (λ why. GivesUp why k n × (gives_up ≡ true))
+pub given_up_so : (t : Terms) (m : Member) (gives_up : Bool) (k l n : CallerData) (r : Result Inserted Busy) → StepsOnNodes k l → EndsPart t m CALL_CREDIT room.Splitting gives_up l n r → IfErr r (λ why. GivesUp why k n × (gives_up ≡ true))
 given_up_so t m gives_up k l n (Ok answer) same e = tt
 given_up_so t m gives_up k l n (Err why) same (g, up, found) = (update_given_up why k l n same found g, up)
 

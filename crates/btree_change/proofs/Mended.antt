@@ -24,6 +24,7 @@ use Rattle.btree_change.proofs.Spending.{spends_same, steps_after, surplus_steps
 use Rattle.btree_change.proofs.HeldLists.{found_head}
 use Rattle.btree_change.proofs.Descents.{steps_of_load}
 use Rattle.btree_change.proofs.NodeSteps.{steps_so}
+use Rattle.word_rule.specs.Places.{CALL_CREDIT}
 
 -- the only lock is let go of
 pub without_one : (n : ℕ) (h : Holding) → h.node ≡ n → without_lock n (h ∷ []) ≡ []
@@ -87,7 +88,7 @@ pub loaded_none : (n at found : ℕ) (k k' : CallerData) → k' ≡ record k { l
 loaded_none n at found k k' is = spends_same k k' (steps_of_load n at found k k' is)
 
 pub surplus_kept : (k k' : CallerData) → StepsOnNodes k k' → surplus k' ≡ surplus k
-surplus_kept k k' s = (λ i. (s.budget i).credit - 64 * s.calls.caller.left i)
+surplus_kept k k' s = (λ i. (s.budget i).credit - CALL_CREDIT * s.calls.caller.left i)
 
 -- the right one of two joined children is given back
 module _ (t : Terms) (x : Siblings) (k : CallerData) (gone : HoldsGone t x k.log.holdings) where

@@ -30,6 +30,7 @@ use Rattle.btree_change.proofs.WrittenSpines.{in_mid}
 use Rattle.btree_change.proofs.HeldLists.{found_head}
 use Rattle.btree_change.proofs.NodeSteps.{calls_so}
 use Rattle.word_rule.proofs.CallersKept.{kept_calls_on}
+use Rattle.word_rule.specs.Places.{CALL_CREDIT}
 
 pub loads_of_release : (n : ℕ) (k k' : CallerData) → k' ≡ record k { log = after_node_release n k.log } → KeepsLoads k k'
 loads_of_release n k k' is = keeps_none k k' (ap (λ (z : CallerData). z.log.trace.loads) is ∙ go (is_lawful k.log None))
@@ -131,7 +132,7 @@ module _ (t : Terms) (n level : ℕ) (k : CallerData) (p : IsPending t n level k
     steps1 = steps_of_read n k k1 shape reads
 
     pub surplus_below : level < surplus k → level - 1 < surplus k1
-    surplus_below enough = (let b = ap (λ (z : Budget). z.credit) steps1.budget in let l = steps1.calls.caller.left in let e = ap (λ z. 64 * z) l in omega (arith, enough, b, e))
+    surplus_below enough = (let b = ap (λ (z : Budget). z.credit) steps1.budget in let l = steps1.calls.caller.left in let e = ap (λ z. CALL_CREDIT * z) l in omega (arith, enough, b, e))
 
     pub pending_below : (child : ℕ) → child ≡ first_child 0 (pairs_of shape) → IsPending t child (level - 1) k1.log.holdings
     pending_below child e = record {
@@ -160,7 +161,7 @@ module _ (t : Terms) (n level : ℕ) (k : CallerData) (p : IsPending t n level k
       top_calls = kept_calls_on steps1.calls gone.calls
 
       pub top_surplus : level < surplus k → 0 < surplus k2
-      top_surplus enough = (let b = ap (λ (z : Budget). z.credit) steps1.budget in let c = ap (λ (z : Budget). z.credit) gone.budget in let l = ap (λ z. 64 * z) top_calls.caller.left in omega (arith, enough, b, c, l, some))
+      top_surplus enough = (let b = ap (λ (z : Budget). z.credit) steps1.budget in let c = ap (λ (z : Budget). z.credit) gone.budget in let l = ap (λ z. CALL_CREDIT * z) top_calls.caller.left in omega (arith, enough, b, c, l, some))
 
       pub top_table : k2.table ≡ k.table
       top_table = top_calls.caller.table

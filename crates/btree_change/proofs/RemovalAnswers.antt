@@ -32,6 +32,7 @@ use Rattle.btree_change.proofs.Joining.{spare_of}
 use Rattle.btree_change.proofs.Releases.{lock_gone}
 use Rattle.btree_change.proofs.Rooted.{surplus_left}
 use Rattle.btree_change.proofs.Spending.{accepted_call, answers_so, refused_call, spends_after, spends_before, spends_same, steps_after, surplus_steps}
+use Rattle.word_rule.specs.Places.{CALL_CREDIT}
 
 not_small : (b : Body) → is_small_body b ≡ false → IsSpareAs b
 not_small (Pairs pairs) e = let l = ltb-false (length pairs) 7 e in omega (arith, l)
@@ -96,11 +97,11 @@ pub read_spends : (k k1 k2 : CallerData) → Spends 24 k k1 → StepsOnNodes k1 
 read_spends k k1 k2 down steps = steps_after 24 0 24 k k1 k2 (omega arith) down (spends_same k1 k2 steps)
 
 -- releases are left to let go of the way
-pub surplus_refused : (t : Terms) (base : ℕ) (answer : Removed) (k k1 k2 : CallerData) → Spends 24 k k1 → 64 ≤ surplus k → RefusesBase t base answer k1 k2 → 0 < surplus k2
-surplus_refused t base answer k k1 k2 down most refuses = let left = surplus_left 24 k k1 down most (omega arith) in let a = ap (λ z. z.credit) refuses.call.budget in let b : 64 * k2.left ≡ 64 * k1.left = ap (λ z. 64 * z) refuses.call.caller.left in omega (arith, left, a, b)
+pub surplus_refused : (t : Terms) (base : ℕ) (answer : Removed) (k k1 k2 : CallerData) → Spends 24 k k1 → CALL_CREDIT ≤ surplus k → RefusesBase t base answer k1 k2 → 0 < surplus k2
+surplus_refused t base answer k k1 k2 down most refuses = let left = surplus_left 24 k k1 down most (omega arith) in let a = ap (λ z. z.credit) refuses.call.budget in let b : CALL_CREDIT * k2.left ≡ CALL_CREDIT * k1.left = ap (λ z. CALL_CREDIT * z) refuses.call.caller.left in omega (arith, left, a, b)
 
-pub surplus_taken : (t : Terms) (base n number : ℕ) (m : Member) (k k1 k2 : CallerData) → Spends 24 k k1 → 64 ≤ surplus k → TakesMember t base n number m k1 k2 → 0 < surplus k2
-surplus_taken t base n number m k k1 k2 down most takes = let left = surplus_left 24 k k1 down most (omega arith) in let a = ap (λ z. z.credit) takes.call.budget in let b : 64 * k2.left ≡ 64 * k1.left = ap (λ z. 64 * z) takes.call.caller.left in omega (arith, left, a, b)
+pub surplus_taken : (t : Terms) (base n number : ℕ) (m : Member) (k k1 k2 : CallerData) → Spends 24 k k1 → CALL_CREDIT ≤ surplus k → TakesMember t base n number m k1 k2 → 0 < surplus k2
+surplus_taken t base n number m k k1 k2 down most takes = let left = surplus_left 24 k k1 down most (omega arith) in let a = ap (λ z. z.credit) takes.call.budget in let b : CALL_CREDIT * k2.left ≡ CALL_CREDIT * k1.left = ap (λ z. CALL_CREDIT * z) takes.call.caller.left in omega (arith, left, a, b)
 
 -- a node that left the tree was lost: what is left once its parent was let go of
 pub left_over : (x : Siblings) (why : Busy) (k k2 k3 : CallerData) → LeavesParent x why k k2 → LetsGo x.above.node k2 k3 → HoldsLeftOver why k3.log.holdings

@@ -16,6 +16,7 @@ use Rattle.btree_change.specs.declared.sibling.Siblings.{Siblings}
 use Rattle.btree_change.specs.Releases.{Spends}
 use Rattle.btree_change.proofs.Neighbouring.{some_pairs}
 use Rattle.btree_change.proofs.Lowering.{settled_live}
+use Rattle.word_rule.specs.Places.{CALL_CREDIT}
 
 pub root_alone : (t : Terms) (at : Held) (holdings : Holdings) → HoldsRoot t at holdings → HoldsAlone t at holdings
 root_alone t at holdings r = record {
@@ -61,5 +62,5 @@ joins_spare t x holdings hs spare more =
     spare_pairs x.above.node x.above.content spare (filled_pairs x.above.node x.above.content own.1.1.filled (omega (arith, two))) (λ z. (let ne = more z in omega (arith, two, ne)))
 
 -- releases that are left after some were used
-pub surplus_left : (n : ℕ) (k k' : CallerData) → Spends n k k' → 64 ≤ surplus k → n ≤ 30 → 2 < surplus k'
-surplus_left n k k' s most few = let l : 64 * k'.left ≡ 64 * k.left = ap (λ z. 64 * z) s.calls.caller.left in let c = s.credit in omega (arith, l, c, most, few)
+pub surplus_left : (n : ℕ) (k k' : CallerData) → Spends n k k' → CALL_CREDIT ≤ surplus k → n ≤ 30 → 2 < surplus k'
+surplus_left n k k' s most few = let l : CALL_CREDIT * k'.left ≡ CALL_CREDIT * k.left = ap (λ z. CALL_CREDIT * z) s.calls.caller.left in let c = s.credit in omega (arith, l, c, most, few)

@@ -25,6 +25,7 @@ use Rattle.btree_change.specs.Updates.{AcceptsUpdate, AnswersUpdate, RefusesUpda
 use Rattle.btree_change.proofs.Loading.{keeps_all, keeps_then}
 use Rattle.word_rule.proofs.CallersKept.{kept_caller_on, kept_calls, kept_calls_on}
 use Rattle.btree_change.proofs.NodeSteps.{calls_so}
+use Rattle.word_rule.specs.Places.{CALL_CREDIT}
 
 -- one part after another, of which the first answers nothing
 pub spends_after : (a b c : ℕ) (more : List Receipt) (taken : ℕ) (k l m : CallerData) → a + b ≤ c → Spends a k l → SpendsCall more taken b l m → SpendsCall more taken c k m
@@ -63,7 +64,7 @@ accepted_call r leaf changed k l p = record {
 }
 
 -- an update was answered, and nothing is held any more
-pub answers_so : (r : Receipt) (taken most : ℕ) (k l : CallerData) → most ≤ 64 → SpendsCall (r ∷ []) taken most k l → HoldsNothing l.log.holdings → AnswersUpdate r taken k l
+pub answers_so : (r : Receipt) (taken most : ℕ) (k l : CallerData) → most ≤ CALL_CREDIT → SpendsCall (r ∷ []) taken most k l → HoldsNothing l.log.holdings → AnswersUpdate r taken k l
 answers_so r taken most k l few p nothing = record {
   caller = p.caller;
   receipts = p.receipts;

@@ -13,6 +13,7 @@ use Rattle.btree_change.proofs.NextLeaves.{after_inside, may_read_next, top_abov
 use Rattle.btree_change.proofs.RaisedFences.{content_inner, may_store_top, moves_fence, pending, settled_by, spines3, steps_top, top_most, wrote_so}
 use Rattle.btree_change.proofs.WrittenSpines.{loads_of_write}
 use Rattle.btree_change.proofs.NodeSteps.{steps_then}
+use Rattle.word_rule.specs.Places.{CALL_CREDIT}
 use Rattle.btree_change.proofs.fence.raise_fence.Goals as goal
 
 -- the tree that a load told of
@@ -69,7 +70,7 @@ pub settle_spine-requires-clause-spine : goal.settle_spine-requires-clause-spine
 settle_spine-requires-clause-spine g c = pending c.args.words.now.terms c.args.above.now.node c.args.above.now.slot c.args.fence c.args.me.now c.requires.next.0 (tree_at c.args.me.now c.read_held-content.new.me c.read_held-content.ensures.holdings c.load_node.ensures.tree) c.requires.next.1 c.requires.next.2 c.requires.next.3 c.read_held-content.new.me c.load_node.new.me c.read_held-content.result c.read_held-content.ensures.reads (ap (λ (z : CallerData). z.log.holdings) c.load_node.ensures.log ∙ c.read_held-content.ensures.holdings) c.write_held.new.me c.set_separator-raised.result c.set_separator-raised.ensures c.write_held.ensures.stores c.write_held.ensures.spells c.write_spines.new.me (wrote_so c.args.words.now.terms c.args.above.now.node c.args.above.now.slot c.args.fence c.args.me.now c.requires.next.0 (tree_at c.args.me.now c.read_held-content.new.me c.read_held-content.ensures.holdings c.load_node.ensures.tree) c.requires.next.1 c.requires.next.2 c.requires.next.3 c.read_held-content.new.me c.load_node.new.me c.read_held-content.result c.read_held-content.ensures.reads (ap (λ (z : CallerData). z.log.holdings) c.load_node.ensures.log ∙ c.read_held-content.ensures.holdings) c.write_held.new.me c.set_separator-raised.result c.set_separator-raised.ensures c.write_held.ensures.stores c.write_held.ensures.spells c.pair_at-left.result c.pair_after-right.result c.pair_at-left.ensures c.pair_after-right.ensures c.level_below-level.result c.level_below-level.ensures c.write_spines.new.me c.write_spines.ensures.writes) c.move_fence.ensures.change (record { decided = c.exchange_decided.ensures; transfer = c.transfer.ensures.lawful; reached = c.transfer.ensures.reached; widen = c.widen.ensures.lawful; wider = c.widen.ensures.reached }) c.pair_after-right.result c.pair_after-right.ensures c.level_below-level.result c.level_below-level.ensures
 
 pub settle_spine-requires-clause-surplus : goal.settle_spine-requires-clause-surplus
-settle_spine-requires-clause-surplus g c = (let steps = (steps_then c.args.me.now c.write_held.new.me c.write_spines.new.me (steps_then c.args.me.now c.load_node.new.me c.write_held.new.me (steps2 c.args.above.now.node c.load_node.result c.read_held-content.result c.args.me.now c.read_held-content.new.me c.load_node.new.me c.read_held-content.ensures.reads c.load_node.ensures.log) (steps_top c.args.words.now.terms c.args.above.now.node c.args.above.now.slot c.args.fence c.args.me.now c.requires.next.0 (tree_at c.args.me.now c.read_held-content.new.me c.read_held-content.ensures.holdings c.load_node.ensures.tree) c.requires.next.1 c.requires.next.2 c.requires.next.3 c.read_held-content.new.me c.load_node.new.me c.read_held-content.result c.read_held-content.ensures.reads (ap (λ (z : CallerData). z.log.holdings) c.load_node.ensures.log ∙ c.read_held-content.ensures.holdings) c.write_held.new.me c.set_separator-raised.result c.set_separator-raised.ensures c.write_held.ensures.stores c.write_held.ensures.spells)) c.write_spines.ensures.same) in let b = ap (λ (z : Budget). z.credit) steps.budget in let l = ap (λ z. 64 * z) steps.calls.caller.left in let m = top_most c.args.words.now.terms c.args.above.now.node c.args.above.now.slot c.args.fence c.args.me.now c.requires.next.0 (tree_at c.args.me.now c.read_held-content.new.me c.read_held-content.ensures.holdings c.load_node.ensures.tree) c.requires.next.1 c.requires.next.2 c.requires.next.3 in let e = ap (λ (s : NodeData). s.level) (top_is c.args.words.now.terms c.args.above.now.node c.args.above.now.slot c.args.me.now c.read_held-content.new.me c.requires.next.0 c.read_held-content.result c.read_held-content.ensures.reads) in let d = c.level_below-level.ensures in let s = c.requires.surplus in let u = c.requires.next.0.top in omega (arith, b, l, m, e, d, s, u))
+settle_spine-requires-clause-surplus g c = (let steps = (steps_then c.args.me.now c.write_held.new.me c.write_spines.new.me (steps_then c.args.me.now c.load_node.new.me c.write_held.new.me (steps2 c.args.above.now.node c.load_node.result c.read_held-content.result c.args.me.now c.read_held-content.new.me c.load_node.new.me c.read_held-content.ensures.reads c.load_node.ensures.log) (steps_top c.args.words.now.terms c.args.above.now.node c.args.above.now.slot c.args.fence c.args.me.now c.requires.next.0 (tree_at c.args.me.now c.read_held-content.new.me c.read_held-content.ensures.holdings c.load_node.ensures.tree) c.requires.next.1 c.requires.next.2 c.requires.next.3 c.read_held-content.new.me c.load_node.new.me c.read_held-content.result c.read_held-content.ensures.reads (ap (λ (z : CallerData). z.log.holdings) c.load_node.ensures.log ∙ c.read_held-content.ensures.holdings) c.write_held.new.me c.set_separator-raised.result c.set_separator-raised.ensures c.write_held.ensures.stores c.write_held.ensures.spells)) c.write_spines.ensures.same) in let b = ap (λ (z : Budget). z.credit) steps.budget in let l = ap (λ z. CALL_CREDIT * z) steps.calls.caller.left in let m = top_most c.args.words.now.terms c.args.above.now.node c.args.above.now.slot c.args.fence c.args.me.now c.requires.next.0 (tree_at c.args.me.now c.read_held-content.new.me c.read_held-content.ensures.holdings c.load_node.ensures.tree) c.requires.next.1 c.requires.next.2 c.requires.next.3 in let e = ap (λ (s : NodeData). s.level) (top_is c.args.words.now.terms c.args.above.now.node c.args.above.now.slot c.args.me.now c.read_held-content.new.me c.requires.next.0 c.read_held-content.result c.read_held-content.ensures.reads) in let d = c.level_below-level.ensures in let s = c.requires.surplus in let u = c.requires.next.0.top in omega (arith, b, l, m, e, d, s, u))
 
 pub returns-clause-moves : goal.returns-clause-moves
 returns-clause-moves g c next raised lies inside = moves_fence c.args.words.now.terms c.args.above.now.node c.args.above.now.slot c.args.fence c.args.me.now next (tree_at c.args.me.now c.read_held-content.new.me c.read_held-content.ensures.holdings c.load_node.ensures.tree) raised lies inside c.read_held-content.new.me c.load_node.new.me c.read_held-content.result c.read_held-content.ensures.reads (ap (λ (z : CallerData). z.log.holdings) c.load_node.ensures.log ∙ c.read_held-content.ensures.holdings) c.write_held.new.me c.set_separator-raised.result c.set_separator-raised.ensures c.write_held.ensures.stores c.write_held.ensures.spells c.write_spines.new.me (wrote_so c.args.words.now.terms c.args.above.now.node c.args.above.now.slot c.args.fence c.args.me.now next (tree_at c.args.me.now c.read_held-content.new.me c.read_held-content.ensures.holdings c.load_node.ensures.tree) raised lies inside c.read_held-content.new.me c.load_node.new.me c.read_held-content.result c.read_held-content.ensures.reads (ap (λ (z : CallerData). z.log.holdings) c.load_node.ensures.log ∙ c.read_held-content.ensures.holdings) c.write_held.new.me c.set_separator-raised.result c.set_separator-raised.ensures c.write_held.ensures.stores c.write_held.ensures.spells c.pair_at-left.result c.pair_after-right.result c.pair_at-left.ensures c.pair_after-right.ensures c.level_below-level.result c.level_below-level.ensures c.write_spines.new.me c.write_spines.ensures.writes) c.move_fence.ensures.change c.move_fence.ensures.kept (record { decided = c.exchange_decided.ensures; transfer = c.transfer.ensures.lawful; reached = c.transfer.ensures.reached; widen = c.widen.ensures.lawful; wider = c.widen.ensures.reached }) c.settle_spine.new.me c.level_below-level.result c.level_below-level.ensures (steps_then c.args.me.now c.write_held.new.me c.write_spines.new.me (steps_then c.args.me.now c.load_node.new.me c.write_held.new.me (steps2 c.args.above.now.node c.load_node.result c.read_held-content.result c.args.me.now c.read_held-content.new.me c.load_node.new.me c.read_held-content.ensures.reads c.load_node.ensures.log) (steps_top c.args.words.now.terms c.args.above.now.node c.args.above.now.slot c.args.fence c.args.me.now next (tree_at c.args.me.now c.read_held-content.new.me c.read_held-content.ensures.holdings c.load_node.ensures.tree) raised lies inside c.read_held-content.new.me c.load_node.new.me c.read_held-content.result c.read_held-content.ensures.reads (ap (λ (z : CallerData). z.log.holdings) c.load_node.ensures.log ∙ c.read_held-content.ensures.holdings) c.write_held.new.me c.set_separator-raised.result c.set_separator-raised.ensures c.write_held.ensures.stores c.write_held.ensures.spells)) c.write_spines.ensures.same)

@@ -6,6 +6,7 @@ use Rattle.btree_change.proofs.AtRoot.{answered_so, given_up_so, root_busy}
 use Rattle.btree_change.proofs.Loading.{found_after}
 use Rattle.btree_change.proofs.Spending.{may_still, spends_same}
 use Rattle.btree_change.proofs.NodeSteps.{steps_then}
+use Rattle.word_rule.specs.Places.{CALL_CREDIT}
 use Rattle.btree_change.proofs.insertion.insert_by.Goals as goal
 
 pub at_seen-requires-clause-held : goal.at_seen-requires-clause-held
@@ -30,12 +31,12 @@ returns-in_err-root-clause-busy g c =
 pub at_seen-requires-clause-call : goal.at_seen-requires-clause-call
 at_seen-requires-clause-call g c =
     let k = c.args.me.now in let k1 = c.hold_by_sight.new.me in
-    may_still c.args.words.now c.args.member 0 64 64 k k1 (omega arith) (spends_same k k1 c.hold_by_sight.ensures.same) (record { table = c.requires.table; terms = c.hold_by_sight.ensures.terms; loader = c.requires.idle.loader; payload = c.requires.payload; begun = c.requires.begun; spare = c.requires.surplus })
+    may_still c.args.words.now c.args.member 0 CALL_CREDIT CALL_CREDIT k k1 (omega arith) (spends_same k k1 c.hold_by_sight.ensures.same) (record { table = c.requires.table; terms = c.hold_by_sight.ensures.terms; loader = c.requires.idle.loader; payload = c.requires.payload; begun = c.requires.begun; spare = c.requires.surplus })
 
 pub at_held_root-requires-clause-call : goal.at_held_root-requires-clause-call
 at_held_root-requires-clause-call g c =
     let k = c.args.me.now in let k1 = c.hold_by_sight.new.me in let k2 = c.at_root.new.me in
-    may_still c.args.words.now c.args.member 0 64 64 k k2 (omega arith) (spends_same k k2 (steps_then k k1 k2 c.hold_by_sight.ensures.same c.in_ok-root.ensures.same)) (record { table = c.requires.table; terms = c.hold_by_sight.ensures.terms; loader = c.requires.idle.loader; payload = c.requires.payload; begun = c.requires.begun; spare = c.requires.surplus })
+    may_still c.args.words.now c.args.member 0 CALL_CREDIT CALL_CREDIT k k2 (omega arith) (spends_same k k2 (steps_then k k1 k2 c.hold_by_sight.ensures.same c.in_ok-root.ensures.same)) (record { table = c.requires.table; terms = c.hold_by_sight.ensures.terms; loader = c.requires.idle.loader; payload = c.requires.payload; begun = c.requires.begun; spare = c.requires.surplus })
 
 pub returns-in-Some-clause-answer : goal.returns-in-Some-clause-answer
 returns-in-Some-clause-answer g c = answered_so c.args.words.now.terms c.args.member g.L.Locking.gives_up c.args.me.now c.hold_by_sight.new.me c.at_seen.new.me c.at_seen.result c.hold_by_sight.ensures.same c.at_seen.ensures

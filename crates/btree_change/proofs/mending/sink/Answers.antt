@@ -10,6 +10,7 @@ use Rattle.btree_change.proofs.Outlining.{may_read}
 use Rattle.btree_change.proofs.Mended.{surplus_kept}
 use Rattle.btree_change.proofs.Sinking.{left_held, left_lost, left_lost_may, left_lost_surplus, left_ready, right_held, right_is_out, right_lost, right_ready, sinks_so}
 use Rattle.btree_change.proofs.NodeSteps.{steps_then}
+use Rattle.word_rule.specs.Places.{CALL_CREDIT}
 use Rattle.btree_change.proofs.mending.sink.Goals as goal
 
 pub content_of-left-requires-clause-spells : goal.content_of-left-requires-clause-spells
@@ -62,7 +63,7 @@ give_back-requires-2-clause-surplus g c =
     let read : StepsOnNodes k k4 = steps_then k k1 k4 (steps_of_load c.args.x.now.right.node 2 c.load_node.result k k1 c.load_node.ensures.log) (steps_then k1 k2 k4 c.content_of-left.ensures.steps (steps_then k2 k3 k4 c.content_of-right.ensures.steps c.content_of-root.ensures.steps)) in
     let k5 = c.sink_into_root.new.me in
     let kept = surplus_kept k k5 (steps_then k k4 k5 read c.sink_into_root.ensures.same) in let most = c.requires.surplus in
-    let left = ap (λ z. 64 * z) c.in_default.ensures.ok.spends.calls.caller.left in let credit = c.in_default.ensures.ok.spends.credit in omega (arith, kept, most, left, credit)
+    let left = ap (λ z. CALL_CREDIT * z) c.in_default.ensures.ok.spends.calls.caller.left in let credit = c.in_default.ensures.ok.spends.credit in omega (arith, kept, most, left, credit)
 
 pub outline_of-content-requires-clause-held : goal.outline_of-content-requires-clause-held
 outline_of-content-requires-clause-held g c =

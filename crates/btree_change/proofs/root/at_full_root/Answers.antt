@@ -9,6 +9,7 @@ use Rattle.btree_change.proofs.NoRoom.{no_room_after, no_room_now, no_room_still
 use Rattle.btree_change.proofs.Releasing.{lowest_may}
 use Rattle.btree_change.proofs.Rooted.{root_low}
 use Rattle.btree_change.proofs.Spending.{may_still, own_same, spends_same, surplus_steps}
+use Rattle.word_rule.specs.Places.{CALL_CREDIT}
 use Rattle.btree_change.proofs.root.at_full_root.Goals as goal
 
 pub room_for_root-requires-clause-held : goal.room_for_root-requires-clause-held
@@ -65,27 +66,27 @@ pub lifted-requires-clause-call : goal.lifted-requires-clause-call
 lifted-requires-clause-call g c =
     let k = c.args.me.now in let k1 = c.room_for_root.new.me in
     let took = subst (λ o. IsRoomForRoot g.L.Locking.gives_up c.args.root c.first.result k k1 (Ok o)) c.in-Ok-Some.field-0-is c.in-Ok-Some.ensures in
-    may_still c.args.words.now c.args.member.now 0 64 39 k k1 (omega arith) (spends_same k k1 took.1.same) c.requires.call
+    may_still c.args.words.now c.args.member.now 0 CALL_CREDIT 39 k k1 (omega arith) (spends_same k k1 took.1.same) c.requires.call
 
 pub below-requires-clause-call : goal.below-requires-clause-call
 below-requires-clause-call g c =
     let k = c.args.me.now in let root = c.args.root in let k1 = c.room_for_root.new.me in
     let none = subst (λ o. IsRoomForRoot g.L.Locking.gives_up root c.first.result k k1 (Ok o)) c.in-Ok-None.field-0-is c.in-Ok-None.ensures in
     let low = root_low c.args.words.now.terms root k.log.holdings c.requires.root in
-    may_still c.args.words.now c.args.member.now 1 64 (2 * root.content.level + 0 + 13) k k1 (omega (arith, low)) (kept_steps k k1 none.0) c.requires.call
+    may_still c.args.words.now c.args.member.now 1 CALL_CREDIT (2 * root.content.level + 0 + 13) k k1 (omega (arith, low)) (kept_steps k k1 none.0) c.requires.call
 
 pub returns-in-Ok-Some : goal.returns-in-Ok-Some
 returns-in-Ok-Some g c =
     let m = c.args.member.now in let first = m.span.first in let k = c.args.me.now in let k1 = c.room_for_root.new.me in let n = c.lifted.new.me in
     let took = subst (λ o. IsRoomForRoot g.L.Locking.gives_up c.args.root c.first.result k k1 (Ok o)) c.in-Ok-Some.field-0-is c.in-Ok-Some.ensures in
-    ends_part c.args.words.now.terms m 0 39 64 room.Splitting room.Splitting g.L.Locking.gives_up k k1 n c.lifted.result (omega arith) (spends_same k k1 took.1.same) (no_room_after first k k1 n (ap (λ r. r.own) took.1.same.calls.receipts) took.1.same.loads) c.lifted.ensures
+    ends_part c.args.words.now.terms m 0 39 CALL_CREDIT room.Splitting room.Splitting g.L.Locking.gives_up k k1 n c.lifted.result (omega arith) (spends_same k k1 took.1.same) (no_room_after first k k1 n (ap (λ r. r.own) took.1.same.calls.receipts) took.1.same.loads) c.lifted.ensures
 
 pub returns-in-Ok-None : goal.returns-in-Ok-None
 returns-in-Ok-None g c =
     let m = c.args.member.now in let first = m.span.first in let root = c.args.root in let k = c.args.me.now in let k1 = c.room_for_root.new.me in let n = c.below.new.me in
     let none = subst (λ o. IsRoomForRoot g.L.Locking.gives_up root c.first.result k k1 (Ok o)) c.in-Ok-None.field-0-is c.in-Ok-None.ensures in
     let low = root_low c.args.words.now.terms root k.log.holdings c.requires.root in
-    ends_part c.args.words.now.terms m 1 (2 * root.content.level + 0 + 13) 64 room.Splitting room.NoneFree g.L.Locking.gives_up k k1 n c.below.result (omega (arith, low)) (kept_steps k k1 none.0) (no_room_still first k k1 n (subst (λ p. FoundNoRoom p k k1) c.first.ensures.value none.1)) c.below.ensures
+    ends_part c.args.words.now.terms m 1 (2 * root.content.level + 0 + 13) CALL_CREDIT room.Splitting room.NoneFree g.L.Locking.gives_up k k1 n c.below.result (omega (arith, low)) (kept_steps k k1 none.0) (no_room_still first k k1 n (subst (λ p. FoundNoRoom p k k1) c.first.ensures.value none.1)) c.below.ensures
 
 pub returns-in-Err : goal.returns-in-Err
 returns-in-Err g c =
