@@ -3,6 +3,7 @@
 --     handle_own               what a handle owns at its machine value
 --     pointer                  that value, where it leads to something
 --     HandleType, handles_to   the type of what its handles lead to, the struct, and its two fields
+--     box_of                   a box of what its handles lead to
 --     row                      the struct's own row, by conversion where the struct is written out
 use mathlib.Core.Path.{◌≡◌}
 use mathlib.Core.List.{List, [], ◌∷◌}
@@ -55,6 +56,9 @@ pub record HandleType : Type 2 where
 abbrev pub handles_to : (R : RattleType) → Laws R → (S : Owning) (fields : S.D → Ptr × Option R.Denot) (made : Ptr → Option R.Denot → S.D)
     → ((p : Ptr) (h : Option R.Denot) → fields (made p h) ≡ (p, h)) → HandleType
 handles_to R L S fields made is_made = record { value = R; laws = L; struct = S; fields = fields; made = made; is_made = is_made }
+
+abbrev pub box_of : HandleType → Bx
+box_of T = heap_box T.value T.laws
 
 module _ (T : HandleType) where
   abbrev pub pointer_of : T.struct.D → Ptr

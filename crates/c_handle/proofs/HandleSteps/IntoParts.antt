@@ -24,16 +24,13 @@ use denote.Triple.Spec.{Meets}
 use denote.Triple.Walked.{says, Stays, stay_dropped, walk_of, ends_at, Goes-dropped, walk_Meets}
 use Rattle.core.proofs.alloc.Calls.{handle_tells}
 use Rattle.std.specs.Prelude.{Some}
-use Rattle.std_alloc.proofs.BoxSteps.Form.{Bx, D, word, box_typed}
+use Rattle.std_alloc.proofs.BoxSteps.Form.{D, word, box_typed}
 use Rattle.std_alloc.proofs.BoxSteps.Steps.{box_in}
 use Rattle.std_heap.specs.contracts.Global as Heap
-use Rattle.c_handle.proofs.HandleSteps.Form.{HandleType, row, held_by, pointer_of, heap_box, heap_parts, as_box, pointer}
+use Rattle.c_handle.proofs.HandleSteps.Form.{HandleType, row, held_by, pointer_of, heap_parts, as_box, pointer, box_of}
 use Rattle.c_handle.proofs.HandleSteps.Steps.{handle_out}
 
 module _ (T : HandleType) where
-  abbrev E : Bx
-  E = heap_box T.value T.laws
-
   abbrev FromHandle : Slot 0
   FromHandle = plain (λ _. row T)
 
@@ -74,18 +71,18 @@ module _ (T : HandleType) where
           qed 𝓛 ((‵ ftrue ⊛ ‵ (fsep ((row T).own_val self z.0.4.0) (fsep (Heap.the_row.own_val alloc z.0.4.1.0) ftrue))) ∷ raw (fact 𝓤 ((x : T.value.Denot) × (held_by T self ≡ Some x))) ∷ []) ∵
           move ! (1 ∷ []) $ heard ! ((x : T.value.Denot) × (held_by T self ≡ Some x)) (λ has. split ! $ drop ! $ fsplit ! $
           let made : (heap_parts T.value T.laws).Denot = record { ptr = pointer_of T self; alloc = alloc; value = has.0 } in
-          let v : D E = as_box T.value T.laws made in
-          handle_out T ! self z.0.4.0 has.0 has.1 (λ b o e ws. move ! (2 ∷ []) $ fsplit ! $ handle_tells E.al ! alloc z.0.4.1.0 (λ hv ea fa.
+          let v : D (box_of T) = as_box T.value T.laws made in
+          handle_out T ! self z.0.4.0 has.0 has.1 (λ b o e ws. move ! (2 ∷ []) $ fsplit ! $ handle_tells (box_of T).al ! alloc z.0.4.1.0 (λ hv ea fa.
           -- [the heap; true; the value; the right to free it]
-          move ! (2 ∷ 3 ∷ 0 ∷ []) $ box_in E ! v b o v.value e refl $
-          let w = word E hv b o in
+          move ! (2 ∷ 3 ∷ 0 ∷ []) $ box_in (box_of T) ! v b o v.value e refl $
+          let w = word (box_of T) hv b o in
           move ! (1 ∷ []) $ drop ! $
           let Γ : List (Item 𝓤) = ‵ ((heap_parts T.value T.laws).own_val made (w ∷ [])) ∷ [] in
           by ! (subst (λ (us : List Val). ent 𝓤 (types.Kit.⋆ 𝓛 Γ) (WpFn 𝓤 H 𝓣.C 𝓣.Λ function (us ++ (z.0.4.1.0 ++ [])) Post)) (sym ws)
           (subst (λ (us : List Val). ent 𝓤 (types.Kit.⋆ 𝓛 Γ) (WpFn 𝓤 H 𝓣.C 𝓣.Λ function ((pointer b o ∷ []) ++ (us ++ [])) Post)) (sym ea)
           (qed 𝓛 Γ ∵ enter ! 𝓣.C 𝓣.Λ function (pointer b o ∷ hv ∷ []) _ $ alloc_all ! (λ ls. pass_all ! refl ((tt, (tt, tt)), (fa, tt)) $
           sets ! (of_opd ! (get_in ! (fld ! refl (stop !)) (sub ! 0 refl (whole !)))) refl (tt, tt) $ sets ! (of_opd ! (get ! refl)) refl (tt, tt) $
-          sets ! (agg ! (and_then ! (get ! refl) (and_then ! (get ! refl) (no_more !)))) refl (box_typed E hv b o fa) $ returns ! (look_at ! 0 refl) $ free_all ! refl $
+          sets ! (agg ! (and_then ! (get ! refl) (and_then ! (get ! refl) (no_more !)))) refl (box_typed (box_of T) hv b o fa) $ returns ! (look_at ! 0 refl) $ free_all ! refl $
           suffices ! _ (ends_at 𝓛 ended stayed clauses z w made (tt, (tt, tt)) (tt, (tt, tt))) $ says ! has.1 $
           nothing ! $ nothing ! $ fjoin ! $ nothing ! $ fjoin ! $ join ! $ nothing ! $ join ! $ done !)))))))
 

@@ -24,15 +24,12 @@ use denote.Triple.Clauses.{Ended, Clauses, closing}
 use denote.Triple.Spec.{Meets}
 use denote.Triple.Walked.{says, Stays, stay_dropped, walk_of, ends_at, Goes-dropped, walk_Meets}
 use Rattle.std.specs.Prelude.{Option, Some}
-use Rattle.std_alloc.proofs.BoxSteps.Form.{Bx, D, word, box_typed}
+use Rattle.std_alloc.proofs.BoxSteps.Form.{D, word, box_typed}
 use Rattle.std_alloc.proofs.BoxSteps.Steps.{box_out}
-use Rattle.c_handle.proofs.HandleSteps.Form.{HandleType, row, held_by, heap_box, heap_parts, as_box, pointer}
+use Rattle.c_handle.proofs.HandleSteps.Form.{HandleType, row, held_by, heap_parts, as_box, pointer, box_of}
 use Rattle.c_handle.proofs.HandleSteps.Steps.{handle_in}
 
 module _ (T : HandleType) where
-  abbrev E : Bx
-  E = heap_box T.value T.laws
-
   abbrev From : Slot 0
   From = plain (λ _. heap_parts T.value T.laws)
 
@@ -67,15 +64,15 @@ module _ (T : HandleType) where
       walk z =
           let Post = (walk_of 𝓛 ended stayed clauses).post z in
           let p = z.0.3.0 in
-          let v : D E = as_box T.value T.laws p in
+          let v : D (box_of T) = as_box T.value T.laws p in
           let made : (row T).Denot = T.made v.ptr (Some v.value) in
           qed 𝓛 ((‵ ftrue ⊛ ‵ (fsep ((heap_parts T.value T.laws).own_val p z.0.4.0) ftrue)) ∷ raw (emp 𝓤) ∷ []) ∵ split ! $ drop ! $ fsplit ! $
-          box_out E ! v z.0.4.0 (λ b o hv e ws fa. move ! (2 ∷ []) $ drop ! $ handle_in T ! v.ptr b o v.value e $
+          box_out (box_of T) ! v z.0.4.0 (λ b o hv e ws fa. move ! (2 ∷ []) $ drop ! $ handle_in T ! v.ptr b o v.value e $
           move ! (1 ∷ 2 ∷ []) $ drop ! $ drop ! $
-          let w = word E hv b o in
+          let w = word (box_of T) hv b o in
           let Γ : List (Item 𝓤) = ‵ ((row T).own_val made (pointer b o ∷ [])) ∷ [] in
           by ! (subst (λ (us : List Val). ent 𝓤 (types.Kit.⋆ 𝓛 Γ) (WpFn 𝓤 H 𝓣.C 𝓣.Λ function (us ++ []) Post)) (sym ws)
-          (qed 𝓛 Γ ∵ enter ! 𝓣.C 𝓣.Λ function (w ∷ []) _ $ alloc_all ! (λ ls. pass_all ! refl (box_typed E hv b o fa, tt) $
+          (qed 𝓛 Γ ∵ enter ! 𝓣.C 𝓣.Λ function (w ∷ []) _ $ alloc_all ! (λ ls. pass_all ! refl (box_typed (box_of T) hv b o fa, tt) $
           sets ! (of_opd ! (get_in ! (fld ! refl (stop !)) (sub ! 0 refl (whole !)))) refl (tt, tt) $ sets ! (of_opd ! (get ! refl)) refl (tt, tt) $
           sets ! (agg ! (and_then ! (get ! refl) (no_more !))) refl (tt, (tt, tt)) $ returns ! (look_at ! 0 refl) $ free_all ! refl $
           suffices ! _ (ends_at 𝓛 ended stayed clauses z (pointer b o) made (tt, tt) (tt, tt)) $ says ! (ap (λ (d : Ptr × Option T.value.Denot). d.1) (T.is_made v.ptr (Some v.value))) $
