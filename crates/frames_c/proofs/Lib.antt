@@ -1,5 +1,5 @@
 mod AskedFrames
 mod Covers
-mod Handles
+mod HandleTypes
 mod Tables
 mod ToldRows

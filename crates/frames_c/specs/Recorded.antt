@@ -1,16 +1,9 @@
 -- What a handle of recorded memory leads to.
-use Rattle.std.specs.Prelude.{◌≡◌, ℕ, zero, suc, List, [], ◌∷◌, ◌++◌, Option, Some, None}
+use Rattle.std.specs.Prelude.{◌≡◌, ℕ, zero, suc, List, [], ◌∷◌, ◌++◌, Option}
 use Rattle.std.specs.Option.{unwrap_or}
 use Rattle.frame_expr.specs.Regions.{RegionData, Accepts, IsRefusedRegion}
 use Rattle.frame_expr.specs.declared.memory.RegionFault.{RegionFault}
 use Rattle.frame_expr.specs.declared.memory.RegionFault.TheVariants.{Empty, End, Order, NoMemory}
-
--- it leads to memory, or to nothing
-abbrev pub IsRecorded : Option (List RegionData) → Type 0
-IsRecorded held = (regions : List RegionData) × (held ≡ Some regions)
-
-abbrev pub HasNone : Option (List RegionData) → Type 0
-HasNone held = held ≡ None
 
 -- the regions to which it leads
 abbrev pub recorded_in : Option (List RegionData) → List RegionData

@@ -1,10 +1,11 @@
 //! The rows of many addresses at once.
 
 ghost use Rattle.std.specs.Prelude.{◌≡◌, length};
-ghost use Rattle.frames_c.specs.Held.{IsHeld, IsVacant, held_loaded};
+ghost use Rattle.c_handle.specs.Handles.{IsHandedIn};
+ghost use Rattle.frames_c.specs.Held.{held_loaded};
 ghost use Rattle.frames_c.specs.Batches.{IsBatchRow, AreRowsBelow, AnswersRows};
 
-use crate::handle::SectionHandle;
+use crate::handles::SectionHandle;
 use crate::row::{FramesRow, row_by_fde};
 use crate::share::LoadedSection;
 use std::alloc::Global;
@@ -63,8 +64,7 @@ pub extern "C" fn frames_c_rows(
     rows: &mut [FramesRow],
     back: &mut SectionHandle,
 ) -> bool
-    requires held { IsHeld section.held }
-    requires back { IsVacant back.old.held }
+    requires held { IsHandedIn section.held back.old.held }
     ensures back { back.new.held ≡ section.held }
     ensures rows { AnswersRows (held_loaded section.held) pcs.now rows.old result rows.new }
 {

@@ -1,12 +1,13 @@
 //! What was refused in a section.
 
 ghost use Rattle.std.specs.Prelude.{◌≡◌};
+ghost use Rattle.c_handle.specs.Handles.{IsHandedIn};
 ghost use Rattle.c_sections.specs.Refusals.{refusal_told};
 ghost use Rattle.frames_c.specs.Claims.{claim_first, claim_range, claim_told, refusals_told};
 ghost use Rattle.frames_c.specs.Claims.{AnswersClaim};
-ghost use Rattle.frames_c.specs.Held.{IsHeld, IsVacant, claim_in, held_loaded};
+ghost use Rattle.frames_c.specs.Held.{claim_in, held_loaded};
 
-use crate::handle::SectionHandle;
+use crate::handles::SectionHandle;
 use crate::share::LoadedSection;
 use c_sections::{FramesRefusal, LoadFault};
 use frame_parse::FrameFault;
@@ -108,8 +109,7 @@ pub extern "C" fn frames_c_claim(
     out: &mut FramesClaim,
     back: &mut SectionHandle,
 ) -> bool
-    requires held { IsHeld section.held }
-    requires back { IsVacant back.old.held }
+    requires held { IsHandedIn section.held back.old.held }
     ensures back { back.new.held ≡ section.held }
     ensures claim { AnswersClaim (claim_in pc (held_loaded section.held)) result out.old out.new }
 {

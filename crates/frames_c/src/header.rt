@@ -10,7 +10,7 @@ ghost use Rattle.frames_c.specs.Held.{IsVacant};
 ghost use Rattle.frames_c.specs.Loads.{LeadsToLoaded, HasNothingRefused};
 ghost use Rattle.frames_c.specs.HeaderAnswers.{header_refused, IsHeaderTold, LeadsWithHeader};
 
-use crate::handle::SectionHandle;
+use crate::handles::SectionHandle;
 use crate::load::shared;
 use crate::share::LoadedSection;
 use c_sections::{FramesRefusal, read_section};

@@ -1,55 +1,47 @@
 //! Frames for C and C++: sections of `.eh_frame` behind a handle that C keeps.
 #![tactic(auto)]
 
-mod asking;
 mod batch;
 mod call_sites;
 mod claims;
 mod find;
-mod handle;
+mod handles;
 mod header;
 mod lines;
 mod load;
-mod memory;
 mod modules;
-mod modules_handle;
-mod read_sound;
 mod record;
 mod row;
-mod row_handle;
 mod row_share;
 mod row_tables;
 mod share;
+mod shares;
 mod step;
 mod table;
 mod told_rows;
 mod walks;
 
-pub use asking::{frames_c_row_table_step_asking, frames_c_step_asking};
 pub use batch::frames_c_rows;
 pub use call_sites::{FramesVerdict, frames_c_verdict};
 pub use claims::{FramesClaim, FramesRefused, frames_c_claim};
 pub use find::{FramesFde, frames_c_find};
-pub use handle::SectionHandle;
+pub use handles::{MemoryHandle, ModulesHandle, RowTableHandle, SectionHandle};
 pub use header::{FramesHeader, frames_c_read_with_header};
 pub use lines::FramesLine;
-pub use load::{frames_c_count, frames_c_free, frames_c_read, frames_c_share};
-pub use memory::MemoryHandle;
+pub use load::{frames_c_count, frames_c_read, frames_c_read_sound};
 pub use modules::{LoadedModules, ModuleRows};
-pub use modules_handle::ModulesHandle;
-pub use read_sound::frames_c_read_sound;
 pub use record::{frames_c_memory, frames_c_memory_free, frames_c_memory_push};
-pub use row::{FramesRow, frames_c_row};
-pub use row_handle::RowTableHandle;
+pub use row::{FramesRow, frames_c_row, frames_c_row_table_row};
 pub use row_share::{RowsOfSection, TableShare};
-pub use row_tables::{
-    frames_c_row_table, frames_c_row_table_free, frames_c_row_table_row, frames_c_row_table_share,
-    frames_c_row_table_step, frames_c_row_table_step_lent,
-};
+pub use row_tables::frames_c_row_table;
 pub use share::{LoadedSection, SectionShare};
-pub use step::{FramesFrame, frames_c_step, frames_c_step_lent};
-pub use table::{FramesEntry, frames_c_search, frames_c_table};
-pub use walks::{
-    frames_c_modules, frames_c_modules_add, frames_c_modules_add_rows, frames_c_modules_free,
-    frames_c_modules_share, frames_c_walk,
+pub use shares::{
+    frames_c_free, frames_c_modules_free, frames_c_modules_share, frames_c_row_table_free,
+    frames_c_row_table_share, frames_c_share,
 };
+pub use step::{
+    FramesFrame, frames_c_row_table_step, frames_c_row_table_step_asking,
+    frames_c_row_table_step_lent, frames_c_step, frames_c_step_asking, frames_c_step_lent,
+};
+pub use table::{FramesEntry, frames_c_search, frames_c_table};
+pub use walks::{frames_c_modules, frames_c_modules_add, frames_c_modules_add_rows, frames_c_walk};

@@ -1,18 +1,25 @@
-//! Sections are read, shared and freed.
+//! Sections are read.
 
-ghost use Rattle.std.specs.Prelude.{◌≡◌, [], true, false, length, None, Ok, IfOk, IfErr, IfSome};
+ghost use Rattle.std.specs.Prelude.{◌≡◌, ◌<◌, ◌^◌, [], length, true, false, None, IfOk, IfErr};
+ghost use Rattle.c_handle.specs.Handles.{IsHandedIn};
 ghost use Rattle.frame_parse.specs.declared.fault.FrameFault.TheVariants.{NoMemory};
+ghost use Rattle.sound_records.specs.Items.{items_of, refused_in};
+ghost use Rattle.sound_records.specs.Sections.{sound_section};
 ghost use Rattle.c_sections.specs.declared.refusal.LoadFault.TheVariants.{Frames};
 ghost use Rattle.c_sections.specs.Loads.{IsLoaded};
 ghost use Rattle.c_sections.specs.Refusals.{IsLoadFault, IsToldRefusal};
-ghost use Rattle.frames_c.specs.Held.{IsHeld, IsVacant, held_section};
+ghost use Rattle.frames_c.specs.Claims.{refusals_told, sound_loaded, IsToldUnread, IsUnread};
+ghost use Rattle.frames_c.specs.Claims.{LeadsToSound};
+ghost use Rattle.frames_c.specs.Held.{IsVacant, held_section};
 ghost use Rattle.frames_c.specs.Loads.{LeadsToLoaded, HasNothingRefused, HasNoTable};
 
-use crate::handle::SectionHandle;
+use crate::claims::FramesRefused;
+use crate::handles::SectionHandle;
 use crate::share::{LoadedSection, SectionShare};
 use c_sections::{FramesRefusal, LoadFault, read_section};
 use frame_parse::FrameFault;
-use std::alloc::{AllocError, Global};
+use sound_records::SoundSection;
+use std::alloc::Global;
 
 /// The first share of a section, in a box of its own.
 pub(crate) fn shared(
@@ -29,16 +36,6 @@ pub(crate) fn shared(
     match Box::new(alloc, share) {
         Ok(boxed) => Ok(boxed),
         Err(_) => Err(LoadFault::Frames(FrameFault::NoMemory)),
-    }
-}
-
-/// What was made, in a box of its own; none where memory runs out.
-pub(crate) fn boxed<T: Drop>(alloc: Global, made: Result<T, AllocError>) -> Option<Box<T, Global>>
-    ensures { IfSome result (λ boxed. made ≡ Ok boxed.value) }
-{
-    match made {
-        Ok(value) => Box::new(alloc, value).ok(),
-        Err(_) => None,
     }
 }
 
@@ -81,39 +78,57 @@ pub extern "C" fn frames_c_read(
     }
 }
 
-/// Frees a share. The section goes with its last one.
-#[unsafe(no_mangle)]
-pub extern "C" fn frames_c_free(alloc: Global, section: SectionHandle)
-    requires { IsHeld section.held }
+/// The section of the sound records of these bytes, beside those that are refused.
+fn load_sound(
+    alloc: Global,
+    address: u64,
+    bytes: &[u8],
+) -> Result<Box<SectionShare, Global>, LoadFault>
+    ensures loaded { IfOk result
+        (λ share. share.value ≡ sound_loaded (sound_section address bytes.now)) }
+    ensures short { IfOk result (λ _. length bytes.now < 2 ^ 32) }
+    ensures fault { IfErr result (IsUnread bytes.now) }
 {
-    drop(section.open(alloc));
+    if bytes.len() > u32::MAX as usize {
+        return Err(LoadFault::Long);
+    }
+    match SoundSection::read(alloc, address, bytes) {
+        Ok(sound) => shared(alloc, LoadedSection::new(sound, None)),
+        Err(_) => Err(LoadFault::Frames(FrameFault::NoMemory)),
+    }
 }
 
-/// Another share of the section, for another thread; false where memory runs out.
+/// Reads the section whose bytes stand at an address so that a bad record costs itself alone, and a
+/// bad CIE those that lead to it. Where there is a section, what was refused in it is told.
 #[unsafe(no_mangle)]
-pub extern "C" fn frames_c_share(
+pub extern "C" fn frames_c_read_sound(
     alloc: Global,
-    section: SectionHandle,
+    address: u64,
+    bytes: &[u8],
+    refusal: &mut FramesRefusal,
+    told: &mut FramesRefused,
     out: &mut SectionHandle,
-    back: &mut SectionHandle,
 ) -> bool
-    requires held { IsHeld section.held }
     requires out { IsVacant out.old.held }
-    requires back { IsVacant back.old.held }
-    ensures back { back.new.held ≡ section.held }
-    ensures shared { result ≡ true → out.new.held ≡ section.held }
+    ensures section { result ≡ true → LeadsToSound address bytes.now out.new.held }
+    ensures refused { result ≡ true
+        → told.new ≡ refusals_told (refused_in (items_of address bytes.now)) }
+    ensures unrefused { result ≡ true → refusal.new ≡ refusal.old }
+    ensures refusal { result ≡ false → IsToldUnread bytes.now refusal.new }
+    ensures untold { result ≡ false → told.new ≡ told.old }
     ensures nothing { result ≡ false → IsVacant out.new.held }
 {
-    let share = section.open(alloc);
-    let shared = match boxed(alloc, share.another()) {
-        Some(other) => {
-            *out = SectionHandle::of(other);
+    match load_sound(alloc, address, bytes) {
+        Ok(share) => {
+            *told = FramesRefused::of(share.loaded().refused());
+            *out = SectionHandle::of(share);
             true
         }
-        None => false,
-    };
-    *back = SectionHandle::of(share);
-    shared
+        Err(fault) => {
+            *refusal = FramesRefusal::of_load(fault);
+            false
+        }
+    }
 }
 
 /// How many FDEs a section has.
@@ -123,8 +138,7 @@ pub extern "C" fn frames_c_count(
     section: SectionHandle,
     back: &mut SectionHandle,
 ) -> usize
-    requires held { IsHeld section.held }
-    requires back { IsVacant back.old.held }
+    requires held { IsHandedIn section.held back.old.held }
     ensures back { back.new.held ≡ section.held }
     ensures count { result ≡ length (held_section section.held).fdes }
 {

@@ -1,18 +1,20 @@
 //! Memory is recorded, and freed.
 
 ghost use Rattle.std.specs.Prelude.{◌≡◌, true, false, Some, []};
-ghost use Rattle.frames_c.specs.Recorded.{IsRecorded, HasNone, recorded_in, AnswersRegion};
+ghost use Rattle.c_handle.specs.Handles.{IsHandedIn};
+ghost use Rattle.frames_c.specs.Held.{IsHeld, IsVacant};
+ghost use Rattle.frames_c.specs.Recorded.{recorded_in, AnswersRegion};
 
-use crate::memory::MemoryHandle;
+use crate::handles::MemoryHandle;
 use frame_expr::{Memory, RegionFault};
 use std::alloc::Global;
 
 /// Memory without any region; false where memory runs out.
 #[unsafe(no_mangle)]
 pub extern "C" fn frames_c_memory(alloc: Global, out: &mut MemoryHandle) -> bool
-    requires { HasNone out.old.held }
+    requires { IsVacant out.old.held }
     ensures memory { result ≡ true → out.new.held ≡ Some [] }
-    ensures nothing { result ≡ false → HasNone out.new.held }
+    ensures nothing { result ≡ false → IsVacant out.new.held }
 {
     match Box::new(alloc, Memory::new(alloc)) {
         Ok(memory) => {
@@ -47,11 +49,10 @@ pub extern "C" fn frames_c_memory_push(
     bytes: &[u8],
     back: &mut MemoryHandle,
 ) -> u64
-    requires memory { IsRecorded memory.held }
-    requires back { HasNone back.old.held }
+    requires memory { IsHandedIn memory.held back.old.held }
     ensures region { AnswersRegion (recorded_in memory.held) address bytes.now result
         (recorded_in back.new.held) }
-    ensures back { IsRecorded back.new.held }
+    ensures back { IsHeld back.new.held }
 {
     let mut recorded = memory.open(alloc);
     let pushed = push(&mut recorded, address, bytes);
@@ -62,7 +63,7 @@ pub extern "C" fn frames_c_memory_push(
 /// Frees recorded memory.
 #[unsafe(no_mangle)]
 pub extern "C" fn frames_c_memory_free(alloc: Global, memory: MemoryHandle)
-    requires { IsRecorded memory.held }
+    requires { IsHeld memory.held }
 {
     drop(memory.open(alloc));
 }

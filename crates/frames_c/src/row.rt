@@ -1,14 +1,15 @@
 //! The row of an address.
 
 ghost use Rattle.std.specs.Prelude.{◌≡◌, length, true, false};
+ghost use Rattle.c_handle.specs.Handles.{IsHandedIn};
 ghost use Rattle.unwind_step.specs.Backtrace.{fde_in};
-ghost use Rattle.frames_c.specs.Held.{IsHeld, IsVacant, claim_in, held_loaded, held_section};
+ghost use Rattle.frames_c.specs.Held.{claim_in, held_loaded, held_section};
 ghost use Rattle.frames_c.specs.Held.{unless_claimed};
 ghost use Rattle.frames_c.specs.Rows.{rule_kind, rule_number, cfa_rule_kind, cfa_rule_column};
 ghost use Rattle.frames_c.specs.Rows.{cfa_rule_offset};
 ghost use Rattle.frames_c.specs.Rows.{AreToldRules, IsToldRow, IsRowOf, AnswersRow};
 
-use crate::handle::SectionHandle;
+use crate::handles::{RowTableHandle, SectionHandle};
 use crate::share::LoadedSection;
 use frame_parse::Fde;
 use frame_rows::{CfaRuleWith, Row, RuleWith, row_at};
@@ -125,8 +126,7 @@ pub extern "C" fn frames_c_row(
     out: &mut FramesRow,
     back: &mut SectionHandle,
 ) -> bool
-    requires held { IsHeld section.held }
-    requires back { IsVacant back.old.held }
+    requires held { IsHandedIn section.held back.old.held }
     ensures back { back.new.held ≡ section.held }
     ensures row { AnswersRow (unless_claimed (claim_in pc (held_loaded section.held))
         (fde_in pc (held_section section.held))) pc result out.old out.new }
@@ -134,5 +134,25 @@ pub extern "C" fn frames_c_row(
     let share = section.open(alloc);
     let found = row_in(share.loaded(), pc, out);
     *back = SectionHandle::of(share);
+    found
+}
+
+/// The row of an address, as `frames_c_row` of the section tells it.
+#[unsafe(no_mangle)]
+pub extern "C" fn frames_c_row_table_row(
+    alloc: Global,
+    table: RowTableHandle,
+    pc: u64,
+    out: &mut FramesRow,
+    back: &mut RowTableHandle,
+) -> bool
+    requires held { IsHandedIn table.held back.old.held }
+    ensures back { back.new.held ≡ table.held }
+    ensures row { AnswersRow (unless_claimed (claim_in pc (held_loaded table.held))
+        (fde_in pc (held_section table.held))) pc result out.old out.new }
+{
+    let share = table.open(alloc);
+    let found = share.row_in(pc, out);
+    *back = RowTableHandle::of(share);
     found
 }

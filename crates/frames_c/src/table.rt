@@ -3,13 +3,14 @@
 ghost use Rattle.std.specs.Prelude.{◌≡◌, ◌≤◌, ◌<◌, Option, length, take, if◌then◌else◌};
 ghost use Rattle.std.specs.List.Sorted.{IsPermutation, IsNonDecreasingBy};
 ghost use Rattle.std.specs.Option.{unwrap_or};
+ghost use Rattle.c_handle.specs.Handles.{IsHandedIn};
 ghost use Rattle.frames_c.specs.declared.table.FramesEntry.{FramesEntry};
 ghost use Rattle.frames_c.specs.Fdes.{is_there};
-ghost use Rattle.frames_c.specs.Held.{IsHeld, IsVacant, held_section};
+ghost use Rattle.frames_c.specs.Held.{held_section};
 ghost use Rattle.frames_c.specs.TableEntries.{entry_told, entries_told, entry_has, entries_apart};
 ghost use Rattle.frames_c.specs.TableEntries.{AnswersTable, IsSearched};
 
-use crate::handle::SectionHandle;
+use crate::handles::SectionHandle;
 use frame_parse::{Fde, Section};
 use std::alloc::Global;
 
@@ -109,8 +110,7 @@ pub extern "C" fn frames_c_table(
     count: &mut usize,
     back: &mut SectionHandle,
 ) -> u64
-    requires held { IsHeld section.held }
-    requires back { IsVacant back.old.held }
+    requires held { IsHandedIn section.held back.old.held }
     ensures back { back.new.held ≡ section.held }
     ensures table { AnswersTable (held_section section.held).fdes entries.old result count.new
         entries.new }

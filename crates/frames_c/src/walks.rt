@@ -1,17 +1,15 @@
 //! Modules are listed, and stacks walked over them.
 
 ghost use Rattle.std.specs.Prelude.{◌≡◌, ◌<◌, ◌≤◌, [], ◌∷◌, true, false, Some, length, take, drop};
+ghost use Rattle.c_handle.specs.Handles.{IsHandedIn};
 ghost use Rattle.frames_c.specs.Held.{IsHeld, IsVacant, held_loaded};
 ghost use Rattle.frames_c.specs.StackLines.{AnswersModule, AnswersWalk, frame_given, modules_in};
 ghost use Rattle.frames_c.specs.StackLines.{module_loaded, module_with, missing_after};
 ghost use Rattle.frames_c.specs.StackLines.{walk_end_told};
 
-use crate::handle::SectionHandle;
+use crate::handles::{ModulesHandle, RowTableHandle, SectionHandle};
 use crate::lines::{FramesLine, told_address};
-use crate::load::boxed;
 use crate::modules::{LoadedModules, ModuleRows};
-use crate::modules_handle::ModulesHandle;
-use crate::row_handle::RowTableHandle;
 use crate::step::FramesFrame;
 use frame_expr::{Lent, Regs};
 use stack_walk::{ModuleFault, WalkEnd, walk};
@@ -58,9 +56,8 @@ pub extern "C" fn frames_c_modules_add(
     section: SectionHandle,
     back: &mut ModulesHandle,
 ) -> u64
-    requires modules { IsHeld modules.held }
+    requires modules { IsHandedIn modules.held back.old.held }
     requires held { IsHeld section.held }
-    requires back { IsVacant back.old.held }
     ensures module { AnswersModule (modules_in modules.held)
         (module_with first size (held_loaded section.held)) result (modules_in back.new.held) }
     ensures back { IsHeld back.new.held }
@@ -82,9 +79,8 @@ pub extern "C" fn frames_c_modules_add_rows(
     table: RowTableHandle,
     back: &mut ModulesHandle,
 ) -> u64
-    requires modules { IsHeld modules.held }
+    requires modules { IsHandedIn modules.held back.old.held }
     requires held { IsHeld table.held }
-    requires back { IsVacant back.old.held }
     ensures module { AnswersModule (modules_in modules.held)
         (module_with first size (held_loaded table.held)) result (modules_in back.new.held) }
     ensures back { IsHeld back.new.held }
@@ -94,42 +90,6 @@ pub extern "C" fn frames_c_modules_add_rows(
     let added = add(&mut list, first, size, ModuleRows::Table { share });
     *back = ModulesHandle::of(list);
     added
-}
-
-/// Another list of the same modules, each with another share, for another thread; false where
-/// memory runs out. What is added to one of both lists isn't in the other.
-#[unsafe(no_mangle)]
-pub extern "C" fn frames_c_modules_share(
-    alloc: Global,
-    modules: ModulesHandle,
-    out: &mut ModulesHandle,
-    back: &mut ModulesHandle,
-) -> bool
-    requires modules { IsHeld modules.held }
-    requires out { IsVacant out.old.held }
-    requires back { IsVacant back.old.held }
-    ensures back { back.new.held ≡ modules.held }
-    ensures shared { result ≡ true → out.new.held ≡ modules.held }
-    ensures nothing { result ≡ false → IsVacant out.new.held }
-{
-    let list = modules.open(alloc);
-    let shared = match boxed(alloc, list.another(alloc)) {
-        Some(other) => {
-            *out = ModulesHandle::of(other);
-            true
-        }
-        None => false,
-    };
-    *back = ModulesHandle::of(list);
-    shared
-}
-
-/// Frees the modules, each with its share.
-#[unsafe(no_mangle)]
-pub extern "C" fn frames_c_modules_free(alloc: Global, modules: ModulesHandle)
-    requires { IsHeld modules.held }
-{
-    drop(modules.open(alloc));
 }
 
 /// The frame that C's registers are.
@@ -208,9 +168,8 @@ pub extern "C" fn frames_c_walk(
     count: &mut usize,
     back: &mut ModulesHandle,
 ) -> u64
-    requires modules { IsHeld modules.held }
+    requires modules { IsHandedIn modules.held back.old.held }
     requires room { 0 < length lines.old }
-    requires back { IsVacant back.old.held }
     ensures back { back.new.held ≡ modules.held }
     ensures walk { AnswersWalk (modules_in modules.held)
         (record { address = address; bytes = stack.now } ∷ []) frame.old
