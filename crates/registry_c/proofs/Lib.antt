@@ -1,4 +1,4 @@
 mod Attempting
-mod Handles
+mod HandleTypes
 mod FixedMembers
 mod Caches

@@ -10,6 +10,7 @@ use Rattle.reg_model.specs.declared.answer.Replaced.{Replaced}
 use Rattle.reg_model.specs.declared.answer.Replaced.TheVariants as replaced
 use Rattle.reg_model.specs.declared.span.Member.{Member}
 use Rattle.registry_c.specs.Clients.{ClientData}
+use Rattle.registry_c.specs.Kinds.{DONE, OVERLAP, ABSENT, FULL, SPENT, BUSY, NO_MEMBER, NO_PAYLOAD}
 use Rattle.registry_c.specs.Members.{member_told, no_member}
 use Rattle.registry_c.specs.declared.member.MemberFault.{MemberFault}
 use Rattle.registry_c.specs.declared.member.MemberFault.TheVariants.{Addresses, Payload}
@@ -17,31 +18,6 @@ use Rattle.registry_c.specs.declared.member.RegistryMember.{RegistryMember}
 use Rattle.registry_c.specs.declared.attempt.RegistryAnswer.{RegistryAnswer}
 use Rattle.registry_c.specs.declared.attempt.Attempt.{Attempt}
 use Rattle.registry_c.specs.declared.attempt.Attempt.TheVariants.{Answered, Busy, NoMember}
-
--- the kinds of answers
-abbrev pub DONE : ℕ
-DONE = 0
-
-abbrev pub OVERLAP : ℕ
-OVERLAP = 1
-
-abbrev pub ABSENT : ℕ
-ABSENT = 2
-
-abbrev pub FULL : ℕ
-FULL = 3
-
-abbrev pub SPENT : ℕ
-SPENT = 4
-
-abbrev pub BUSY : ℕ
-BUSY = 5
-
-abbrev pub NO_MEMBER : ℕ
-NO_MEMBER = 6
-
-abbrev pub NO_PAYLOAD : ℕ
-NO_PAYLOAD = 7
 
 -- what C tells has no addresses for a member, or no payload
 abbrev pub fault_kind : MemberFault → ℕ

@@ -15,6 +15,7 @@ use Rattle.word_rule.specs.CallerData.{CallerData}
 use Rattle.word_rule.specs.Callers.{IsAlone}
 use Rattle.word_rule.specs.declared.log.Terms.{Terms}
 use Rattle.registry_c.specs.Clients.{ClientData}
+use Rattle.registry_c.specs.Kinds.{MISS, HIT, AGAIN, NOWHERE, REGISTERED, LOADED, FIND_AGAIN}
 use Rattle.registry_c.specs.Members.{member_told, no_member}
 use Rattle.registry_c.specs.declared.find.LookupBy.{LookupBy}
 use Rattle.registry_c.specs.declared.find.LookupBy.TheVariants as by
@@ -75,33 +76,11 @@ FindsByHalves {D} registered loaded pc c c' (Err again) = registered pc c c' (Er
 abbrev pub FindsOnce : LookupBy → ℕ → ClientData → ClientData → Result Place Again → Type 0
 FindsOnce how = FindsByHalves (AsksRegisteredBy how) (AsksLoadedBy how)
 
--- the kinds of answers of one half
-abbrev pub MISS : ℕ
-MISS = 0
-
-abbrev pub HIT : ℕ
-HIT = 1
-
-abbrev pub AGAIN : ℕ
-AGAIN = 2
-
+-- what one half answered
 abbrev pub found_told : Result Found Again → RegistryFound
 found_told (Ok (Miss stamp)) = record { kind = MISS; stamp = stamp; member = no_member }
 found_told (Ok (Hit m stamp)) = record { kind = HIT; stamp = stamp; member = member_told m }
 found_told (Err again) = record { kind = AGAIN; stamp = 0; member = no_member }
-
--- and of both
-abbrev pub NOWHERE : ℕ
-NOWHERE = 0
-
-abbrev pub REGISTERED : ℕ
-REGISTERED = 1
-
-abbrev pub LOADED : ℕ
-LOADED = 2
-
-abbrev pub FIND_AGAIN : ℕ
-FIND_AGAIN = 3
 
 -- what the loader's half answered, where the registered one had a miss at a stamp
 abbrev pub loaded_told : ℕ → Option Found → RegistryPlace

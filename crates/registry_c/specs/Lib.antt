@@ -1,6 +1,7 @@
 pub mod Answers
 pub mod Clients
 pub mod Finds
+pub mod Kinds
 pub mod Limits
 pub mod Members
 pub mod Readers

@@ -5,6 +5,7 @@ ghost use Rattle.registry_c.specs.Answers.{done_told, fault_kind, insertion_told
 ghost use Rattle.registry_c.specs.Answers.{overlap_told, removal_told, removed_told};
 ghost use Rattle.registry_c.specs.Answers.{replacement_told, stamp_told};
 
+use crate::kinds::{ABSENT, BUSY, DONE, FULL, NO_MEMBER, NO_PAYLOAD, OVERLAP, SPENT};
 use crate::member::{MemberFault, RegistryMember};
 use node_store::Busy;
 use reg_model::{Inserted, Loading, Member, Removed, Replaced};
@@ -28,22 +29,6 @@ pub struct RegistryAnswer {
     pub stamp: u32,
     pub member: RegistryMember,
 }
-
-const DONE: u32 = 0;
-
-const OVERLAP: u32 = 1;
-
-const ABSENT: u32 = 2;
-
-const FULL: u32 = 3;
-
-const SPENT: u32 = 4;
-
-const BUSY: u32 = 5;
-
-const NO_MEMBER: u32 = 6;
-
-const NO_PAYLOAD: u32 = 7;
 
 fn kind_of(why: MemberFault) -> u32
     ensures { result ≡ fault_kind why }

@@ -3,14 +3,14 @@
 ghost use Rattle.std.specs.Prelude.{◌≡◌, ◌↔◌, IfSome, IsSomeAnd, length, true};
 ghost use Rattle.word_rule.specs.Callers.{IsAlone};
 ghost use Rattle.registry_core.specs.Rounds.{IsWholeWhereAlone};
-ghost use Rattle.c_handle.specs.Handles.{HandsBack, LeadsNowhere};
+ghost use Rattle.c_handle.specs.Handles.{HandsBack, IsHandedIn, LeadsNowhere};
 ghost use Rattle.registry_c.specs.Clients.{LeadsToClient};
 ghost use Rattle.registry_c.specs.Limits.{TellsNew};
 ghost use Rattle.registry_c.specs.Splits.{Joins, ShareByName, TellsJoin, TellsSplit};
 
 use crate::client::Client;
-use crate::handle::ClientHandle;
-use crate::limits::{LimitFault, RegistryLimits};
+use crate::handles::ClientHandle;
+use crate::limits::RegistryLimits;
 use crate::member::RegistryMember;
 use crate::splits::{JoinAnswer, SplitFault};
 use std::alloc::Global;
@@ -33,10 +33,7 @@ pub extern "C" fn registry_c_new(
             *out = ClientHandle::of(client);
             0
         }
-        Err(LimitFault::NoMemory) => 1,
-        Err(LimitFault::Nodes) => 2,
-        Err(LimitFault::Loads) => 3,
-        Err(LimitFault::Fixed) => 4,
+        Err(fault) => fault.told(),
     }
 }
 
@@ -65,9 +62,8 @@ pub extern "C" fn registry_c_split(
     out: &mut ClientHandle,
     back: &mut ClientHandle,
 ) -> u64
-    requires client { LeadsToClient client.held }
+    requires client { IsHandedIn client.held back.old.held }
     requires out { LeadsNowhere out.old.held }
-    requires back { LeadsNowhere back.old.held }
     ensures { HandsBack (TellsSplit give result out.new.held) client.held back.new.held }
 {
     let mut open = client.open(alloc);
@@ -113,11 +109,9 @@ pub extern "C" fn registry_c_join(
     back: &mut ClientHandle,
     other_back: &mut ClientHandle,
 ) -> u64
-    requires client { LeadsToClient client.held }
-    requires other { LeadsToClient other.held }
+    requires client { IsHandedIn client.held back.old.held }
+    requires other { IsHandedIn other.held other_back.old.held }
     requires same { IfSome client.held (λ c. IfSome other.held (λ o. ShareByName o c)) }
-    requires back { LeadsNowhere back.old.held }
-    requires other_back { LeadsNowhere other_back.old.held }
     ensures { IsSomeAnd other.held
         (λ o. HandsBack (TellsJoin o result other_back.new.held) client.held back.new.held) }
 {
@@ -150,8 +144,7 @@ pub extern "C" fn registry_c_left(
     client: ClientHandle,
     back: &mut ClientHandle,
 ) -> u32
-    requires client { LeadsToClient client.held }
-    requires back { LeadsNowhere back.old.held }
+    requires client { IsHandedIn client.held back.old.held }
     ensures left { IsSomeAnd client.held (λ c. result ≡ c.me.left) }
     ensures back { back.new.held ≡ client.held }
 {
@@ -168,8 +161,7 @@ pub extern "C" fn registry_c_seen(
     client: ClientHandle,
     back: &mut ClientHandle,
 ) -> u32
-    requires client { LeadsToClient client.held }
-    requires back { LeadsNowhere back.old.held }
+    requires client { IsHandedIn client.held back.old.held }
     ensures seen { IsSomeAnd client.held (λ c. result ≡ length c.me.log.past) }
     ensures back { back.new.held ≡ client.held }
 {

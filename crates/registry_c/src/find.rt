@@ -1,14 +1,14 @@
 //! Lookups: each is one try, takes no lock, counts no share, and stores nothing that is shared.
 
 ghost use Rattle.std.specs.Prelude.{◌≡◌, Ok};
-ghost use Rattle.c_handle.specs.Handles.{HandsBack, LeadsNowhere};
-ghost use Rattle.registry_c.specs.Clients.{LeadsToClient};
+ghost use Rattle.c_handle.specs.Handles.{HandsBack, IsHandedIn};
 ghost use Rattle.registry_c.specs.Finds.{AsksLoaded, AsksLoadedBy, AsksRegistered};
 ghost use Rattle.registry_c.specs.Finds.{AsksRegisteredBy, FindsOnce, TellsFind};
 ghost use Rattle.registry_c.specs.Finds.{found_told, loaded_told, place_told};
 
 use crate::client::Client;
-use crate::handle::ClientHandle;
+use crate::handles::ClientHandle;
+use crate::kinds::{AGAIN, FIND_AGAIN, HIT, LOADED, MISS, NOWHERE, REGISTERED};
 use crate::member::RegistryMember;
 use frame_cache::laws::caches_go_on_to_fit;
 use reg_model::{Again, Found, Place};
@@ -39,20 +39,6 @@ pub enum LookupBy {
     Tables,
     Caches,
 }
-
-const MISS: u32 = 0;
-
-const HIT: u32 = 1;
-
-const AGAIN: u32 = 2;
-
-const NOWHERE: u32 = 0;
-
-const REGISTERED: u32 = 1;
-
-const LOADED: u32 = 2;
-
-const FIND_AGAIN: u32 = 3;
 
 impl RegistryFound {
     pub(crate) fn of(answer: Result<Found, Again>) -> RegistryFound
@@ -199,8 +185,7 @@ pub extern "C" fn registry_c_try_registered(
     found: &mut RegistryFound,
     back: &mut ClientHandle,
 )
-    requires client { LeadsToClient client.held }
-    requires back { LeadsNowhere back.old.held }
+    requires client { IsHandedIn client.held back.old.held }
     ensures { HandsBack (TellsFind AsksRegistered found_told pc found.new) client.held
         back.new.held }
 {
@@ -219,8 +204,7 @@ pub extern "C" fn registry_c_try_loaded(
     found: &mut RegistryFound,
     back: &mut ClientHandle,
 )
-    requires client { LeadsToClient client.held }
-    requires back { LeadsNowhere back.old.held }
+    requires client { IsHandedIn client.held back.old.held }
     ensures { HandsBack (TellsFind AsksLoaded found_told pc found.new) client.held back.new.held }
 {
     let mut open = client.open(alloc);
@@ -238,8 +222,7 @@ pub extern "C" fn registry_c_find(
     place: &mut RegistryPlace,
     back: &mut ClientHandle,
 )
-    requires client { LeadsToClient client.held }
-    requires back { LeadsNowhere back.old.held }
+    requires client { IsHandedIn client.held back.old.held }
     ensures { HandsBack (TellsFind (FindsOnce LookupBy.Tables) place_told pc place.new) client.held
         back.new.held }
 {
@@ -258,8 +241,7 @@ pub extern "C" fn registry_c_find_cached(
     place: &mut RegistryPlace,
     back: &mut ClientHandle,
 )
-    requires client { LeadsToClient client.held }
-    requires back { LeadsNowhere back.old.held }
+    requires client { IsHandedIn client.held back.old.held }
     ensures { HandsBack (TellsFind (FindsOnce LookupBy.Caches) place_told pc place.new) client.held
         back.new.held }
 {

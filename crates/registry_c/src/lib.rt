@@ -9,11 +9,11 @@ mod attempt;
 mod client;
 mod clients;
 mod find;
-mod handle;
+mod handles;
+mod kinds;
 mod limits;
 mod member;
 mod reader;
-mod reader_handle;
 mod readers;
 mod splits;
 mod updates;
@@ -28,11 +28,10 @@ pub use find::{
     LookupBy, RegistryFound, RegistryPlace, registry_c_find, registry_c_find_cached,
     registry_c_try_loaded, registry_c_try_registered,
 };
-pub use handle::ClientHandle;
+pub use handles::{ClientHandle, ReaderHandle};
 pub use limits::RegistryLimits;
 pub use member::RegistryMember;
 pub use reader::RegistryReader;
-pub use reader_handle::ReaderHandle;
 pub use readers::{
     registry_c_reader, registry_c_reader_again, registry_c_reader_drop, registry_c_reader_find,
     registry_c_reader_try_loaded, registry_c_reader_try_registered,

@@ -1,7 +1,8 @@
 //! What a registry is made with.
 
-ghost use Rattle.std.specs.Prelude.{◌≡◌, MatchResult, IfErr, IfOk, OnOk, map};
+ghost use Rattle.std.specs.Prelude.{◌≡◌, MatchResult, Err, IfErr, IfOk, OnOk, map};
 ghost use Rattle.registry_c.specs.Limits.{HasLoads, HasNodes, IsPastLimits, IsUnfixed};
+ghost use Rattle.registry_c.specs.Limits.{made_told};
 ghost use Rattle.registry_c.specs.Members.{AreGivenMembers, given_member};
 
 use crate::member::RegistryMember;
@@ -26,6 +27,20 @@ pub enum LimitFault {
     Nodes,
     Loads,
     Fixed,
+}
+
+impl LimitFault {
+    /// As C is told it.
+    pub(crate) fn told(self) -> u64
+        ensures { result ≡ made_told (Err self) }
+    {
+        match self {
+            LimitFault::NoMemory => 1,
+            LimitFault::Nodes => 2,
+            LimitFault::Loads => 3,
+            LimitFault::Fixed => 4,
+        }
+    }
 }
 
 const MIN_NODES: u32 = 4;

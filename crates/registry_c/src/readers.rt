@@ -1,17 +1,15 @@
 //! Readers are made and dropped, and look up.
 
 ghost use Rattle.std.specs.Prelude.{◌≡◌, IsSomeAnd, length};
-ghost use Rattle.c_handle.specs.Handles.{HandsBack, LeadsNowhere};
-ghost use Rattle.registry_c.specs.Clients.{LeadsToClient};
+ghost use Rattle.c_handle.specs.Handles.{HandsBack, IsHandedIn, LeadsNowhere};
 ghost use Rattle.registry_c.specs.Finds.{TellsFind, found_told, place_told};
 ghost use Rattle.registry_c.specs.Readers.{LeadsToReader, MakesAnother, MakesReader};
 ghost use Rattle.registry_c.specs.Readers.{ReaderAsksLoaded, ReaderAsksRegistered, ReaderFinds};
 
 use crate::client::Client;
 use crate::find::{RegistryFound, RegistryPlace};
-use crate::handle::ClientHandle;
+use crate::handles::{ClientHandle, ReaderHandle};
 use crate::reader::RegistryReader;
-use crate::reader_handle::ReaderHandle;
 use std::alloc::Global;
 
 /// Makes a reader of a client, and writes its handle, where there is one.
@@ -50,9 +48,8 @@ pub extern "C" fn registry_c_reader(
     out: &mut ReaderHandle,
     back: &mut ClientHandle,
 ) -> bool
-    requires client { LeadsToClient client.held }
+    requires client { IsHandedIn client.held back.old.held }
     requires out { LeadsNowhere out.old.held }
-    requires back { LeadsNowhere back.old.held }
     ensures { HandsBack (MakesReader result out.new.held) client.held back.new.held }
 {
     let mut open = client.open(alloc);
@@ -70,9 +67,8 @@ pub extern "C" fn registry_c_reader_again(
     out: &mut ReaderHandle,
     back: &mut ReaderHandle,
 ) -> bool
-    requires reader { LeadsToReader reader.held }
+    requires reader { IsHandedIn reader.held back.old.held }
     requires out { LeadsNowhere out.old.held }
-    requires back { LeadsNowhere back.old.held }
     ensures { HandsBack (MakesAnother result out.new.held) reader.held back.new.held }
 {
     let mut open = reader.open(alloc);
@@ -102,8 +98,7 @@ pub extern "C" fn registry_c_reader_try_registered(
     found: &mut RegistryFound,
     back: &mut ReaderHandle,
 )
-    requires reader { LeadsToReader reader.held }
-    requires back { LeadsNowhere back.old.held }
+    requires reader { IsHandedIn reader.held back.old.held }
     ensures { HandsBack (TellsFind ReaderAsksRegistered found_told pc found.new) reader.held
         back.new.held }
 {
@@ -122,8 +117,7 @@ pub extern "C" fn registry_c_reader_try_loaded(
     found: &mut RegistryFound,
     back: &mut ReaderHandle,
 )
-    requires reader { LeadsToReader reader.held }
-    requires back { LeadsNowhere back.old.held }
+    requires reader { IsHandedIn reader.held back.old.held }
     ensures { HandsBack (TellsFind ReaderAsksLoaded found_told pc found.new) reader.held
         back.new.held }
 {
@@ -142,8 +136,7 @@ pub extern "C" fn registry_c_reader_find(
     place: &mut RegistryPlace,
     back: &mut ReaderHandle,
 )
-    requires reader { LeadsToReader reader.held }
-    requires back { LeadsNowhere back.old.held }
+    requires reader { IsHandedIn reader.held back.old.held }
     ensures { HandsBack (TellsFind ReaderFinds place_told pc place.new) reader.held back.new.held }
 {
     let mut open = reader.open(alloc);

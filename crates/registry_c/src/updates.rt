@@ -4,8 +4,7 @@
 //! has used up its releases, one that is left takes its place.
 
 ghost use Rattle.std.specs.Prelude.{◌≡◌, MatchBool};
-ghost use Rattle.c_handle.specs.Handles.{HandsBack, LeadsNowhere};
-ghost use Rattle.registry_c.specs.Clients.{LeadsToClient};
+ghost use Rattle.c_handle.specs.Handles.{HandsBack, IsHandedIn};
 ghost use Rattle.registry_c.specs.Answers.{TellsAttempt, insertion_told, loading_told};
 ghost use Rattle.registry_c.specs.Answers.{removal_told, replacement_told};
 ghost use Rattle.registry_c.specs.Tries.{Begins, IsSpent, is_lost, is_provided};
@@ -13,7 +12,7 @@ ghost use Rattle.registry_c.specs.Updates.{Deregisters, Loads, Registers, Replac
 
 use crate::attempt::{Attempt, RegistryAnswer};
 use crate::client::Client;
-use crate::handle::ClientHandle;
+use crate::handles::ClientHandle;
 use crate::member::RegistryMember;
 use frame_cache::laws::caches_go_on_to_fit;
 use node_store::{Busy, Once};
@@ -178,8 +177,7 @@ pub extern "C" fn registry_c_register(
     answer: &mut RegistryAnswer,
     back: &mut ClientHandle,
 )
-    requires client { LeadsToClient client.held }
-    requires back { LeadsNowhere back.old.held }
+    requires client { IsHandedIn client.held back.old.held }
     ensures { HandsBack (TellsAttempt (Registers member.now) insertion_told answer.new) client.held
         back.new.held }
 {
@@ -197,8 +195,7 @@ pub extern "C" fn registry_c_deregister(
     answer: &mut RegistryAnswer,
     back: &mut ClientHandle,
 )
-    requires client { LeadsToClient client.held }
-    requires back { LeadsNowhere back.old.held }
+    requires client { IsHandedIn client.held back.old.held }
     ensures { HandsBack (TellsAttempt (Deregisters base) removal_told answer.new) client.held
         back.new.held }
 {
@@ -216,8 +213,7 @@ pub extern "C" fn registry_c_replace(
     answer: &mut RegistryAnswer,
     back: &mut ClientHandle,
 )
-    requires client { LeadsToClient client.held }
-    requires back { LeadsNowhere back.old.held }
+    requires client { IsHandedIn client.held back.old.held }
     ensures { HandsBack
         (TellsAttempt (Replaces member.now) (replacement_told member.now) answer.new)
         client.held back.new.held }
@@ -236,8 +232,7 @@ pub extern "C" fn registry_c_load(
     answer: &mut RegistryAnswer,
     back: &mut ClientHandle,
 )
-    requires client { LeadsToClient client.held }
-    requires back { LeadsNowhere back.old.held }
+    requires client { IsHandedIn client.held back.old.held }
     ensures { HandsBack (TellsAttempt (Loads member.now) loading_told answer.new) client.held
         back.new.held }
 {
@@ -255,8 +250,7 @@ pub extern "C" fn registry_c_unload(
     answer: &mut RegistryAnswer,
     back: &mut ClientHandle,
 )
-    requires client { LeadsToClient client.held }
-    requires back { LeadsNowhere back.old.held }
+    requires client { IsHandedIn client.held back.old.held }
     ensures { HandsBack (TellsAttempt (Unloads base) removal_told answer.new) client.held
         back.new.held }
 {

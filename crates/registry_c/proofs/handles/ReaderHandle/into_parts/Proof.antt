@@ -4,11 +4,11 @@ use contract.Running.{tables, tables_of}
 use denote.Triple.Spec.{triple_of}
 use denote.Triple.Table.{entered}
 use Rattle.c_handle.proofs.HandleSteps.IntoParts.{meets}
-use Rattle.registry_c.proofs.Handles.{reader_handle}
-use Rattle.registry_c.specs.contracts.reader_handle.ReaderHandle.into_parts as F
-use Rattle.registry_c.specs.contracts.reader_handle.ReaderHandle.into_parts.Key.{name as #self}
-use Rattle.registry_c.proofs.reader_handle.ReaderHandle.into_parts.Statement as stated
-use Rattle.registry_c.proofs.reader_handle.ReaderHandle.into_parts.Code as code
+use Rattle.registry_c.proofs.HandleTypes.{reader_handle}
+use Rattle.registry_c.specs.contracts.handles.ReaderHandle.into_parts as F
+use Rattle.registry_c.specs.contracts.handles.ReaderHandle.into_parts.Key.{name as #self}
+use Rattle.registry_c.proofs.handles.ReaderHandle.into_parts.Statement as stated
+use Rattle.registry_c.proofs.handles.ReaderHandle.into_parts.Code as code
 
 pub into_parts_spec : {M : Type 1} → stated.statement M
 unfolding tables_of

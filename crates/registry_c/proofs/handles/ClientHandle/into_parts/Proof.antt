@@ -4,11 +4,11 @@ use contract.Running.{tables, tables_of}
 use denote.Triple.Spec.{triple_of}
 use denote.Triple.Table.{entered}
 use Rattle.c_handle.proofs.HandleSteps.IntoParts.{meets}
-use Rattle.registry_c.proofs.Handles.{client_handle}
-use Rattle.registry_c.specs.contracts.handle.ClientHandle.into_parts as F
-use Rattle.registry_c.specs.contracts.handle.ClientHandle.into_parts.Key.{name as #self}
-use Rattle.registry_c.proofs.handle.ClientHandle.into_parts.Statement as stated
-use Rattle.registry_c.proofs.handle.ClientHandle.into_parts.Code as code
+use Rattle.registry_c.proofs.HandleTypes.{client_handle}
+use Rattle.registry_c.specs.contracts.handles.ClientHandle.into_parts as F
+use Rattle.registry_c.specs.contracts.handles.ClientHandle.into_parts.Key.{name as #self}
+use Rattle.registry_c.proofs.handles.ClientHandle.into_parts.Statement as stated
+use Rattle.registry_c.proofs.handles.ClientHandle.into_parts.Code as code
 
 pub into_parts_spec : {M : Type 1} → stated.statement M
 unfolding tables_of

@@ -4,7 +4,7 @@ use denote.Param.Send.{IsSend, owning_send}
 use Rattle.c_handle.proofs.HandleSteps.Crossing.{pointer_sends, owned, leaves}
 use Rattle.registry_c.specs.contracts.client.Client as Client
 use Rattle.registry_c.proofs.client.Client.TheSendSync.{the_send as client}
-use Rattle.registry_c.specs.contracts.handle.ClientHandle.{the_row, the_type}
+use Rattle.registry_c.specs.contracts.handles.ClientHandle.{the_row, the_type}
 
 pub send : IsSend the_row
 send = owning_send the_type pointer_sends (λ d. owned Client.the_row client d.at d.held) (leaves (to the_type))

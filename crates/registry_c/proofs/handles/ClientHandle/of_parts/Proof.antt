@@ -4,11 +4,11 @@ use contract.Running.{tables, tables_of}
 use denote.Triple.Spec.{triple_of}
 use denote.Triple.Table.{entered}
 use Rattle.c_handle.proofs.HandleSteps.OfParts.{meets}
-use Rattle.registry_c.proofs.Handles.{client_handle}
-use Rattle.registry_c.specs.contracts.handle.ClientHandle.of_parts as F
-use Rattle.registry_c.specs.contracts.handle.ClientHandle.of_parts.Key.{name as #self}
-use Rattle.registry_c.proofs.handle.ClientHandle.of_parts.Statement as stated
-use Rattle.registry_c.proofs.handle.ClientHandle.of_parts.Code as code
+use Rattle.registry_c.proofs.HandleTypes.{client_handle}
+use Rattle.registry_c.specs.contracts.handles.ClientHandle.of_parts as F
+use Rattle.registry_c.specs.contracts.handles.ClientHandle.of_parts.Key.{name as #self}
+use Rattle.registry_c.proofs.handles.ClientHandle.of_parts.Statement as stated
+use Rattle.registry_c.proofs.handles.ClientHandle.of_parts.Code as code
 
 pub of_parts_spec : {M : Type 1} → stated.statement M
 unfolding tables_of

@@ -4,11 +4,11 @@ use contract.Running.{tables, tables_of}
 use denote.Triple.Spec.{triple_of}
 use denote.Triple.Table.{entered}
 use Rattle.c_handle.proofs.HandleSteps.OfParts.{meets}
-use Rattle.registry_c.proofs.Handles.{reader_handle}
-use Rattle.registry_c.specs.contracts.reader_handle.ReaderHandle.of_parts as F
-use Rattle.registry_c.specs.contracts.reader_handle.ReaderHandle.of_parts.Key.{name as #self}
-use Rattle.registry_c.proofs.reader_handle.ReaderHandle.of_parts.Statement as stated
-use Rattle.registry_c.proofs.reader_handle.ReaderHandle.of_parts.Code as code
+use Rattle.registry_c.proofs.HandleTypes.{reader_handle}
+use Rattle.registry_c.specs.contracts.handles.ReaderHandle.of_parts as F
+use Rattle.registry_c.specs.contracts.handles.ReaderHandle.of_parts.Key.{name as #self}
+use Rattle.registry_c.proofs.handles.ReaderHandle.of_parts.Statement as stated
+use Rattle.registry_c.proofs.handles.ReaderHandle.of_parts.Code as code
 
 pub of_parts_spec : {M : Type 1} → stated.statement M
 unfolding tables_of

@@ -3,10 +3,10 @@ use mathlib.Core.Path.{refl}
 use Rattle.c_handle.proofs.HandleSteps.Form.{HandleType, handles_to}
 use Rattle.registry_c.specs.contracts.client.Client as Client
 use Rattle.registry_c.proofs.client.Client.TheLaws as client
-use Rattle.registry_c.specs.contracts.handle.ClientHandle as ClientHandle
+use Rattle.registry_c.specs.contracts.handles.ClientHandle as ClientHandle
 use Rattle.registry_c.specs.contracts.reader.RegistryReader as RegistryReader
 use Rattle.registry_c.proofs.reader.RegistryReader.TheLaws as reader
-use Rattle.registry_c.specs.contracts.reader_handle.ReaderHandle as ReaderHandle
+use Rattle.registry_c.specs.contracts.handles.ReaderHandle as ReaderHandle
 
 abbrev pub client_handle : HandleType
 client_handle = handles_to Client.the_row client.the_row_laws ClientHandle.the_type (λ h. (h.at, h.held)) (λ at held. record { at = at; held = held }) (λ at held. refl)

@@ -4,7 +4,7 @@ use denote.Param.Send.{IsSend, owning_send}
 use Rattle.c_handle.proofs.HandleSteps.Crossing.{pointer_sends, owned, leaves}
 use Rattle.registry_c.specs.contracts.reader.RegistryReader as RegistryReader
 use Rattle.registry_c.proofs.reader.RegistryReader.TheSendSync.{the_send as reader}
-use Rattle.registry_c.specs.contracts.reader_handle.ReaderHandle.{the_row, the_type}
+use Rattle.registry_c.specs.contracts.handles.ReaderHandle.{the_row, the_type}
 
 pub send : IsSend the_row
 send = owning_send the_type pointer_sends (λ d. owned RegistryReader.the_row reader d.at d.held) (leaves (to the_type))
