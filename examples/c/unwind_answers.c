@@ -246,10 +246,45 @@ static int readers(unwind_reader *reader) {
   return 0;
 }
 
+/* The place of an entry, whatever is guessed; also where the entries are in no order. */
+static int places(void) {
+  const unwind_entry table[] = {{-40, 1}, {-8, 2}, {0, 3}, {16, 4}, {16, 5}, {INT32_MAX, 6}};
+  const unwind_entry mixed[] = {{5, 1}, {3, 2}, {9, 3}, {1, 4}};
+  const int64_t wanted[] = {INT64_MIN, -41, -40, -9, -8, -1, 0, 15, 16, 100, INT32_MAX, INT64_MAX};
+  const size_t place[] = {0, 0, 0, 0, 1, 1, 2, 2, 4, 4, 5, 5};
+  const size_t guesses[] = {0, 1, 2, 3, 4, 5, 6, 7, SIZE_MAX};
+  for (size_t at = 0; at < sizeof place / sizeof *place; at++)
+    for (size_t guess = 0; guess < sizeof guesses / sizeof *guesses; guess++) {
+      CHECK(unwind_c_place(table, 6, wanted[at], guesses[guess]) == place[at]);
+      CHECK(unwind_c_place(table, 1, wanted[at], guesses[guess]) == 0);
+      CHECK(unwind_c_place(mixed, 4, wanted[at], guesses[guess]) < 4);
+    }
+  return 0;
+}
+
+/* Ranges are put in order, and each address leads to one that has it. */
+static int ranges(void) {
+  unwind_range range[] = {{1, 50, 10, 0}, {2, 0, 100, 0}, {3, 70, 0, 0}, {4, 20, 5, 0}, {5, 200, 1, 0}};
+  enum { COUNT = sizeof range / sizeof *range };
+  const uint64_t at[] = {2, 4, 1, 3, 5};
+  unwind_c_order(range, COUNT);
+  for (size_t place = 0; place < COUNT; place++) {
+    CHECK(range[place].at == at[place]);
+    range[place].reach = place < 4 ? 100 : 201;
+  }
+  CHECK(unwind_c_cover(range, COUNT, 0) == 0 && unwind_c_cover(range, COUNT, 99) == 0);
+  CHECK(unwind_c_cover(range, COUNT, 24) == 1 && unwind_c_cover(range, COUNT, 25) == 0);
+  CHECK(unwind_c_cover(range, COUNT, 50) == 2 && unwind_c_cover(range, COUNT, 70) == 0);
+  CHECK(unwind_c_cover(range, COUNT, 200) == 4 && unwind_c_cover(range, 0, 200) == 0);
+  CHECK(unwind_c_cover(range, COUNT, 100) == COUNT && unwind_c_cover(range, COUNT, 201) == COUNT);
+  CHECK(unwind_c_cover(range, COUNT, UINT64_MAX) == COUNT);
+  return 0;
+}
+
 int main(void) {
   unwind_writer writer = {0};
   unwind_reader reader = {0};
-  if (refusals()) return 1;
+  if (refusals() || places() || ranges()) return 1;
   CHECK(unwind_c_new(&limits, &writer) == UNWIND_NEW && unwind_c_left(writer, &writer) == CALLS);
   CHECK(unwind_c_reader(writer, &reader, &writer) && misses(&reader, 0x1000));
   if (one_section(&writer, &reader) || without_ranges(&writer, &reader)) return 1;

@@ -246,6 +246,42 @@ typedef struct {
 void unwind_c_find(unwind_reader reader, uint64_t pc, unwind_found *found,
                    unwind_reader *back) UNWIND_C_NONNULL;
 
+/* ---- loaded objects -------------------------------------------------------------------------- */
+
+/* An entry of the sorted table that a linker leaves in a loaded object, in .eh_frame_hdr: where
+ * code begins, and where its FDE stands. Both count from the header on. */
+typedef struct {
+  int32_t first;
+  int32_t fde;
+} unwind_entry;
+
+/* The place of an entry in such a table, which has one at least: that entry begins at `wanted`,
+ * which counts from the header on too, or before it, or is the first; and the next one, if there is
+ * one, begins after it. So where the entries are in order, no other's code has the address. The
+ * entry at `guess` is tried first, and any number will do. It takes no memory and writes nothing,
+ * and may be called in a signal handler. */
+size_t unwind_c_place(const unwind_entry *entries, size_t count, int64_t wanted,
+                      size_t guess) UNWIND_C_NONNULL;
+
+/* ---- ranges of the program's own ------------------------------------------------------------- */
+
+/* The `size` addresses from `first` on, and what stands `at` them, any number. `reach` is at least
+ * the address after all that this range has and those before it. */
+typedef struct {
+  uint64_t at;
+  uint64_t first;
+  uint64_t size;
+  uint64_t reach;
+} unwind_range;
+
+/* Puts ranges in order of their first addresses. It takes no memory. */
+void unwind_c_order(unwind_range *ranges, size_t count) UNWIND_C_NONNULL;
+
+/* The place of a range that has an address; `count` where none was found: where the ranges are in
+ * order, and `reach` is as said, none has it. It takes no memory and writes nothing, and may be
+ * called in a signal handler. */
+size_t unwind_c_cover(const unwind_range *ranges, size_t count, uint64_t pc) UNWIND_C_NONNULL;
+
 #ifdef __cplusplus
 }
 #endif

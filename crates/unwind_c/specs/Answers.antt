@@ -16,44 +16,13 @@ use Rattle.fde_writer.specs.declared.outcome.Registration.{Registration}
 use Rattle.fde_writer.specs.declared.outcome.Registration.TheVariants as registration
 use Rattle.frame_parse.specs.Sections.{SectionData}
 use Rattle.frame_parse.specs.declared.fault.FrameFault.TheVariants.{NoMemory}
+use Rattle.unwind_c.specs.Kinds.{SECTION_DONE, SECTION_REFUSED, SECTION_FAR, SECTION_SPENT}
+use Rattle.unwind_c.specs.Kinds.{SECTION_NO_MEMORY, SECTION_OVERLAP, SECTION_FULL, SECTION_STUCK}
+use Rattle.unwind_c.specs.Kinds.{SECTION_UNKNOWN, SECTION_LEFT, SECTION_INTO_STUCK}
 use Rattle.unwind_c.specs.Reach.{section_reach}
 use Rattle.unwind_c.specs.declared.reach.Reach.{Reach}
 use Rattle.unwind_c.specs.declared.sections.Placed.{Placed}
 use Rattle.unwind_c.specs.declared.told.UnwindTold.{UnwindTold}
-
--- the kinds of answers
-abbrev pub SECTION_DONE : ℕ
-SECTION_DONE = 0
-
-abbrev pub SECTION_REFUSED : ℕ
-SECTION_REFUSED = 1
-
-abbrev pub SECTION_FAR : ℕ
-SECTION_FAR = 2
-
-abbrev pub SECTION_SPENT : ℕ
-SECTION_SPENT = 3
-
-abbrev pub SECTION_NO_MEMORY : ℕ
-SECTION_NO_MEMORY = 4
-
-abbrev pub SECTION_OVERLAP : ℕ
-SECTION_OVERLAP = 5
-
-abbrev pub SECTION_FULL : ℕ
-SECTION_FULL = 6
-
-abbrev pub SECTION_STUCK : ℕ
-SECTION_STUCK = 7
-
-abbrev pub SECTION_UNKNOWN : ℕ
-SECTION_UNKNOWN = 8
-
-abbrev pub SECTION_LEFT : ℕ
-SECTION_LEFT = 9
-
-abbrev pub SECTION_INTO_STUCK : ℕ
-SECTION_INTO_STUCK = 10
 
 -- no bytes were refused
 abbrev pub no_refusal : FramesRefusal

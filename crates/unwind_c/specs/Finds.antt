@@ -7,6 +7,7 @@ use Rattle.reg_model.specs.SpanData.{SpanData}
 use Rattle.reg_model.specs.declared.answer.Again.{Again}
 use Rattle.reg_model.specs.declared.answer.Half.{Half}
 use Rattle.reg_model.specs.declared.answer.Half.TheVariants.{Loaded, Registered}
+use Rattle.unwind_c.specs.Kinds.{FDE_MISS, FDE_REGISTERED, FDE_LOADED, FDE_AGAIN}
 use Rattle.unwind_c.specs.declared.found.UnwindFound.{UnwindFound}
 
 -- An address was looked up, once in each half that was asked. Nothing of the reader changed but
@@ -16,19 +17,6 @@ pub record FindsFdeOnce (pc : ℕ) (r r' : FdeReaderData) (result : Result FdeFo
     pub found : IfOk result (FindsFde r.words.terms r.low pc r.me r'.me)
     pub again : IfErr result (FindsAgain r.words.terms pc r.me r'.me)
     pub same : r' ≡ record r { me = r'.me }
-
--- the kinds of answers
-abbrev pub FDE_MISS : ℕ
-FDE_MISS = 0
-
-abbrev pub FDE_REGISTERED : ℕ
-FDE_REGISTERED = 1
-
-abbrev pub FDE_LOADED : ℕ
-FDE_LOADED = 2
-
-abbrev pub FDE_AGAIN : ℕ
-FDE_AGAIN = 3
 
 -- an FDE that was found in one half: the half and its stamp, its addresses, and its own address
 abbrev pub fde_hit_told : Half → ℕ → SpanData → ℕ → UnwindFound

@@ -1,6 +1,9 @@
 pub mod Answers
 pub mod Finds
+pub mod Kinds
 pub mod Limits
+pub mod Ranges
 pub mod Reach
 pub mod Readers
+pub mod Tables
 pub mod Writers

@@ -3,6 +3,7 @@
 ghost use Rattle.std.specs.Prelude.{◌≡◌};
 ghost use Rattle.unwind_c.specs.Finds.{fde_hit_told, found_fde_told, no_fde_told};
 
+use crate::kinds::{FDE_AGAIN, FDE_LOADED, FDE_MISS, FDE_REGISTERED};
 use fde_reader::FdeFound;
 use reg_model::{Again, Half, Span};
 
@@ -19,14 +20,6 @@ pub struct UnwindFound {
     pub fde: u64,
 }
 
-const MISS: u32 = 0;
-
-const REGISTERED: u32 = 1;
-
-const LOADED: u32 = 2;
-
-const AGAIN: u32 = 3;
-
 impl UnwindFound {
     fn hit(half: Half, stamp: u32, span: &Span, fde: u64) -> UnwindFound
         ensures { result ≡ fde_hit_told half stamp span.now fde }
@@ -35,7 +28,7 @@ impl UnwindFound {
         let size = last - first + 1;
         match half {
             Half::Registered => UnwindFound {
-                kind: REGISTERED,
+                kind: FDE_REGISTERED,
                 registered: stamp,
                 loaded: 0,
                 first,
@@ -43,7 +36,7 @@ impl UnwindFound {
                 fde,
             },
             Half::Loaded => UnwindFound {
-                kind: LOADED,
+                kind: FDE_LOADED,
                 registered: 0,
                 loaded: stamp,
                 first,
@@ -79,11 +72,11 @@ impl UnwindFound {
                 },
             ) => UnwindFound::hit(*half, *stamp, span, *fde),
             Ok(FdeFound::Miss { registered, loaded }) => UnwindFound::none(
-                MISS,
+                FDE_MISS,
                 *registered,
                 *loaded,
             ),
-            Err(_) => UnwindFound::none(AGAIN, 0, 0),
+            Err(_) => UnwindFound::none(FDE_AGAIN, 0, 0),
         }
     }
 }

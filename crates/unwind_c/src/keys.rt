@@ -3,10 +3,9 @@
 ghost use Rattle.std.specs.Prelude.{◌≡◌, ◌≢◌, ◌++◌, [], ℕ, Contains, IsSomeAnd, drop, length, take};
 ghost use Rattle.std.specs.Map.{keys_of};
 ghost use Rattle.fde_writer.specs.Standing.{standing_under};
-ghost use Rattle.c_handle.specs.Handles.{LeadsNowhere};
-ghost use Rattle.unwind_c.specs.Writers.{LeadsToFdeWriter};
+ghost use Rattle.c_handle.specs.Handles.{IsHandedIn};
 
-use crate::writer_handle::FdeWriterHandle;
+use crate::handles::FdeWriterHandle;
 use std::alloc::Global;
 
 /// How many keys the library lists: each under which sections stand. They are written, as far as
@@ -18,8 +17,7 @@ pub extern "C" fn unwind_c_keys(
     keys: &mut [u64],
     back: &mut FdeWriterHandle,
 ) -> usize
-    requires writer { LeadsToFdeWriter writer.held }
-    requires back { LeadsNowhere back.old.held }
+    requires writer { IsHandedIn writer.held back.old.held }
     ensures count { IsSomeAnd writer.held (λ u. result ≡ length u.stands) }
     ensures written { IsSomeAnd writer.held (λ u. keys.new
         ≡ take (length keys.old) (keys_of u.stands) ++ drop (length u.stands) keys.old) }

@@ -7,22 +7,25 @@
 #![tactic(auto)]
 
 mod found;
+mod handles;
 mod keys;
+mod kinds;
 mod limits;
+mod ranges;
 mod reach;
-mod reader_handle;
 mod readers;
 mod sections;
+mod tables;
 mod told;
-mod writer_handle;
 mod writers;
 
 pub use found::UnwindFound;
+pub use handles::{FdeReaderHandle, FdeWriterHandle};
 pub use keys::unwind_c_keys;
 pub use limits::UnwindLimits;
-pub use reader_handle::FdeReaderHandle;
-pub use readers::{unwind_c_find, unwind_c_reader_again, unwind_c_reader_drop};
+pub use ranges::{UnwindRange, unwind_c_cover, unwind_c_order};
+pub use readers::{unwind_c_find, unwind_c_reader, unwind_c_reader_again, unwind_c_reader_drop};
 pub use sections::{unwind_c_deregister, unwind_c_move, unwind_c_register};
+pub use tables::{UnwindEntry, unwind_c_place};
 pub use told::UnwindTold;
-pub use writer_handle::FdeWriterHandle;
-pub use writers::{unwind_c_drop, unwind_c_due, unwind_c_left, unwind_c_new, unwind_c_reader};
+pub use writers::{unwind_c_drop, unwind_c_due, unwind_c_left, unwind_c_new};

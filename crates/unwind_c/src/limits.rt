@@ -1,7 +1,7 @@
 //! What a library is made with.
 
-ghost use Rattle.std.specs.Prelude.{MatchResult};
-ghost use Rattle.unwind_c.specs.Limits.{FitsLoads, FitsNodes, IsPastBounds};
+ghost use Rattle.std.specs.Prelude.{◌≡◌, Err, MatchResult};
+ghost use Rattle.unwind_c.specs.Limits.{FitsLoads, FitsNodes, IsPastBounds, library_told};
 
 /// How many nodes its tree has, how many ranges may stand in the loaded half at a time, and from
 /// where distances from code to FDEs are counted.
@@ -19,6 +19,19 @@ pub enum NewFault {
     NoMemory,
     Nodes,
     Loads,
+}
+
+impl NewFault {
+    /// As C is told it.
+    pub(crate) fn told(self) -> u64
+        ensures { result ≡ library_told (Err self) }
+    {
+        match self {
+            NewFault::NoMemory => 1,
+            NewFault::Nodes => 2,
+            NewFault::Loads => 3,
+        }
+    }
 }
 
 const MIN_NODES: u32 = 4;

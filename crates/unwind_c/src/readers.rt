@@ -1,14 +1,34 @@
 //! Readers are made, look up, and are dropped.
 
 ghost use Rattle.std.specs.Prelude.{◌≡◌, IsSomeAnd, length};
-ghost use Rattle.c_handle.specs.Handles.{HandsBack, LeadsNowhere};
+ghost use Rattle.c_handle.specs.Handles.{HandsBack, IsHandedIn, LeadsNowhere};
 ghost use Rattle.unwind_c.specs.Finds.{TellsFde};
 ghost use Rattle.unwind_c.specs.Readers.{LeadsToFdeReader, MakesFdeReaderAgain};
+ghost use Rattle.unwind_c.specs.Writers.{MakesFdeReader};
 
 use crate::found::UnwindFound;
-use crate::reader_handle::FdeReaderHandle;
+use crate::handles::{FdeReaderHandle, FdeWriterHandle};
 use fde_reader::FdeReader;
+use fde_writer::FdeWriter;
 use std::alloc::Global;
+
+fn make_reader(writer: &mut FdeWriter, alloc: Global, out: &mut FdeReaderHandle) -> bool
+    requires { LeadsNowhere out.old.held }
+    ensures { MakesFdeReader result out.new.held writer.old writer.new }
+{
+    let Ok(registry) = writer.share() else {
+        return false;
+    };
+    let me = writer.reader();
+    let reader = FdeReader::of(registry, me, writer.low());
+    match Box::new(alloc, reader) {
+        Ok(reader) => {
+            *out = FdeReaderHandle::of(reader);
+            true
+        }
+        Err(_) => false,
+    }
+}
 
 fn make_another(reader: &mut FdeReader, alloc: Global, out: &mut FdeReaderHandle) -> bool
     requires { LeadsNowhere out.old.held }
@@ -26,6 +46,25 @@ fn make_another(reader: &mut FdeReader, alloc: Global, out: &mut FdeReaderHandle
     }
 }
 
+/// Makes a reader that has seen what the writer has, which stays as it was. Whether `out` has it:
+/// it hasn't where memory ran out.
+#[unsafe(no_mangle)]
+pub extern "C" fn unwind_c_reader(
+    alloc: Global,
+    writer: FdeWriterHandle,
+    out: &mut FdeReaderHandle,
+    back: &mut FdeWriterHandle,
+) -> bool
+    requires writer { IsHandedIn writer.held back.old.held }
+    requires out { LeadsNowhere out.old.held }
+    ensures { HandsBack (MakesFdeReader result out.new.held) writer.held back.new.held }
+{
+    let mut open = writer.open(alloc);
+    let made = make_reader(&mut open, alloc, out);
+    *back = FdeWriterHandle::of(open);
+    made
+}
+
 /// Makes another reader, which has seen what one has. Whether `out` has it: it hasn't where memory
 /// ran out.
 #[unsafe(no_mangle)]
@@ -35,9 +74,8 @@ pub extern "C" fn unwind_c_reader_again(
     out: &mut FdeReaderHandle,
     back: &mut FdeReaderHandle,
 ) -> bool
-    requires reader { LeadsToFdeReader reader.held }
+    requires reader { IsHandedIn reader.held back.old.held }
     requires out { LeadsNowhere out.old.held }
-    requires back { LeadsNowhere back.old.held }
     ensures { HandsBack (MakesFdeReaderAgain result out.new.held) reader.held back.new.held }
 {
     let mut open = reader.open(alloc);
@@ -66,8 +104,7 @@ pub extern "C" fn unwind_c_find(
     found: &mut UnwindFound,
     back: &mut FdeReaderHandle,
 )
-    requires reader { LeadsToFdeReader reader.held }
-    requires back { LeadsNowhere back.old.held }
+    requires reader { IsHandedIn reader.held back.old.held }
     ensures { HandsBack (TellsFde pc found.new) reader.held back.new.held }
 {
     let mut open = reader.open(alloc);

@@ -1,15 +1,14 @@
 //! Sections are registered, given up and moved.
 
 ghost use Rattle.std.specs.Prelude.{IsSomeAnd};
-ghost use Rattle.c_handle.specs.Handles.{HandsBack, LeadsNowhere};
+ghost use Rattle.c_handle.specs.Handles.{HandsBack, IsHandedIn};
 ghost use Rattle.fde_writer.specs.Outcomes.{IsDeregistration};
 ghost use Rattle.unwind_c.specs.Answers.{RegistersBytes, TellsMove, TellsSection, bytes_told};
 ghost use Rattle.unwind_c.specs.Answers.{deregistration_told};
-ghost use Rattle.unwind_c.specs.Writers.{LeadsToFdeWriter};
 
+use crate::handles::FdeWriterHandle;
 use crate::reach::Reach;
 use crate::told::UnwindTold;
-use crate::writer_handle::FdeWriterHandle;
 use c_sections::{LoadFault, read_section};
 use fde_writer::{FdeWriter, Registration};
 use std::alloc::Global;
@@ -62,8 +61,7 @@ pub extern "C" fn unwind_c_register(
     told: &mut UnwindTold,
     back: &mut FdeWriterHandle,
 )
-    requires writer { LeadsToFdeWriter writer.held }
-    requires back { LeadsNowhere back.old.held }
+    requires writer { IsHandedIn writer.held back.old.held }
     ensures { HandsBack (TellsSection (RegistersBytes key note address bytes.now) bytes_told
         told.new) writer.held back.new.held }
 {
@@ -82,8 +80,7 @@ pub extern "C" fn unwind_c_deregister(
     told: &mut UnwindTold,
     back: &mut FdeWriterHandle,
 )
-    requires writer { LeadsToFdeWriter writer.held }
-    requires back { LeadsNowhere back.old.held }
+    requires writer { IsHandedIn writer.held back.old.held }
     ensures { HandsBack (TellsSection (IsDeregistration key) deregistration_told told.new)
         writer.held back.new.held }
 {
@@ -104,10 +101,8 @@ pub extern "C" fn unwind_c_move(
     back: &mut FdeWriterHandle,
     into_back: &mut FdeWriterHandle,
 )
-    requires writer { LeadsToFdeWriter writer.held }
-    requires into { LeadsToFdeWriter into.held }
-    requires back { LeadsNowhere back.old.held }
-    requires into_back { LeadsNowhere into_back.old.held }
+    requires writer { IsHandedIn writer.held back.old.held }
+    requires into { IsHandedIn into.held into_back.old.held }
     ensures { IsSomeAnd into.held (λ v. IsSomeAnd into_back.new.held
         (λ v'. HandsBack (TellsMove key v v' told.new) writer.held back.new.held)) }
 {

@@ -7,6 +7,10 @@ ghost use Rattle.unwind_c.specs.Answers.{kind_told_with, moving_told, placed_tol
 ghost use Rattle.unwind_c.specs.Answers.{refused_move_told};
 ghost use Rattle.unwind_c.specs.Answers.{refused_told, registration_told};
 
+use crate::kinds::{
+    SECTION_DONE, SECTION_FAR, SECTION_FULL, SECTION_INTO_STUCK, SECTION_LEFT, SECTION_NO_MEMORY,
+    SECTION_OVERLAP, SECTION_REFUSED, SECTION_SPENT, SECTION_STUCK, SECTION_UNKNOWN,
+};
 use crate::reach::Reach;
 use crate::sections::Placed;
 use c_sections::{FramesRefusal, LoadFault};
@@ -29,28 +33,6 @@ pub struct UnwindTold {
     pub end: u64,
     pub refusal: FramesRefusal,
 }
-
-const DONE: u32 = 0;
-
-const REFUSED: u32 = 1;
-
-const FAR: u32 = 2;
-
-const SPENT: u32 = 3;
-
-const NO_MEMORY: u32 = 4;
-
-const OVERLAP: u32 = 5;
-
-const FULL: u32 = 6;
-
-const STUCK: u32 = 7;
-
-const UNKNOWN: u32 = 8;
-
-const LEFT: u32 = 9;
-
-const INTO_STUCK: u32 = 10;
 
 const NO_REFUSAL: FramesRefusal = FramesRefusal {
     kind: 0,
@@ -88,7 +70,7 @@ impl UnwindTold {
     fn far(distance: u64) -> UnwindTold
         ensures { result ≡ far_told distance }
     {
-        let mut told = UnwindTold::of_kind(FAR);
+        let mut told = UnwindTold::of_kind(SECTION_FAR);
         told.distance = distance;
         told
     }
@@ -96,7 +78,7 @@ impl UnwindTold {
     fn refused(fault: LoadFault) -> UnwindTold
         ensures { result ≡ refused_told fault }
     {
-        let mut told = UnwindTold::of_kind(REFUSED);
+        let mut told = UnwindTold::of_kind(SECTION_REFUSED);
         told.refusal = FramesRefusal::of_load(fault);
         told
     }
@@ -105,13 +87,13 @@ impl UnwindTold {
         ensures { result ≡ registration_told answer }
     {
         match answer {
-            Registration::Done { numbers } => UnwindTold::numbered(DONE, numbers, 0),
+            Registration::Done { numbers } => UnwindTold::numbered(SECTION_DONE, numbers, 0),
             Registration::Far { distance } => UnwindTold::far(distance),
-            Registration::Spent => UnwindTold::of_kind(SPENT),
-            Registration::NoMemory => UnwindTold::of_kind(NO_MEMORY),
-            Registration::Overlap => UnwindTold::of_kind(OVERLAP),
-            Registration::Full => UnwindTold::of_kind(FULL),
-            Registration::Stuck => UnwindTold::of_kind(STUCK),
+            Registration::Spent => UnwindTold::of_kind(SECTION_SPENT),
+            Registration::NoMemory => UnwindTold::of_kind(SECTION_NO_MEMORY),
+            Registration::Overlap => UnwindTold::of_kind(SECTION_OVERLAP),
+            Registration::Full => UnwindTold::of_kind(SECTION_FULL),
+            Registration::Stuck => UnwindTold::of_kind(SECTION_STUCK),
         }
     }
 
@@ -121,7 +103,7 @@ impl UnwindTold {
     {
         match answer {
             Registration::Done { numbers } => {
-                let mut told = UnwindTold::numbered(DONE, numbers, 0);
+                let mut told = UnwindTold::numbered(SECTION_DONE, numbers, 0);
                 told.lowest = reach.lowest;
                 told.end = reach.end;
                 told
@@ -143,9 +125,13 @@ impl UnwindTold {
         ensures { result ≡ deregistration_told answer }
     {
         match answer {
-            Deregistration::Done { note, numbers } => UnwindTold::numbered(DONE, numbers, note),
-            Deregistration::Unknown => UnwindTold::of_kind(UNKNOWN),
-            Deregistration::Stuck => UnwindTold::of_kind(STUCK),
+            Deregistration::Done { note, numbers } => UnwindTold::numbered(
+                SECTION_DONE,
+                numbers,
+                note,
+            ),
+            Deregistration::Unknown => UnwindTold::of_kind(SECTION_UNKNOWN),
+            Deregistration::Stuck => UnwindTold::of_kind(SECTION_STUCK),
         }
     }
 
@@ -154,7 +140,7 @@ impl UnwindTold {
         ensures { result ≡ refused_move_told why }
     {
         match why {
-            Registration::Stuck => UnwindTold::of_kind(INTO_STUCK),
+            Registration::Stuck => UnwindTold::of_kind(SECTION_INTO_STUCK),
             why => UnwindTold::of_registration(why),
         }
     }
@@ -163,11 +149,11 @@ impl UnwindTold {
         ensures { result ≡ moving_told answer }
     {
         match answer {
-            Moving::Done { note, numbers } => UnwindTold::numbered(DONE, numbers, note),
-            Moving::Left { numbers } => UnwindTold::numbered(LEFT, numbers, 0),
-            Moving::Unknown => UnwindTold::of_kind(UNKNOWN),
+            Moving::Done { note, numbers } => UnwindTold::numbered(SECTION_DONE, numbers, note),
+            Moving::Left { numbers } => UnwindTold::numbered(SECTION_LEFT, numbers, 0),
+            Moving::Unknown => UnwindTold::of_kind(SECTION_UNKNOWN),
             Moving::Refused { why } => UnwindTold::of_refusal(why),
-            Moving::Stuck => UnwindTold::of_kind(STUCK),
+            Moving::Stuck => UnwindTold::of_kind(SECTION_STUCK),
         }
     }
 
@@ -176,7 +162,7 @@ impl UnwindTold {
         ensures { result ≡ fault_told fault }
     {
         match fault {
-            LoadFault::Frames(FrameFault::NoMemory) => UnwindTold::of_kind(NO_MEMORY),
+            LoadFault::Frames(FrameFault::NoMemory) => UnwindTold::of_kind(SECTION_NO_MEMORY),
             LoadFault::Frames(frames) => UnwindTold::refused(LoadFault::Frames(frames)),
             LoadFault::Long => UnwindTold::refused(LoadFault::Long),
         }

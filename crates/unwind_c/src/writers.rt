@@ -1,15 +1,13 @@
-//! Libraries are made and dropped, and readers of them made.
+//! Libraries are made and dropped.
 
 ghost use Rattle.std.specs.Prelude.{◌≡◌, IsSomeAnd, MatchResult, Ok, Err};
-ghost use Rattle.c_handle.specs.Handles.{HandsBack, LeadsNowhere};
+ghost use Rattle.c_handle.specs.Handles.{HandsBack, IsHandedIn, LeadsNowhere};
 ghost use Rattle.fde_writer.specs.Sections.{members_due};
 ghost use Rattle.unwind_c.specs.Limits.{IsNewLibrary, TellsNewLibrary};
-ghost use Rattle.unwind_c.specs.Writers.{LeadsToFdeWriter, MakesFdeReader};
+ghost use Rattle.unwind_c.specs.Writers.{LeadsToFdeWriter};
 
+use crate::handles::FdeWriterHandle;
 use crate::limits::{NewFault, UnwindLimits};
-use crate::reader_handle::FdeReaderHandle;
-use crate::writer_handle::FdeWriterHandle;
-use fde_reader::FdeReader;
 use fde_writer::FdeWriter;
 use std::alloc::Global;
 
@@ -44,48 +42,8 @@ pub extern "C" fn unwind_c_new(
             *out = FdeWriterHandle::of(writer);
             0
         }
-        Err(NewFault::NoMemory) => 1,
-        Err(NewFault::Nodes) => 2,
-        Err(NewFault::Loads) => 3,
+        Err(fault) => fault.told(),
     }
-}
-
-fn make_reader(writer: &mut FdeWriter, alloc: Global, out: &mut FdeReaderHandle) -> bool
-    requires { LeadsNowhere out.old.held }
-    ensures { MakesFdeReader result out.new.held writer.old writer.new }
-{
-    let Ok(registry) = writer.share() else {
-        return false;
-    };
-    let me = writer.reader();
-    let reader = FdeReader::of(registry, me, writer.low());
-    match Box::new(alloc, reader) {
-        Ok(reader) => {
-            *out = FdeReaderHandle::of(reader);
-            true
-        }
-        Err(_) => false,
-    }
-}
-
-/// Makes a reader that has seen what the writer has, which stays as it was. Whether `out` has it:
-/// it hasn't where memory ran out.
-#[unsafe(no_mangle)]
-pub extern "C" fn unwind_c_reader(
-    alloc: Global,
-    writer: FdeWriterHandle,
-    out: &mut FdeReaderHandle,
-    back: &mut FdeWriterHandle,
-) -> bool
-    requires writer { LeadsToFdeWriter writer.held }
-    requires out { LeadsNowhere out.old.held }
-    requires back { LeadsNowhere back.old.held }
-    ensures { HandsBack (MakesFdeReader result out.new.held) writer.held back.new.held }
-{
-    let mut open = writer.open(alloc);
-    let made = make_reader(&mut open, alloc, out);
-    *back = FdeWriterHandle::of(open);
-    made
 }
 
 /// How many update calls are left.
@@ -95,8 +53,7 @@ pub extern "C" fn unwind_c_left(
     writer: FdeWriterHandle,
     back: &mut FdeWriterHandle,
 ) -> u32
-    requires writer { LeadsToFdeWriter writer.held }
-    requires back { LeadsNowhere back.old.held }
+    requires writer { IsHandedIn writer.held back.old.held }
     ensures left { IsSomeAnd writer.held (λ u. result ≡ u.client.me.left) }
     ensures back { back.new.held ≡ writer.held }
 {
@@ -113,8 +70,7 @@ pub extern "C" fn unwind_c_due(
     writer: FdeWriterHandle,
     back: &mut FdeWriterHandle,
 ) -> u32
-    requires writer { LeadsToFdeWriter writer.held }
-    requires back { LeadsNowhere back.old.held }
+    requires writer { IsHandedIn writer.held back.old.held }
     ensures due { IsSomeAnd writer.held (λ u. result ≡ members_due u) }
     ensures back { back.new.held ≡ writer.held }
 {
