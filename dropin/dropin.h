@@ -29,13 +29,6 @@ static inline const struct record *after(const struct record *at) {
   return (const void *)((const uint8_t *)&at->back + at->length);
 }
 
-/* An FDE: where it stands and which addresses it has, none where `size` is 0. In a sorted list
- * `reach` is the address after all that it and those before it have. */
-struct fde {
-  const struct record *at;
-  uint64_t first, size, reach;
-};
-
 /* What a program registers: the first record of a section, or an array of such pointers that ends
  * with a null one; the program's own pointer, which it gets back; to what an encoding may be
  * relative. */
@@ -65,12 +58,9 @@ void leave(struct leaving *what, void (*end)(void *what));
 void end_what_left(void);
 void renew_slots(void);
 
-/* registered: what both lists find */
+/* registry: what the libraries and the list of plain sections tell */
 extern _Atomic uint64_t takes; /* how many sections were begun to be taken out of a list */
-const void *find_registered(uint64_t pc, struct dwarf_eh_bases *bases);
 void widen_bounds(uint64_t lowest, uint64_t end);
-void register_section(struct section section);
-void *deregister_section(const void *begin);
 
 /* libraries: sections that the proved library keeps */
 bool put_section(const struct section *section);
@@ -78,11 +68,12 @@ bool take_section(const void *begin, void **ob);
 const void *find_in_libraries(unsigned slot, uint64_t pc, struct dwarf_eh_bases *bases);
 bool renew_readers(unsigned slot);
 
-/* plain_reader: records as libgcc reads them */
+/* plain_reader: records as libgcc reads them. An FDE has its address, and no addresses where its
+ * size is 0. */
 const uint8_t *read_pointer(uint8_t encoding, const uint8_t *at, const struct section *of,
                             uint64_t *value);
-bool next_record(const struct record **at, const struct section *of, struct fde *fde);
-size_t read_fdes(const struct section *section, struct fde *into);
+bool next_record(const struct record **at, const struct section *of, unwind_range *fde);
+size_t read_fdes(const struct section *section, unwind_range *into);
 
 /* plain_sections: what the proved library refuses */
 bool put_plain(const struct section *section);

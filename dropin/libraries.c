@@ -8,14 +8,14 @@
 #include <string.h>
 
 enum { FEWEST_NODES = 64, MANY_NODES = 4096, MOST_NODES = 16384, MOST_LOADS = 1024 };
-enum { MOST_LIBRARIES = 14, PATIENCE = 64, KEYS = 256 }; /* so many keys are listed at once */
+enum { MOST_LIBRARIES = 14, PATIENCE = 64 };
 /* A library's FDEs stand so far above its `low` from their code: NEAR is within 2 GB of it. */
 static const uint64_t WINDOW = UINT32_MAX, HALF = (uint64_t)1 << 31, NEAR = -((uint64_t)1 << 31);
 
 struct library {
-  _Atomic(struct library *) next; /* which lookups read, apart from what updates write */
-  uint8_t apart[LINE - sizeof(void *)];
   struct leaving leaving;
+  _Atomic(struct library *) next;
+  uint8_t apart[LINE]; /* what lookups read from what updates write */
   unwind_writer writer;
   unwind_limits limits;
   uint32_t refuses; /* UNWIND_FULL or UNWIND_SPENT, from then until a section is taken out; or 0 */
@@ -34,34 +34,26 @@ static bool make_reader(struct library *library, unsigned slot) {
 }
 
 static void end_library(void *me) {
-  struct library *library = (void *)((uint8_t *)me - offsetof(struct library, leaving));
+  struct library *library = me;
   for (unsigned slot = 0; slot < SLOTS; slot++)
     if (library->readers[slot][0].at) unwind_c_reader_drop(library->readers[slot][0]);
-  unwind_c_drop(library->writer);
+  if (library->writer.at) unwind_c_drop(library->writer);
   give_memory(library);
 }
 
-/* Behind the others. NULL: there are too many, or there is no memory. */
-static struct library *add_library(uint32_t nodes, uint64_t low) {
-  _Atomic(struct library *) *last = &first.library;
-  unsigned libraries = 0;
-  for (; atomic_load(last) != NULL; last = &atomic_load(last)->next) libraries++;
-  struct library *added = libraries < MOST_LIBRARIES ? take_memory(sizeof *added) : NULL;
-  if (added == NULL) return NULL;
-  memset(added, 0, sizeof *added);
-  added->limits = (unwind_limits){nodes, nodes < MOST_LOADS ? nodes : MOST_LOADS, low};
-  if (unwind_c_new(&added->limits, &added->writer) != UNWIND_NEW) {
-    give_memory(added);
-    return NULL;
-  }
+/* NULL: there is no memory. */
+static struct library *make_library(uint32_t nodes, uint64_t low) {
+  struct library *made = take_memory(sizeof *made);
+  if (made == NULL) return NULL;
+  memset(made, 0, sizeof *made);
+  made->limits = (unwind_limits){nodes, nodes < MOST_LOADS ? nodes : MOST_LOADS, low};
+  bool is_whole = unwind_c_new(&made->limits, &made->writer) == UNWIND_NEW;
   /* two whose blocks may share a line are of slots far from each other */
-  for (unsigned count = 0; count < SLOTS; count++)
-    if (!make_reader(added, count % 2 * (SLOTS / 2) + count / 2)) {
-      end_library(&added->leaving);
-      return NULL;
-    }
-  atomic_store(last, added);
-  return added;
+  for (unsigned count = 0; is_whole && count < SLOTS; count++)
+    is_whole = make_reader(made, count % 2 * (SLOTS / 2) + count / 2);
+  if (is_whole) return made;
+  end_library(made);
+  return NULL;
 }
 
 static void drop_empty_ones(const struct library *but) {
@@ -77,18 +69,13 @@ static void drop_empty_ones(const struct library *but) {
   }
 }
 
-/* What `into` refuses stays where it is. */
+/* Until one is refused, which stays where it is. */
 static void move_all(struct library *from, struct library *into) {
-  uint64_t keys[KEYS];
-  unwind_told told;
-  for (bool moved = true; moved;) {
-    size_t count = unwind_c_keys(from->writer, keys, KEYS, &from->writer);
-    moved = false;
-    for (size_t i = 0; i < count && i < KEYS; i++) {
-      atomic_fetch_add(&takes, 1);
-      unwind_c_move(from->writer, into->writer, keys[i], &told, &from->writer, &into->writer);
-      if (told.kind == UNWIND_DONE) moved = true;
-    }
+  unwind_told told = {.kind = UNWIND_DONE};
+  uint64_t key;
+  while (told.kind == UNWIND_DONE && unwind_c_keys(from->writer, &key, 1, &from->writer) != 0) {
+    atomic_fetch_add(&takes, 1);
+    unwind_c_move(from->writer, into->writer, key, &told, &from->writer, &into->writer);
   }
 }
 
@@ -99,6 +86,24 @@ static uint32_t nodes_behind(const struct library *full) {
   if (nodes < MANY_NODES) return nodes * 8;
   if (nodes < MOST_NODES / 3) return nodes * 3;
   return nodes == MOST_NODES && full->refuses == UNWIND_FULL ? MANY_NODES : MOST_NODES;
+}
+
+/* Behind the others, for what they refused: a larger one for what `full` has, where there is a full
+ * one. NULL: there are too many, or there is no memory. */
+static struct library *add_library(struct library *full, uint64_t low) {
+  const uint32_t nodes = full != NULL ? nodes_behind(full) : FEWEST_NODES;
+  drop_empty_ones(NULL);
+  _Atomic(struct library *) *last = &first.library;
+  unsigned libraries = 0;
+  for (; atomic_load(last) != NULL; last = &atomic_load(last)->next) libraries++;
+  struct library *added = libraries < MOST_LIBRARIES ? make_library(nodes, low) : NULL;
+  if (added == NULL) return NULL;
+  atomic_store(last, added);
+  if (full != NULL && nodes >= full->limits.nodes) {
+    move_all(full, added);
+    drop_empty_ones(added);
+  }
+  return added;
 }
 
 /* How many bytes a section has, with the length of 0 at its end. */
@@ -127,36 +132,30 @@ static bool is_another_better(const struct library *library, uint32_t kind) {
 
 /* False: no library takes it, however large, and it is to be read plainly. */
 bool put_section(const struct section *section) {
-  for (struct library *added = NULL;;) {
-    struct library *full = NULL;
-    uint64_t low = NEAR;
-    uint32_t nodes = FEWEST_NODES;
-    for (struct library *at = first_library(); at != NULL; at = next_library(at)) {
-      const unwind_told told = put_into(at, section);
-      if (told.kind == UNWIND_DONE) {
-        widen_bounds(told.lowest, told.end);
-        return true;
-      }
-      if (told.kind == UNWIND_REFUSED || told.kind == UNWIND_NO_MEMORY) return false;
-      if (at == added && !is_another_better(at, told.kind)) {
-        drop_empty_ones(NULL);
-        return false;
-      }
-      if (at->refuses != 0) {
-        full = at;
-        low = at->limits.low;
-        nodes = nodes_behind(at);
-      } else if (told.kind == UNWIND_FAR && full == NULL) {
-        const uint64_t distance = at->limits.low + told.distance;
-        low = distance - NEAR < WINDOW ? NEAR : distance - HALF;
-      }
+  struct library *full = NULL, *added = NULL;
+  uint64_t low = NEAR;
+  for (struct library *at = first_library();; at = next_library(at)) {
+    if (at == NULL) {
+      at = added = add_library(full, low);
+      full = NULL;
     }
-    drop_empty_ones(NULL);
-    added = add_library(nodes, low);
-    if (added == NULL) return false;
-    if (full != NULL && (full->limits.nodes < MOST_NODES || full->refuses == UNWIND_SPENT)) {
-      move_all(full, added);
-      drop_empty_ones(added);
+    if (at == NULL) return false;
+    const unwind_told told = put_into(at, section);
+    if (told.kind == UNWIND_DONE) {
+      widen_bounds(told.lowest, told.end);
+      return true;
+    }
+    if (told.kind == UNWIND_REFUSED || told.kind == UNWIND_NO_MEMORY) return false;
+    if (at == added && !is_another_better(at, told.kind)) {
+      drop_empty_ones(NULL);
+      return false;
+    }
+    if (at->refuses != 0) {
+      full = at;
+      low = at->limits.low;
+    } else if (told.kind == UNWIND_FAR && full == NULL) {
+      const uint64_t distance = at->limits.low + told.distance;
+      low = distance - NEAR < WINDOW ? NEAR : distance - HALF;
     }
   }
 }

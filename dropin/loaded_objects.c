@@ -5,15 +5,12 @@
 #include <dlfcn.h>
 #include <string.h>
 
-/* The header of the table, as all linkers write it, and the table: both numbers of an entry count
- * from the header on. */
+/* The header of the table, as all linkers write it, and the table. */
 struct header {
   uint8_t form[4]; /* the version, and the encodings of `frames`, `count` and the table */
   int32_t frames;
   uint32_t count;
-  struct entry {
-    int32_t first, fde;
-  } table[];
+  unwind_entry table[];
 };
 static const uint8_t usual[4] = {1, 0x1b, 0x03, 0x3b};
 static const struct section no_bases;
@@ -25,20 +22,12 @@ static _Atomic uint32_t guesses[GUESSES];
 
 /* The FDE of the last entry that begins at an address or before it; else that of the first one. */
 static const struct record *search_table(const struct header *header, uint64_t pc) {
-  const struct entry *table = header->table;
-  const int64_t wanted = (int64_t)(pc - (uintptr_t)header);
   _Atomic uint32_t *guess = &guesses[pc % GUESSES];
-  uint32_t low = atomic_load_explicit(guess, memory_order_relaxed), high = header->count;
-  if (low >= high || table[low].first > wanted ||
-      (low + 1 < high && table[low + 1].first <= wanted)) {
-    for (low = 0; high - low > 1;) {
-      const uint32_t middle = low + (high - low) / 2;
-      if (wanted < table[middle].first) high = middle;
-      else low = middle;
-    }
-    atomic_store_explicit(guess, low, memory_order_relaxed);
-  }
-  return (const void *)((const uint8_t *)header + table[low].fde);
+  const uint32_t guessed = atomic_load_explicit(guess, memory_order_relaxed);
+  const int64_t wanted = (int64_t)(pc - (uintptr_t)header);
+  const size_t place = unwind_c_place(header->table, header->count, wanted, guessed);
+  if (place != guessed) atomic_store_explicit(guess, (uint32_t)place, memory_order_relaxed);
+  return (const void *)((const uint8_t *)header + header->table[place].fde);
 }
 
 /* Goes along all records where there is no table, or one of another form. */
@@ -55,10 +44,10 @@ const void *find_loaded(uint64_t pc, struct dwarf_eh_bases *bases) {
   else if (read_pointer(header->form[1], (const uint8_t *)&header->frames, &no_bases, &frames))
     at = (const void *)frames;
   else return NULL;
-  for (struct fde fde; next_record(&at, &no_bases, &fde);) {
+  for (unwind_range fde; next_record(&at, &no_bases, &fde);) {
     if (pc - fde.first < fde.size) {
       *bases = (struct dwarf_eh_bases){NULL, NULL, (void *)fde.first};
-      return fde.at;
+      return (const void *)fde.at;
     }
     if (has_table) break;
   }

@@ -37,6 +37,7 @@ void begin_update(void) {
 }
 
 void end_update(void) {
+  end_what_left();
   sigset_t before = blocked_before;
   errno = error_before;
   pthread_mutex_unlock(&mutex);

@@ -6,20 +6,19 @@
 #include <sys/mman.h>
 
 /* Before each block stands its size, with this head. Where that is below LARGE the block comes of a
- * chunk, and goes to the list of its size when it is given back; else it is mapped by itself, one
- * UNIT before its address. */
+ * chunk, and goes to the list of its size when it is given back; else it is mapped by itself. */
 struct head {
   size_t size;
-  struct head *next; /* where the block begins, of one that was given back */
+  struct head *next; /* of a block that was given back */
 };
-enum { HEAD = sizeof(size_t), UNIT = 16, PAGE = 4096, LARGE = PAGE, CHUNK = 16 * PAGE };
+enum { UNIT = sizeof(struct head), LARGE = 4096, CHUNK = 16 * LARGE };
 static struct head *given_back[LARGE / UNIT];
-static struct head *chunk;
+static uint8_t *chunk;
 static size_t chunk_left;
 
-static struct head *map(size_t size) {
-  uint8_t *at = mmap(NULL, size, PROT_READ | PROT_WRITE, MAP_PRIVATE | MAP_ANONYMOUS, -1, 0);
-  return at == MAP_FAILED ? NULL : (struct head *)(at + UNIT - HEAD);
+static void *map(size_t size) {
+  void *at = mmap(NULL, size, PROT_READ | PROT_WRITE, MAP_PRIVATE | MAP_ANONYMOUS, -1, 0);
+  return at == MAP_FAILED ? NULL : at;
 }
 
 static struct head *take_small(size_t size) {
@@ -29,30 +28,28 @@ static struct head *take_small(size_t size) {
     return head;
   }
   if (chunk_left < size) {
-    struct head *more = map(CHUNK);
-    if (more == NULL) return NULL;
-    chunk = more;
-    chunk_left = CHUNK - UNIT;
+    chunk = map(CHUNK);
+    chunk_left = chunk != NULL ? CHUNK : 0;
+    if (chunk == NULL) return NULL;
   }
   chunk_left -= size;
-  return (struct head *)((uint8_t *)chunk + chunk_left);
+  return (struct head *)(chunk + chunk_left);
 }
 
 /* A block with a multiple of UNIT as its address; NULL where there is no memory. */
 void *take_memory(size_t size) {
-  if (size > PTRDIFF_MAX - 2 * PAGE) return NULL;
-  size_t whole = (size + HEAD + UNIT - 1) / UNIT * UNIT;
-  if (whole >= LARGE) whole = (size + UNIT + PAGE - 1) / PAGE * PAGE;
+  if (size > PTRDIFF_MAX) return NULL;
+  const size_t whole = sizeof(struct head) + (size + UNIT - 1) / UNIT * UNIT;
   struct head *head = whole < LARGE ? take_small(whole) : map(whole);
   if (head == NULL) return NULL;
   head->size = whole;
-  return &head->next;
+  return head + 1;
 }
 
 void give_memory(void *block) {
-  struct head *head = (struct head *)((uint8_t *)block - HEAD);
+  struct head *head = (struct head *)block - 1;
   if (head->size >= LARGE) {
-    munmap((uint8_t *)block - UNIT, head->size);
+    munmap(head, head->size);
     return;
   }
   head->next = given_back[head->size / UNIT];
@@ -73,8 +70,7 @@ struct tried rattle_alloc(size_t size, size_t alignment) {
 }
 
 struct tried rattle_realloc(void *block, size_t kept, size_t size, size_t alignment) {
-  if (size + UNIT <= ((struct head *)((uint8_t *)block - HEAD))->size)
-    return (struct tried){true, block};
+  if (size + UNIT <= ((struct head *)block - 1)->size) return (struct tried){true, block};
   const struct tried tried = rattle_alloc(size, alignment);
   if (tried.ok) {
     memcpy(tried.at, block, kept);

@@ -1,4 +1,6 @@
-/* Registered sections: in the libraries, or else plainly read. */
+/* The ten names by which programs, JIT compilers and libgcc's unwinder reach the registry, with
+ * libgcc's signatures. They belong together: a section that is registered here and looked up there
+ * isn't found. A registered section stands in a library, or else it is plainly read. */
 #include "dropin.h"
 #include <stdalign.h>
 
@@ -17,7 +19,7 @@ void widen_bounds(uint64_t lowest, uint64_t end) {
 
 /* A miss is believed where nothing was begun to be taken out meanwhile: so who stands all the time
  * is found, and an address is found that some section has at each moment. */
-const void *find_registered(uint64_t pc, struct dwarf_eh_bases *bases) {
+static const void *find_registered(uint64_t pc, struct dwarf_eh_bases *bases) {
   if (pc < atomic_load(&bounds.lowest) || pc >= atomic_load(&bounds.end)) return NULL;
   const unsigned slot = lease();
   const void *fde;
@@ -31,26 +33,49 @@ const void *find_registered(uint64_t pc, struct dwarf_eh_bases *bases) {
   return fde;
 }
 
+const void *_Unwind_Find_FDE(void *pc, struct dwarf_eh_bases *bases) {
+  const void *fde = find_registered((uintptr_t)pc, bases);
+  return fde != NULL ? fde : find_loaded((uintptr_t)pc, bases);
+}
+
 /* As in libgcc, what begins with a length of 0 isn't registered, and is given up without a word. */
 static bool is_empty(const struct record *begin) { return begin == NULL || begin->length == 0; }
 
-void register_section(struct section section) {
+static void register_section(struct section section) {
   if (is_empty(section.begin)) return;
   const bool is_plain = section.is_array || section.text != NULL || section.data != NULL;
   begin_update();
   const bool is_put = (!is_plain && put_section(&section)) || put_plain(&section);
-  end_what_left();
   end_update();
   if (!is_put) say("there is no memory to register", section.begin);
 }
 
-void *deregister_section(const void *begin) {
+void *__deregister_frame_info_bases(const void *begin) {
   void *ob = NULL;
   if (is_empty(begin)) return NULL;
   begin_update();
   const bool is_taken = take_section(begin, &ob) || take_plain(begin, &ob);
-  end_what_left();
   end_update();
   if (!is_taken) say("nothing is registered at", begin);
   return ob;
+}
+void *__deregister_frame_info(const void *begin) { return __deregister_frame_info_bases(begin); }
+void __deregister_frame(void *begin) { __deregister_frame_info_bases(begin); }
+
+void __register_frame_info_bases(const void *begin, void *ob, void *text, void *data) {
+  register_section((struct section){begin, false, ob, text, data});
+}
+void __register_frame_info(const void *begin, void *ob) {
+  __register_frame_info_bases(begin, ob, NULL, NULL);
+}
+void __register_frame(void *begin) { __register_frame_info_bases(begin, NULL, NULL, NULL); }
+
+void __register_frame_info_table_bases(void *begin, void *ob, void *text, void *data) {
+  register_section((struct section){begin, true, ob, text, data});
+}
+void __register_frame_info_table(void *begin, void *ob) {
+  __register_frame_info_table_bases(begin, ob, NULL, NULL);
+}
+void __register_frame_table(void *begin) {
+  __register_frame_info_table_bases(begin, NULL, NULL, NULL);
 }
