@@ -22,7 +22,7 @@ use Rattle.reg_model.specs.declared.span.Member.{Member}
 use Rattle.sole_writer.specs.Writers.{WriterAnswers, WriterData, WriterStops, plain_registry, plain_registry_after}
 use Rattle.word_rule.specs.CallerData.{WordsData}
 use Rattle.fde_writer.specs.Places.{GainsPlaces, HaveSame, HoldsAtLeast, LosesAtMost, PlaceData}
-use Rattle.fde_writer.specs.Puttings.{IsLoadingFault, IsPutFault, Puts, PutsNone, StopsPutting, StopsTaking, TakesAway, writer_state, writer_updates}
+use Rattle.fde_writer.specs.Puttings.{IsLoadingFault, IsPutFault, Puts, PutsNone, StopsPutting, StopsTaking, TakesAway, removal_from, writer_state, writer_updates}
 use Rattle.fde_writer.specs.Runs.{AddsAmong, IsNoRoom, Runs, numbers_told}
 use Rattle.fde_writer.specs.declared.outcome.Numbers.{Numbers}
 use Rattle.fde_writer.specs.declared.putting.PutFault.{PutFault}
@@ -168,26 +168,35 @@ take_one m half number r u w w' a new is loses adds = record {
   free = a.free;
 }
 
-pub take_registered : (m gone : Member) (number : ℕ) (w w' : WriterData) → Known w → HoldsAtLeast (writer_state w) (at Registered m ∷ []) → WriterAnswers (receipt.Deregister m.span.first (removed.Done number gone)) w w' → TakesAway (at Registered m ∷ []) (one number) w w'
+take_registered : (m gone : Member) (number : ℕ) (w w' : WriterData) → Known w → HoldsAtLeast (writer_state w) (at Registered m ∷ []) → WriterAnswers (receipt.Deregister m.span.first (removed.Done number gone)) w w' → TakesAway (at Registered m ∷ []) (one number) w w'
 take_registered m gone number w w' known holds a =
     take_one m Registered number _ (Deregister m.span.first) w w' a a.step.changes.2 a.step.changes.1
     (loses_registered m (writer_state w) known.lawful.registered known.registered (stands_there Registered m (writer_state w) holds))
     (All-cons (AddsAmong []) (Deregister m.span.first) [] tt (All-nil (AddsAmong [])))
 
-pub take_loaded : (m gone : Member) (number : ℕ) (w w' : WriterData) → Known w → HoldsAtLeast (writer_state w) (at Loaded m ∷ []) → WriterAnswers (receipt.Unload m.span.first (removed.Done number gone)) w w' → TakesAway (at Loaded m ∷ []) (one number) w w'
+take_loaded : (m gone : Member) (number : ℕ) (w w' : WriterData) → Known w → HoldsAtLeast (writer_state w) (at Loaded m ∷ []) → WriterAnswers (receipt.Unload m.span.first (removed.Done number gone)) w w' → TakesAway (at Loaded m ∷ []) (one number) w w'
 take_loaded m gone number w w' known holds a =
     take_one m Loaded number _ (Unload m.span.first) w w' a a.step.changes.2 a.step.changes.1
     (loses_loaded m (writer_state w) (loaded_apart (writer_state w) known.lawful) known.loaded (stands_there Loaded m (writer_state w) holds))
     (All-cons (AddsAmong []) (Unload m.span.first) [] tt (All-nil (AddsAmong [])))
 
 -- a member that is held is never not found
-pub never_registered : (m : Member) (stamp : ℕ) (w w' : WriterData) → Known w → HoldsAtLeast (writer_state w) (at Registered m ∷ []) → WriterAnswers (receipt.Deregister m.span.first (removed.NotFound stamp)) w w' → ⊥
+never_registered : (m : Member) (stamp : ℕ) (w w' : WriterData) → Known w → HoldsAtLeast (writer_state w) (at Registered m ∷ []) → WriterAnswers (receipt.Deregister m.span.first (removed.NotFound stamp)) w w' → ⊥
 never_registered m stamp w w' known holds a =
     true≢false (subst (λ (o : Option Member). IsNone o) (base_found (writer_state w).registered m known.lawful.registered known.registered (stands_there Registered m (writer_state w) holds)) a.step.right)
 
-pub never_loaded : (m : Member) (stamp : ℕ) (w w' : WriterData) → Known w → HoldsAtLeast (writer_state w) (at Loaded m ∷ []) → WriterAnswers (receipt.Unload m.span.first (removed.NotFound stamp)) w w' → ⊥
+never_loaded : (m : Member) (stamp : ℕ) (w w' : WriterData) → Known w → HoldsAtLeast (writer_state w) (at Loaded m ∷ []) → WriterAnswers (receipt.Unload m.span.first (removed.NotFound stamp)) w w' → ⊥
 never_loaded m stamp w w' known holds a =
     true≢false (subst (λ (o : Option Member). IsNone o) (base_found (writer_state w).loaded m (loaded_apart (writer_state w) known.lawful) known.loaded (stands_there Loaded m (writer_state w) holds)) a.step.right)
+
+-- the same of either half
+pub taken : (half : Half) (m gone : Member) (number : ℕ) (w w' : WriterData) → Known w → HoldsAtLeast (writer_state w) (at half m ∷ []) → WriterAnswers (removal_from half m.span.first (removed.Done number gone)) w w' → TakesAway (at half m ∷ []) (one number) w w'
+taken Registered = take_registered
+taken Loaded = take_loaded
+
+pub never_missing : (half : Half) (m : Member) (stamp : ℕ) (w w' : WriterData) → Known w → HoldsAtLeast (writer_state w) (at half m ∷ []) → WriterAnswers (removal_from half m.span.first (removed.NotFound stamp)) w w' → ⊥
+never_missing Registered = never_registered
+never_missing Loaded = never_loaded
 
 pub take_stopped : (ps : List PlaceData) (why : Busy) (w w' : WriterData) → WriterStops why w w' → StopsTaking ps w w'
 take_stopped ps why w w' stops = record {

@@ -2,8 +2,12 @@
 use Rattle.std.specs.Prelude.{◌≡◌, ◌≢◌, ◌≤◌, ◌⊎◌, ◌+◌, ◌*◌, ℕ, List, [], ◌∷◌, ◌++◌, true, false}
 use Rattle.std.specs.Prelude.{length}
 use Rattle.reg_model.specs.State.{State}
+use Rattle.reg_model.specs.declared.answer.Half.{Half}
+use Rattle.reg_model.specs.declared.answer.Half.TheVariants.{Loaded, Registered}
 use Rattle.reg_model.specs.declared.answer.Loading.{Loading}
+use Rattle.reg_model.specs.declared.answer.Receipt.{Receipt}
 use Rattle.reg_model.specs.declared.answer.Receipt.TheVariants as receipt
+use Rattle.reg_model.specs.declared.answer.Removed.{Removed}
 use Rattle.reg_model.specs.declared.span.Member.{Member}
 use Rattle.sole_writer.specs.Writers.{WriterData, plain_registry}
 use Rattle.fde_writer.specs.Places.{GainsPlaces, HaveSame, HoldsAtLeast, LosesAtMost, PlaceData}
@@ -59,6 +63,11 @@ abbrev pub IsPutFault : List Member → ℕ → WriterData → WriterData → Pu
 IsPutFault members calls w w' Overlap = PutsNone members calls w w' × FoundOverlap members w w'
 IsPutFault members calls w w' Full = PutsNone members calls w w' × FoundFull members w w'
 IsPutFault members calls w w' Stuck = StopsPutting members calls w w'
+
+-- how a half tells of a removal
+abbrev pub removal_from : Half → ℕ → Removed → Receipt
+removal_from Registered base answer = receipt.Deregister base answer
+removal_from Loaded base answer = receipt.Unload base answer
 
 -- The members at these places were taken away, by updates with these numbers.
 pub record TakesAway (places : List PlaceData) (numbers : Numbers) (w w' : WriterData) : Type 0

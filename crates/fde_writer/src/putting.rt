@@ -2,13 +2,15 @@
 
 ghost use Rattle.std.specs.Prelude.{◌≡◌, ◌+◌, ◌*◌, ◌<◌, ◌≤◌, [], ◌∷◌, All, IfOk, IfErr, OnErr};
 ghost use Rattle.std.specs.Prelude.{false, length};
-ghost use Rattle.reg_model.specs.declared.answer.Half.TheVariants as half;
+ghost use Rattle.sole_writer.specs.Writers.{WriterAnswers, WriterStops};
 ghost use Rattle.fde_writer.specs.Places.{HoldsAtLeast, PlaceData, placed_members};
 ghost use Rattle.fde_writer.specs.Puttings.{IsLoadingFault, IsPutFault, IsUndone, MayUndo, Puts};
 ghost use Rattle.fde_writer.specs.Puttings.{StopsTaking, TakesAway, UnlessStuck, writer_state};
+ghost use Rattle.fde_writer.specs.Puttings.{removal_from};
 
 use crate::outcome::Numbers;
 use crate::place::Place;
+use node_store::Busy;
 use reg_model::{Half, Inserted, Loading, Member, Removed};
 use sole_writer::Writer;
 
@@ -82,6 +84,20 @@ fn load(writer: &mut Writer, member: &Member) -> Result<PutMember, PutFault>
     }
 }
 
+/// Asks the half of a place to let its member go.
+fn remove(writer: &mut Writer, place: &Place) -> Result<Removed, Busy>
+    requires free { writer.old.stuck ≡ false }
+    requires left { 0 < writer.old.me.left }
+    ensures answers { IfOk result (λ answer. WriterAnswers
+        (removal_from place.now.half place.now.member.span.first answer) writer.old writer.new) }
+    ensures stops { IfErr result (λ why. WriterStops why writer.old writer.new) }
+{
+    match place.half() {
+        Half::Registered => writer.deregister(place.first()),
+        Half::Loaded => writer.unload(place.first()),
+    }
+}
+
 /// Takes away the member of a place.
 fn take(writer: &mut Writer, place: &Place) -> Result<u32, Stopped>
     requires free { writer.old.stuck ≡ false }
@@ -91,46 +107,8 @@ fn take(writer: &mut Writer, place: &Place) -> Result<u32, Stopped>
         writer.old writer.new) }
     ensures stops { OnErr result (StopsTaking (place.now ∷ []) writer.old writer.new) }
 {
-    match place.half() {
-        Half::Registered => deregister(writer, place),
-        Half::Loaded => unload(writer, place),
-    }
-}
-
-/// Takes it away from the registered ones.
-fn deregister(writer: &mut Writer, place: &Place) -> Result<u32, Stopped>
-    requires free { writer.old.stuck ≡ false }
-    requires left { 0 < writer.old.me.left }
-    requires half { place.now.half ≡ half.Registered }
-    requires there { HoldsAtLeast (writer_state writer.old) (place.now ∷ []) }
-    ensures taken { IfOk result (λ n. TakesAway (place.now ∷ []) (record { first = n; last = n })
-        writer.old writer.new) }
-    ensures stops { OnErr result (StopsTaking (place.now ∷ []) writer.old writer.new) }
-{
     writer.known();
-    let removed = match writer.deregister(place.first()) {
-        Ok(removed) => removed,
-        Err(_) => return Err(Stopped),
-    };
-    match removed {
-        Removed::Done { number, .. } => Ok(number),
-        Removed::NotFound { .. } => unreachable!(),
-        Removed::Spent => unreachable!(),
-    }
-}
-
-/// Takes it away from the loaded ones.
-fn unload(writer: &mut Writer, place: &Place) -> Result<u32, Stopped>
-    requires free { writer.old.stuck ≡ false }
-    requires left { 0 < writer.old.me.left }
-    requires half { place.now.half ≡ half.Loaded }
-    requires there { HoldsAtLeast (writer_state writer.old) (place.now ∷ []) }
-    ensures taken { IfOk result (λ n. TakesAway (place.now ∷ []) (record { first = n; last = n })
-        writer.old writer.new) }
-    ensures stops { OnErr result (StopsTaking (place.now ∷ []) writer.old writer.new) }
-{
-    writer.known();
-    let removed = match writer.unload(place.first()) {
+    let removed = match remove(writer, place) {
         Ok(removed) => removed,
         Err(_) => return Err(Stopped),
     };
