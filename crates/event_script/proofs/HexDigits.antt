@@ -1,15 +1,16 @@
 -- Hexadecimal digits that are written from the last one to the first.
-use Rattle.std.proofs.Common.{◌≡◌, ℕ, zero, suc, ◌+◌, ◌-◌, ◌*◌, ◌/◌, ◌%◌, ◌^◌, ◌<◌, ◌≤◌, Bool, true, false, cond, eqb, eq-eqb, ne_eqb, List, [], ◌∷◌, length, drop, set, refl, sym, ap, ◌∙◌, arith}
-use Rattle.std.proofs.lemmas.List.{drop_all, drop-set}
+use Rattle.std.proofs.Common.{◌≡◌, ℕ, zero, suc, ◌+◌, ◌*◌, ◌/◌, ◌%◌, ◌^◌, ◌<◌, ◌≤◌, Bool, true, false, cond, eqb, eq-eqb, ne_eqb, List, [], ◌∷◌, ◌++◌, length, refl, sym, ap, ◌∙◌, append_assoc, length-append, inl, inr, arith}
+use Rattle.std.proofs.lemmas.Bool.{cases_eq}
+use Rattle.std.proofs.lemmas.Fmt.{hex_one_digit, hex_two_digits}
 use Rattle.std.proofs.Math.Nat.{pow-suc}
 use Rattle.std.specs.Fmt.{digit_glyph, digits_onto, digits}
 use Rattle.std.specs.List.{AllByRecursion}
 use Rattle.std.specs.Str.{IsAscii, IsUtf8}
 use Rattle.std.proofs.lemmas.Str.{IsUtf8-from_ascii}
 use Rattle.event_script.specs.Digits.{hex}
-use Rattle.event_script.proofs.Numbers.{hex_visible}
+use Rattle.event_script.proofs.Numbers.{digits_number, hex_visible}
 
--- ---- digits are text
+-- ---- digits are text, and few
 
 visible_is_ascii : (bytes : List ℕ) → AllByRecursion (λ b. (33 ≤ b) × (b ≤ 126)) bytes → IsAscii bytes
 visible_is_ascii [] all i = omega arith
@@ -19,55 +20,79 @@ visible_is_ascii (b ∷ bytes) all (suc i) = visible_is_ascii bytes all.1 i
 pub hex_is_text : (n : ℕ) → n < 2 ^ 64 → IsUtf8 (hex n)
 hex_is_text n small = IsUtf8-from_ascii (hex n) (visible_is_ascii (hex n) (hex_visible n small))
 
--- ---- one digit after another
+pub hex_short : (n : ℕ) → n < 2 ^ 64 → length (hex n) ≤ 16
+hex_short n small = (digits_number 16 16 n (omega arith) (omega arith) (omega arith) (omega arith) (omega arith)).short
+
+-- ---- the last digit, and those before it
+
+-- what is spelled stands before what stood there
+onto_append : (k n : ℕ) (xs acc : List ℕ) → digits_onto k 16 false n (xs ++ acc) ≡ digits_onto k 16 false n xs ++ acc
+onto_append zero n xs acc = refl
+onto_append (suc k) n xs acc =
+    let glyph = digit_glyph false (n % 16) in
+    by (digits_onto k 16 false (n / 16) (glyph ∷ xs ++ acc)) glyph (onto_append k (n / 16) (glyph ∷ xs) acc) (eqb (n / 16) 0)
+  where
+    by : (more : List ℕ) (glyph : ℕ) → more ≡ digits_onto k 16 false (n / 16) (glyph ∷ xs) ++ acc → (t : Bool) → cond t (glyph ∷ xs ++ acc) more ≡ cond t (glyph ∷ xs) (digits_onto k 16 false (n / 16) (glyph ∷ xs)) ++ acc
+    by more glyph rest true = refl
+    by more glyph rest false = rest
 
 module _ (n : ℕ) (acc : List ℕ) where
   spelled_suc : (k : ℕ) (t : Bool) → eqb (n / 16) 0 ≡ t → digits_onto (suc k) 16 false n acc ≡ cond t (digit_glyph false (n % 16) ∷ acc) (digits_onto k 16 false (n / 16) (digit_glyph false (n % 16) ∷ acc))
   spelled_suc k t e = ap (λ (b : Bool). cond b (digit_glyph false (n % 16) ∷ acc) (digits_onto k 16 false (n / 16) (digit_glyph false (n % 16) ∷ acc))) e
 
-  last_digit : (i : ℕ) → 0 < i → n < 16 → digits_onto i 16 false n acc ≡ digit_glyph false (n % 16) ∷ acc
-  last_digit zero some small = absurd (omega arith)
-  last_digit (suc k) some small = spelled_suc k true (eq-eqb (n / 16) 0 (omega arith))
+-- room for a digit more than there are changes nothing
+enough : (k n : ℕ) (acc : List ℕ) → 0 < k → n < 16 ^ k → digits_onto (suc k) 16 false n acc ≡ digits_onto k 16 false n acc
+enough zero n acc some room = absurd (omega arith)
+enough (suc k) n acc some room =
+    elim (cases_eq (n / 16) 0) [
+      | inl none ↦
+          let last = eq-eqb (n / 16) 0 none in
+          spelled_suc n acc (suc k) true last ∙ sym (spelled_suc n acc k true last)
+      | inr more ↦
+          let others = ne_eqb (n / 16) 0 more in
+          let power = pow-suc 16 k in
+          let below : n / 16 < 16 ^ k = omega (arith, room, power) in
+          spelled_suc n acc (suc k) false others ∙ enough k (n / 16) (digit_glyph false (n % 16) ∷ acc) (some_left k below more) below ∙ sym (spelled_suc n acc k false others)
+    ]
+  where
+    some_left : (k : ℕ) → n / 16 < 16 ^ k → ¬ (n / 16 ≡ 0) → 0 < k
+    some_left zero below more = absurd (more (omega (arith, below)))
+    some_left (suc k) below more = omega arith
 
-  next_digit : (i : ℕ) → 16 ≤ n → digits_onto (i + 1) 16 false n acc ≡ digits_onto i 16 false (n / 16) (digit_glyph false (n % 16) ∷ acc)
-  next_digit i big =
-      let next : i + 1 ≡ suc i = omega arith in
-      ap (λ (k : ℕ). digits_onto k 16 false n acc) next ∙ spelled_suc i false (ne_eqb (n / 16) 0 (λ (none : n / 16 ≡ 0). omega (arith, none)))
-
-none_are_all : (n : ℕ) → digits_onto 64 16 false n [] ≡ hex n
+hex_is : (n : ℕ) → hex n ≡ digits_onto 64 16 false n []
 unfolding digits
-none_are_all n = refl
+hex_is n = refl
 
--- ---- digits from the last one to the first
+hex_step : (n : ℕ) → 16 ≤ n → n < 2 ^ 64 → hex n ≡ hex (n / 16) ++ (digit_glyph false (n % 16) ∷ [])
+hex_step n big small =
+    let glyph = digit_glyph false (n % 16) in
+    hex_is n ∙ spelled_suc n [] 63 false (ne_eqb (n / 16) 0 (λ (none : n / 16 ≡ 0). omega (arith, none)))
+    ∙ onto_append 63 (n / 16) [] (glyph ∷ [])
+    ∙ ap (λ (xs : List ℕ). xs ++ (glyph ∷ [])) (sym (enough 63 (n / 16) [] (omega arith) (omega arith)) ∙ sym (hex_is (n / 16)))
 
--- where more than a digit is left, there is room for it
-pub room_left : (start left : ℕ) → left < 16 ^ (start + 1) → 16 ≤ left → (0 < start) × (left / 16 < 16 ^ (start - 1 + 1))
-room_left zero left room big = absurd (omega (arith, room))
-room_left (suc s) left room big =
-    let next : suc s - 1 + 1 ≡ s + 1 = omega arith in
-    let more : suc s + 1 ≡ suc (s + 1) = omega arith in
-    let power : 16 ^ (suc s + 1) ≡ 16 ^ (s + 1) * 16 = ap (λ (k : ℕ). 16 ^ k) more ∙ pow-suc 16 (s + 1) in
-    (omega arith, rw next (omega (arith, power, room)))
+-- ---- the last two
 
-pub none_spelled : (n : ℕ) (digits : List ℕ) → length digits ≡ 16 → digits_onto 64 16 false n (drop 16 digits) ≡ hex n
-none_spelled n digits size = ap (digits_onto 64 16 false n) (drop_all 16 digits (omega arith)) ∙ none_are_all n
+abbrev pub pair : ℕ → List ℕ
+pair byte = digit_glyph false (byte / 16) ∷ digit_glyph false (byte % 16) ∷ []
 
-module _ (start left digit n : ℕ) (digits : List ℕ) (within : start < length digits) (so_far : digits_onto (start + 49) 16 false left (drop (start + 1) digits) ≡ hex n) where
-  pub more_spelled : 0 < start → 16 ≤ left → digit ≡ digit_glyph false (left % 16) → digits_onto (start - 1 + 49) 16 false (left / 16) (drop (start - 1 + 1) (set digits start digit)) ≡ hex n
-  more_spelled some big is =
-      let at : start - 1 + 1 ≡ start = omega arith in
-      let count : start + 49 ≡ start - 1 + 49 + 1 = omega arith in
-      let grown : drop (start - 1 + 1) (set digits start digit) ≡ digit_glyph false (left % 16) ∷ drop (start + 1) digits =
-      ap (λ (i : ℕ). drop i (set digits start digit)) at ∙ drop-set digits start digit within ∙ ap (λ (d : ℕ). d ∷ drop (start + 1) digits) is in
-      ap (digits_onto (start - 1 + 49) 16 false (left / 16)) grown
-      ∙ sym (next_digit left (drop (start + 1) digits) (start - 1 + 49) big)
-      ∙ sym (ap (λ (k : ℕ). digits_onto k 16 false left (drop (start + 1) digits)) count)
-      ∙ so_far
+pub hex_pair : (n : ℕ) → 256 ≤ n → n < 2 ^ 64 → hex n ≡ hex (n / 256) ++ pair (n % 256)
+hex_pair n big small =
+    let a : n / 16 / 16 ≡ n / 256 = omega arith in
+    let b : n / 16 % 16 ≡ n % 256 / 16 = omega arith in
+    let c : n % 16 ≡ n % 256 % 16 = omega arith in
+    rw (hex_step n (omega arith) small, hex_step (n / 16) (omega arith) (omega arith), append_assoc, a, b, ← c)
 
-  pub all_spelled : left < 16 → digit ≡ digit_glyph false left → drop start (set digits start digit) ≡ hex n
-  all_spelled small is =
-      let whole : left ≡ left % 16 = omega arith in
-      drop-set digits start digit within
-      ∙ ap (λ (d : ℕ). d ∷ drop (start + 1) digits) (is ∙ ap (digit_glyph false) whole)
-      ∙ sym (last_digit left (drop (start + 1) digits) (start + 49) (omega arith) small)
-      ∙ so_far
+pub length_pair : (n : ℕ) → 256 ≤ n → n < 2 ^ 64 → length (hex n) ≡ length (hex (n / 256)) + 2
+length_pair n big small = ap length (hex_pair n big small) ∙ length-append _ _
+
+pub hex_one : (n : ℕ) → n < 16 → hex n ≡ digit_glyph false n ∷ []
+hex_one n small = hex_one_digit false n small
+
+pub length_one : (n : ℕ) → n < 16 → length (hex n) ≡ 1
+length_one n small = ap length (hex_one n small)
+
+pub hex_two : (n : ℕ) → 16 ≤ n → n < 256 → hex n ≡ pair n
+hex_two n big small = hex_two_digits false n big small
+
+pub length_two : (n : ℕ) → 16 ≤ n → n < 256 → length (hex n) ≡ 2
+length_two n big small = ap length (hex_two n big small)

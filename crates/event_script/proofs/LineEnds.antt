@@ -1,5 +1,5 @@
 -- A line that is written from its end to its front.
-use Rattle.std.proofs.Common.{◌≡◌, ℕ, ◌+◌, ◌-◌, ◌≤◌, List, ◌++◌, length, take, drop, sym, ap, ◌∙◌, append_assoc, length-append, length-drop, arith}
+use Rattle.std.proofs.Common.{◌≡◌, ℕ, ◌+◌, ◌-◌, ◌≤◌, List, ◌++◌, length, take, drop, sym, ap, ◌∙◌, append_assoc, length-append, length-drop, append-nil, codes, [], arith}
 use Rattle.std.proofs.lemmas.List.{drop_at, drop-drop, length-take-le}
 
 -- a word was put before what stands behind the start
@@ -21,3 +21,10 @@ pub three_before : (a b c old one two three : List ℕ) → one ≡ c ++ old →
 three_before a b c old one two three last middle first =
     first ∙ ap (λ (x : List ℕ). a ++ x) (middle ∙ ap (λ (x : List ℕ). b ++ x) last)
     ∙ sym (append_assoc a b (c ++ old)) ∙ sym (append_assoc (a ++ b) c old)
+
+glue : (number space find pc word image at stamp feed : List ℕ) → (number ++ space) ++ ((find ++ pc) ++ (((space ++ word) ++ image) ++ ((at ++ stamp) ++ feed))) ≡ number ++ space ++ (find ++ pc ++ space ++ (word ++ (image ++ at ++ stamp) ++ [])) ++ feed
+glue number space find pc word image at stamp feed = simp (append_assoc, append-nil)
+
+-- the line of an address that a registered image has
+pub registered_before : (number pc image stamp : List ℕ) → (number ++ codes " ") ++ ((codes "find " ++ pc) ++ ((codes " registered " ++ image) ++ ((codes " at " ++ stamp) ++ codes "\n"))) ≡ number ++ codes " " ++ (codes "find " ++ pc ++ codes " " ++ (codes "registered " ++ (image ++ codes " at " ++ stamp) ++ [])) ++ codes "\n"
+registered_before number pc image stamp = glue number (codes " ") (codes "find ") pc (codes "registered ") image (codes " at ") stamp (codes "\n")

@@ -2,6 +2,6 @@
 
 pub mod fault;
 pub mod journal;
-mod line;
+pub mod line;
 mod numbers;
 pub mod script;

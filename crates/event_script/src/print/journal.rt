@@ -1,7 +1,7 @@
 //! The text of a journal.
 
-ghost use Rattle.std.specs.Prelude.{◌≡◌, ◌+◌, ◌<◌, ◌≤◌, [], ◌++◌, length, slice_index_or};
-ghost use Rattle.std.specs.Prelude.{IfOk, OnOk, All, codes, decimal};
+ghost use Rattle.std.specs.Prelude.{◌≡◌, ◌+◌, ◌<◌, ◌≤◌, [], ◌++◌, None, length};
+ghost use Rattle.std.specs.Prelude.{slice_index_or, IfOk, OnOk, All, codes, decimal};
 ghost use Rattle.std.specs.String.{string_bytes};
 ghost use Rattle.event_script.specs.Digits.{hex};
 ghost use Rattle.event_script.specs.Text.{IsPrintable, overlap_text, inserted_text, loading_text};
@@ -12,6 +12,9 @@ ghost use Rattle.event_script.specs.Text.{answer_line, answer_lines, event_line,
 ghost use Rattle.event_script.specs.Text.{event_number};
 ghost use Rattle.event_script.specs.Text.{answer_text, numbered, thread_text, updates_text};
 ghost use Rattle.event_script.specs.Text.{journal_text};
+ghost use Rattle.event_script.specs.declared.journal.Answer.TheVariants as answer;
+ghost use Rattle.reg_model.specs.SpanData.{SpanData};
+ghost use Rattle.reg_model.specs.declared.answer.Found.TheVariants.{Hit};
 
 use crate::journal::{Answer, Journal};
 use crate::print::line::LineEnd;
@@ -73,11 +76,40 @@ pub fn put_event_line(
         (slice_index_or (answer_lines answer.now) line [])) }
 {
     let mut end = LineEnd::new();
-    end.prepend("\n");
-    prepend_line(&mut end, answer, line);
-    prepend_number(&mut end, number);
+    spell_event_line(&mut end, number, answer, line);
     text.push_str(end.as_str())?;
     Ok(())
+}
+
+/// Spells a line of an event, which are counted from 0, after the event's number. What stood in the
+/// room before is gone.
+#[inline(always)]
+pub fn spell_event_line(end: &mut LineEnd, number: EventNumber, answer: &Answer, line: usize)
+    requires line { line < length (answer_lines answer.now) }
+    ensures text { end.new ≡ event_line number.round number.thread number.event
+        (slice_index_or (answer_lines answer.now) line []) }
+{
+    end.clear();
+    end.prepend("\n");
+    prepend_line(end, answer, line);
+    prepend_number(end, number);
+}
+
+/// Spells the line of a lookup that finds an address in a registered image, as nearly all do.
+pub fn spell_registered(end: &mut LineEnd, number: EventNumber, pc: u64, image: u32, stamp: u32)
+    ensures text { (span : SpanData) → end.new
+        ≡ event_line number.round number.thread number.event (answer_line
+        (answer.Find pc (record {
+          registered = Hit (record { span = span; payload = image }) stamp;
+          loaded = None;
+        }))) }
+{
+    end.clear();
+    end.prepend("\n");
+    prepend_number_after(end, " at ", stamp);
+    prepend_number_after(end, " registered ", image);
+    prepend_address(end, "find ", pc);
+    prepend_number(end, number);
 }
 
 /// Puts an event's number and a space before a line's end.

@@ -42,6 +42,13 @@ impl LineEnd {
         }
     }
 
+    /// Nothing again, in the same room.
+    pub fn clear(&mut self)
+        ensures { self.new ≡ [] }
+    {
+        self.start = ROOM;
+    }
+
     /// The text.
     pub fn as_str(&self) -> &str
         ensures { result.now ≡ self.now }
@@ -71,13 +78,12 @@ impl LineEnd {
     }
 
     /// Puts a number before it, in hexadecimal digits.
+    #[inline(always)]
     pub fn prepend_hex(&mut self, number: u64)
         requires { 16 + length self.old ≤ 272 }
         ensures text { self.new ≡ hex number ++ self.old }
         ensures short { length self.new ≤ 16 + length self.old }
     {
-        let mut digits = [0; 16];
-        let start = write_hex(number, &mut digits);
-        self.prepend(unsafe { from_utf8_unchecked(&digits[start..]) });
+        self.start = write_hex(number, &mut self.room, self.start);
     }
 }

@@ -1,13 +1,13 @@
 //! Numbers in a text, without a formatter.
 
-ghost use Rattle.std.specs.Prelude.{◌≡◌, ◌<◌, ◌++◌, false, OnOk, decimal, drop};
+ghost use Rattle.std.specs.Prelude.{◌≡◌, ◌+◌, ◌/◌, ◌%◌, ◌<◌, ◌≤◌, ◌∷◌, ◌++◌, false, length};
+ghost use Rattle.std.specs.Prelude.{OnOk, decimal, drop};
 ghost use Rattle.std.specs.Fmt.{digit_glyph};
 ghost use Rattle.std.specs.String.{string_bytes};
 ghost use Rattle.event_script.specs.Digits.{hex};
 
 use itoa::Buffer;
 use std::alloc::AllocError;
-use std::str::from_utf8_unchecked;
 
 /// Adds a number in decimal digits.
 pub fn put_decimal(text: &mut String, number: usize) -> Result<(), AllocError>
@@ -26,40 +26,47 @@ pub fn put_decimal_after(text: &mut String, word: &str, number: usize) -> Result
     put_decimal(text, number)
 }
 
-/// Adds a word and a number in hexadecimal digits.
-pub fn put_hex_after(text: &mut String, word: &str, number: u64) -> Result<(), AllocError>
-    ensures { OnOk result (string_bytes text.new
-        ≡ string_bytes text.old ++ (word.now ++ hex number)) }
-{
-    text.push_str(word)?;
-    put_hex(text, number)
-}
-
-/// Adds a number in hexadecimal digits.
-fn put_hex(text: &mut String, number: u64) -> Result<(), AllocError>
-    ensures { OnOk result (string_bytes text.new ≡ string_bytes text.old ++ hex number) }
-{
-    let mut digits = [0; 16];
-    let start = write_hex(number, &mut digits);
-    // Digits are text.
-    text.push_str(unsafe { from_utf8_unchecked(&digits[start..]) })
-}
-
-/// Writes the hexadecimal digits of a number so that they end where the room ends, and says where
+/// Writes a number's hexadecimal digits so that they end at a place of the room, and says where
 /// they start.
-pub fn write_hex(number: u64, digits: &mut [u8; 16]) -> usize
-    ensures start { result < 16 }
-    ensures digits { drop result digits.new ≡ hex number }
+pub fn write_hex(number: u64, room: &mut [u8], end: usize) -> usize
+    requires { (length (hex number) ≤ end) × (end ≤ length room.old) }
+    ensures start { result + length (hex number) ≡ end }
+    ensures written { drop result room.new ≡ hex number ++ drop end room.old }
 {
-    let mut start = 15;
     let mut left = number;
-    while left >= 16 {
-        digits[start] = hex_digit((left % 16) as u8);
-        left /= 16;
-        start -= 1;
+    let mut at = end;
+    while left >= 256 {
+        write_pair((left % 256) as u8, room, at - 2);
+        left /= 256;
+        at -= 2;
     }
-    digits[start] = hex_digit(left as u8);
-    start
+    write_first(left as u8, room, at)
+}
+
+/// Writes the two digits of a byte at a place of the room.
+#[inline(always)]
+fn write_pair(byte: u8, room: &mut [u8], at: usize)
+    requires { at + 2 ≤ length room.old }
+    ensures { drop at room.new
+        ≡ digit_glyph false (byte / 16) ∷ digit_glyph false (byte % 16) ∷ drop (at + 2) room.old }
+{
+    room[at] = hex_digit(byte / 16);
+    room[at + 1] = hex_digit(byte % 16);
+}
+
+/// Writes the first digits of a number, one or two.
+#[inline(always)]
+fn write_first(byte: u8, room: &mut [u8], end: usize) -> usize
+    requires { (length (hex byte) ≤ end) × (end ≤ length room.old) }
+    ensures start { result + length (hex byte) ≡ end }
+    ensures written { drop result room.new ≡ hex byte ++ drop end room.old }
+{
+    if byte < 16 {
+        room[end - 1] = hex_digit(byte);
+        return end - 1;
+    }
+    write_pair(byte, room, end - 2);
+    end - 2
 }
 
 /// The digits in lower case.

@@ -1,33 +1,24 @@
-use Rattle.std.proofs.Common.{◌∙◌, length-set, arith}
-use Rattle.event_script.proofs.HexDigits.{room_left, none_spelled, more_spelled, all_spelled}
+use Rattle.std.proofs.Common.{◌≡◌, ◌+◌, ◌-◌, append_assoc, arith}
+use Rattle.event_script.proofs.HexDigits.{hex_pair, length_pair}
 use Rattle.event_script.proofs.print.numbers.write_hex.Goals as goal
 
-pub loop-left-init : goal.loop-left-init
-loop-left-init c = record {
-  size = c.told-digits;
-  within = omega arith;
-  room = omega arith;
-  spelled = none_spelled c.args.number c.args.digits.now c.told-digits;
-}
+pub overflow_sub-at : goal.overflow_sub-at
+overflow_sub-at c = omega (arith, length_pair c.loop-left.left c.loop-left-test.true c.loop-left.auto.left-fits.fits, c.loop-left.invariant.room)
 
-pub overflow_sub-start : goal.overflow_sub-start
-overflow_sub-start c = let l = c.loop-left in omega (arith, (room_left l.start l.left l.invariant.room c.loop-left-test.true).0)
+pub write_pair-requires : goal.write_pair-requires
+write_pair-requires c = omega (arith, length_pair c.loop-left.left c.loop-left-test.true c.loop-left.auto.left-fits.fits, c.loop-left.invariant.room, c.loop-left.invariant.within)
+
+pub overflow_sub-at-in-loop-left : goal.overflow_sub-at-in-loop-left
+overflow_sub-at-in-loop-left c = omega (arith, length_pair c.loop-left.left c.loop-left-test.true c.loop-left.auto.left-fits.fits, c.loop-left.invariant.room)
 
 pub loop-left-preserved : goal.loop-left-preserved
 loop-left-preserved c =
     let l = c.loop-left in
     let i = l.invariant in
-    let room = room_left l.start l.left i.room c.loop-left-test.true in record {
-      size = length-set l.digits l.start c.hex_digit.result ∙ i.size;
-      within = omega (arith, room.0);
-      room = room.1;
-      spelled = more_spelled l.start l.left c.hex_digit.result c.args.number l.digits (omega arith) i.spelled room.0 c.loop-left-test.true c.hex_digit.ensures;
-    }
-
-pub returns : goal.returns
-returns c =
-    let l = c.loop-left in
-    let i = l.invariant in record {
-      start = i.within;
-      digits = all_spelled l.start l.left c.hex_digit-2.result c.args.number l.digits (omega arith) i.spelled c.loop-left-test.false c.hex_digit-2.ensures;
+    let long = length_pair l.left c.loop-left-test.true l.auto.left-fits.fits in
+    let at : l.at - 2 + 2 ≡ l.at = omega (arith, long, i.room) in record {
+      room = omega (arith, long, i.room);
+      within = omega (arith, i.within);
+      count = omega (arith, long, i.room, i.count);
+      spelled = rw (c.write_pair.ensures, at) (rw (hex_pair l.left c.loop-left-test.true l.auto.left-fits.fits, append_assoc) at i.spelled);
     }
