@@ -163,6 +163,7 @@ fn short_of_replaced(answer: &Replaced) -> Option<KeptAnswer>
 }
 
 /// The short form of a place where an address was found. None where there is none.
+#[inline(always)]
 fn short_of_place(images: &[Span], place: &Place) -> Option<KeptAnswer>
     ensures { IfSome result (λ kept. (pc : ℕ)
         → told images.now (event.Find pc) kept ≡ given.Find pc place.now) }
@@ -204,6 +205,7 @@ fn short_of_loaded(images: &[Span], stamp: u32, found: &Found) -> Option<KeptAns
 }
 
 /// The short form of an answer. None where there is none.
+#[inline(always)]
 fn short_of(images: &[Span], answer: &Answer) -> Option<KeptAnswer>
     ensures { IfSome result
         (λ kept. told images.now (event_of answer.now) kept ≡ answer.now) }
@@ -220,6 +222,7 @@ fn short_of(images: &[Span], answer: &Answer) -> Option<KeptAnswer>
 }
 
 /// Keeps of an answer what its event and the images don't tell.
+#[inline(always)]
 pub fn keep(alloc: Global, images: &[Span], answer: Answer) -> Result<KeptAnswer, NoMemory>
     ensures { IfOk result (λ kept. told images.now (event_of answer) kept ≡ answer) }
 {

@@ -1,28 +1,29 @@
 //! Plays the threads of a round side by side.
 
-ghost use Rattle.std.specs.Prelude.{◌≡◌, ◌≤◌, IfOk, flat_map, length, map};
+ghost use Rattle.std.specs.Prelude.{◌≡◌, ◌+◌, ◌≤◌, IfOk, flat_map, length, map};
 ghost use Rattle.std.specs.List.{AllZip};
 ghost use Rattle.std.specs.Thread.{IsSync};
 ghost use Rattle.reg_model.specs.Chain.{Chain};
 ghost use Rattle.event_script.specs.Lawful.{receipts_of};
-ghost use Rattle.event_script.specs.ScriptData.{IsRound, IsThread};
+ghost use Rattle.event_script.specs.ScriptData.{IsEvent, IsRound, IsThread};
 ghost use Rattle.registry_core.specs.Calls.{Answered, Receives};
 ghost use Rattle.registry_core.specs.Rounds.{AreAnswered};
-ghost use Rattle.run_engine.specs.Kept.{IsKeptRight, round_told, thread_told};
-ghost use Rattle.run_engine.specs.Played.{AreImages, updates_in};
+ghost use Rattle.run_engine.specs.Kept.{IsKeptRight, round_told, thread_told, told};
+ghost use Rattle.run_engine.specs.Played.{AreImages, updates_in, updates_of};
 ghost use Rattle.run_engine.specs.Shared.{AreManned, IsReady};
 
 use crate::gate::Gate;
-use crate::kept::{KeptThread, keep};
+use crate::kept::{KeptAnswer, KeptThread, keep};
 use crate::setting::Setting;
 use crate::shared::SharedPlayer;
-use event_script::{Event, Thread};
+use event_script::{Answer, Event, Thread};
 use reg_model::NoMemory;
 use registry_core::Registry;
 use registry_core::laws::calls_follow;
 use std::alloc::Global;
 use std::sync::Wait;
 use std::thread::{Threads, join};
+use unwind_step::Finder;
 use word_rule::Caller;
 
 /// Which thread of which round, both counted from 1.
@@ -30,6 +31,96 @@ use word_rule::Caller;
 pub struct ThreadNumber {
     pub round: u32,
     pub thread: u32,
+}
+
+/// An event of a thread, with its number, counted from 1.
+#[derive(Clone, Copy)]
+struct NumberedEvent {
+    thread: ThreadNumber,
+    count: u32,
+    event: Event,
+}
+
+/// Plays an event that isn't a lookup, and keeps of its answer what is needed.
+fn play_other<R: Wait, G: Gate>(
+    rt: &R,
+    alloc: Global,
+    gate: &G,
+    setting: Setting<'_>,
+    player: &mut SharedPlayer<'_>,
+    event: NumberedEvent,
+) -> Result<KeptAnswer, NoMemory>
+    requires images { AreImages setting.images.now setting.sections.now }
+    requires event { IsEvent (record {
+      version = setting.version;
+      images = length setting.images.now;
+      snapshots = length setting.snapshots.now;
+    }) event.event }
+    requires left { updates_of event.event ≤ player.old.me.left }
+    requires ready { IsReady (length setting.images.now) player.old.registry player.old.me }
+    ensures right { IfOk result
+        (IsKeptRight setting.entry.images.now setting.entry.sections.now
+        setting.entry.snapshots.now event.event) }
+    ensures calls { IfOk result
+        (λ kept. Chain Receives player.old.me
+        (receipts_of setting.entry.images.now (told setting.entry.images.now event.event kept))
+        player.new.me) }
+    ensures left { IfOk result
+        (λ _. player.old.me.left ≤ player.new.me.left + updates_of event.event) }
+    ensures ready { IfOk result
+        (λ _. IsReady (length setting.entry.images.now) player.new.registry player.new.me) }
+{
+    let ThreadNumber { round, thread } = event.thread;
+    gate.pass(rt, round, thread, event.count, None);
+    let answer = player.play(rt, alloc, setting, event.event)?;
+    gate.pass(rt, round, thread, event.count, Some(&answer));
+    keep(alloc, setting.images, answer)
+}
+
+/// Plays an event, and keeps of its answer what is needed. That of a lookup, as most events of long
+/// scripts are, goes through no memory.
+#[inline(always)]
+fn play_one<R: Wait, G: Gate>(
+    rt: &R,
+    alloc: Global,
+    gate: &G,
+    setting: Setting<'_>,
+    player: &mut SharedPlayer<'_>,
+    event: NumberedEvent,
+) -> Result<KeptAnswer, NoMemory>
+    requires images { AreImages setting.images.now setting.sections.now }
+    requires event { IsEvent (record {
+      version = setting.version;
+      images = length setting.images.now;
+      snapshots = length setting.snapshots.now;
+    }) event.event }
+    requires left { updates_of event.event ≤ player.old.me.left }
+    requires ready { IsReady (length setting.images.now) player.old.registry player.old.me }
+    ensures right { IfOk result
+        (IsKeptRight setting.entry.images.now setting.entry.sections.now
+        setting.entry.snapshots.now event.event) }
+    ensures calls { IfOk result
+        (λ kept. Chain Receives player.old.me
+        (receipts_of setting.entry.images.now (told setting.entry.images.now event.event kept))
+        player.new.me) }
+    ensures left { IfOk result
+        (λ _. player.old.me.left ≤ player.new.me.left + updates_of event.event) }
+    ensures ready { IfOk result
+        (λ _. IsReady (length setting.entry.images.now) player.new.registry player.new.me) }
+{
+    // The law that this rests on; it takes no step.
+    calls_follow();
+    match event.event {
+        Event::Find { pc } => {
+            let ThreadNumber { round, thread } = event.thread;
+            gate.pass(rt, round, thread, event.count, None);
+            let place = player.find(rt, pc);
+            let answer = Answer::Find { pc, place };
+            gate.pass(rt, round, thread, event.count, Some(&answer));
+            keep(alloc, setting.images, answer)
+        }
+        _ => play_other(rt, alloc, gate, setting, player, event),
+    }
 }
 
 /// Plays the events of one thread, in order. The gate sees each whole answer.
@@ -58,14 +149,14 @@ fn play_thread<R: Wait, G: Gate>(
         (flat_map (receipts_of setting.entry.images.now)
         (thread_told setting.entry.images.now events.now kept)) player.new.me) }
 {
-    let ThreadNumber { round, thread } = number;
     let mut answers = Vec::with_capacity(alloc, events.len())?;
     for (index, event) in events.iter().enumerate() {
-        let count = index as u32 + 1;
-        gate.pass(rt, round, thread, count, None);
-        let answer = player.play(rt, alloc, setting, *event)?;
-        gate.pass(rt, round, thread, count, Some(&answer));
-        let kept = keep(alloc, setting.images, answer)?;
+        let event = NumberedEvent {
+            thread: number,
+            count: index as u32 + 1,
+            event: *event,
+        };
+        let kept = play_one(rt, alloc, gate, setting, player, event)?;
         answers.push(kept)?;
     }
     Ok(KeptThread { answers })
@@ -180,6 +271,21 @@ pub fn play_threads<R: Threads + Wait + Sync, G: Gate + Sync>(
         thread: threads.len() as u32,
     };
     let events: &[Event] = &thread.events;
+    if before.is_empty() {
+        // Nobody plays beside this one.
+        let setting = Setting {
+            version,
+            images,
+            sections,
+            snapshots,
+        };
+        let player = SharedPlayer::new(registry, me);
+        let own = play_alone(rt, alloc, gate, number, setting, player, events)?;
+        let mut kept = Vec::new(alloc);
+        kept.push(own.kept)?;
+        callers.push(own.caller)?;
+        return Ok(PlayedRound { kept, callers });
+    }
     let (others, own) = join(
         rt,
         || -> Result<PlayedRound, NoMemory>
