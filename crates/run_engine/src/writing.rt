@@ -13,23 +13,22 @@ ghost use Rattle.run_engine.specs.Kept.{rounds_told, journal_told};
 
 use crate::kept::{KeptAnswer, KeptJournal, KeptRound, KeptThread, tell_short};
 use event_script::{
-    Answer, Event, EventNumber, Journal, Round, Script, Thread, line_count, print_updates,
-    put_event_line,
+    Answer, Event, EventNumber, Journal, LineEnd, Round, Script, Thread, line_count, print_updates,
+    spell_event_line, spell_registered,
 };
 use reg_model::Span;
 use run_ports::{Sink, SinkFault, write_lines, write_piece};
 use script_generator::{print_summary, summary};
 use std::alloc::Global;
 
-/// Writes a line of an event. The text is room for the line.
+/// Writes a line of an event.
 fn write_line<K: Sink>(
-    text: &mut String,
+    room: &mut LineEnd,
     sink: &mut K,
     number: EventNumber,
     answer: &Answer,
     line: usize,
 ) -> Result<(), SinkFault>
-    requires printable { IsPrintable answer.now }
     requires line { line < length (answer_lines answer.now) }
     requires sink { K.can_write sink.old }
     ensures goes_on { OnOk result (K.can_write sink.new) }
@@ -44,16 +43,13 @@ fn write_line<K: Sink>(
     ensures failed { result ≡ Err SinkFault.Failed → Rose (K.faults sink.old) (K.faults sink.new) }
     ensures sound { result ≢ Err SinkFault.Failed → K.faults sink.new ≡ K.faults sink.old }
 {
-    text.clear();
-    match put_event_line(text, number, answer, line) {
-        Ok(()) => write_piece(sink, text.as_bytes()),
-        Err(_) => Err(SinkFault::NoMemory),
-    }
+    spell_event_line(room, number, answer, line);
+    write_piece(sink, room.as_str().as_bytes())
 }
 
 /// Writes the lines of an event, a piece for each.
 fn write_answer<K: Sink>(
-    text: &mut String,
+    room: &mut LineEnd,
     sink: &mut K,
     number: EventNumber,
     answer: &Answer,
@@ -71,7 +67,7 @@ fn write_answer<K: Sink>(
     ensures sound { result ≢ Err SinkFault.Failed → K.faults sink.new ≡ K.faults sink.old }
 {
     for line in 0..line_count(answer) {
-        match write_line(text, sink, number, answer, line) {
+        match write_line(room, sink, number, answer, line) {
             Ok(()) => {}
             Err(fault) => return Err(fault),
         }
@@ -87,9 +83,10 @@ struct KeptEvent<'a> {
     kept: &'a KeptAnswer,
 }
 
-/// Writes the lines of an event. A short form is told again for them.
+/// Writes the lines of an event. A short form is told again for them, but of a lookup that found a
+/// registered image, as most did.
 fn write_event<K: Sink>(
-    text: &mut String,
+    room: &mut LineEnd,
     sink: &mut K,
     number: EventNumber,
     event: KeptEvent<'_>,
@@ -108,11 +105,17 @@ fn write_event<K: Sink>(
     ensures failed { result ≡ Err SinkFault.Failed → Rose (K.faults sink.old) (K.faults sink.new) }
     ensures sound { result ≢ Err SinkFault.Failed → K.faults sink.new ≡ K.faults sink.old }
 {
+    if let KeptAnswer::Registered { image, stamp } = event.kept {
+        if let Event::Find { pc } = event.event {
+            spell_registered(room, number, pc, *image, *stamp);
+            return write_piece(sink, room.as_str().as_bytes());
+        }
+    }
     match event.kept {
-        KeptAnswer::Whole { answer } => write_answer(text, sink, number, answer),
+        KeptAnswer::Whole { answer } => write_answer(room, sink, number, answer),
         _ => {
             let told = tell_short(event.images, event.event, event.kept);
-            write_answer(text, sink, number, &told)
+            write_answer(room, sink, number, &told)
         }
     }
 }
@@ -129,7 +132,7 @@ struct ThreadPart<'a> {
 
 /// Writes the answers of a thread.
 fn write_thread<K: Sink>(
-    text: &mut String,
+    room: &mut LineEnd,
     sink: &mut K,
     part: ThreadPart<'_>,
 ) -> Result<(), SinkFault>
@@ -158,7 +161,7 @@ fn write_thread<K: Sink>(
             event: *event,
             kept: &part.kept[index],
         };
-        match write_event(text, sink, number, event) {
+        match write_event(room, sink, number, event) {
             Ok(()) => {}
             Err(fault) => return Err(fault),
         }
@@ -177,7 +180,7 @@ struct RoundPart<'a> {
 
 /// Writes the answers of a round.
 fn write_round<K: Sink>(
-    text: &mut String,
+    room: &mut LineEnd,
     sink: &mut K,
     part: RoundPart<'_>,
 ) -> Result<(), SinkFault>
@@ -205,7 +208,7 @@ fn write_round<K: Sink>(
             events: &thread.events,
             kept: &kept.answers,
         };
-        match write_thread(text, sink, events) {
+        match write_thread(room, sink, events) {
             Ok(()) => {}
             Err(fault) => return Err(fault),
         }
@@ -215,7 +218,7 @@ fn write_round<K: Sink>(
 
 /// Writes the answers of all rounds.
 fn write_rounds<'a, K: Sink>(
-    text: &mut String,
+    room: &mut LineEnd,
     sink: &mut K,
     images: &'a [Span],
     rounds: &'a [Round],
@@ -241,7 +244,7 @@ fn write_rounds<'a, K: Sink>(
             threads: &round.threads,
             kept: &kept_round.threads,
         };
-        match write_round(text, sink, threads) {
+        match write_round(room, sink, threads) {
             Ok(()) => {}
             Err(fault) => return Err(fault),
         }
@@ -268,9 +271,9 @@ pub fn write_journal<K: Sink>(
     ensures failed { result ≡ Err SinkFault.Failed → Rose (K.faults sink.old) (K.faults sink.new) }
     ensures sound { result ≢ Err SinkFault.Failed → K.faults sink.new ≡ K.faults sink.old }
 {
-    let mut text = String::new(alloc);
+    let mut room = LineEnd::new();
     match write_rounds(
-        &mut text,
+        &mut room,
         sink,
         &script.images,
         &script.rounds,
