@@ -1,3 +1,4 @@
+pub mod Below
 pub mod Loads
 pub mod Paths
 pub mod Updates

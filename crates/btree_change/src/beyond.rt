@@ -2,15 +2,8 @@
 ghost use Rattle.std.specs.Prelude.{◌≡◌, ◌≢◌, ◌<◌, true};
 ghost use Rattle.std.specs.Prelude.{IfSome, IfNone};
 ghost use Rattle.std.specs.Prelude.{◌+◌, None, length};
-ghost use Rattle.reg_model.specs.SpanData.{IsSpan};
-ghost use Rattle.reg_model.specs.State.{IsFree};
-ghost use Rattle.tree_shape.specs.NodeData.{IsInFences, entries_of};
-ghost use Rattle.tree_shape.specs.Steps.{LiesAbove};
-ghost use Rattle.tree_shape.specs.declared.node.Frame.{Frame};
-ghost use Rattle.word_rule.specs.CallerData.{surplus};
-ghost use Rattle.word_rule.specs.NodeTells.{IsLiveNode};
-ghost use Rattle.word_rule.specs.TreeRefusals.{HadNoRoom};
-ghost use Rattle.node_store.specs.Holding.{SpellsHeld};
+ghost use Rattle.btree_change.specs.Below.{Frame, HadNoRoom, IsFree, IsInFences, IsLiveNode};
+ghost use Rattle.btree_change.specs.Below.{IsSpan, LiesAbove, SpellsHeld, entries_of, surplus};
 ghost use Rattle.btree_change.specs.Loads.{KeepsLoads};
 ghost use Rattle.btree_change.specs.Paths.{HoldsNothing, StepsOnNodes};
 ghost use Rattle.btree_change.specs.Insertion.{IfFull, MayPut, RefusesMember};

@@ -1,17 +1,10 @@
 //! The fence between a leaf and the next one, where a span ends above it: the lowest that overlaps
 //! in the next leaf is named, or the fence is moved on both spines.
 ghost use Rattle.std.specs.Prelude.{◌≡◌, ◌≢◌, ◌<◌, ◌≤◌, true, IfNone, IfOk, IfErr, IfSome};
-ghost use Rattle.reg_model.specs.State.{IsFree};
-ghost use Rattle.tree_shape.specs.NodeData.{IsInFences, entries_of};
-ghost use Rattle.tree_shape.specs.Steps.{LiesAbove};
-ghost use Rattle.tree_shape.specs.declared.node.Frame.{Frame};
-ghost use Rattle.tree_shape.specs.declared.limits.TheConstants.{HIGHEST_LEVEL};
-ghost use Rattle.word_rule.specs.CallerData.{surplus};
-ghost use Rattle.word_rule.specs.NodeTells.{IsLiveNode};
-ghost use Rattle.node_store.specs.Holding.{SpellsHeld};
+ghost use Rattle.btree_change.specs.Below.{FoundBusy, Frame, HIGHEST_LEVEL, IsFree, IsInFences};
+ghost use Rattle.btree_change.specs.Below.{IsLiveNode, LiesAbove, SpellsHeld, entries_of, surplus};
 ghost use Rattle.btree_change.specs.Insertion.{IfFull, RefusesMember};
 ghost use Rattle.btree_change.specs.Paths.{StepsOnNodes};
-ghost use Rattle.node_store.specs.Locking.{FoundBusy};
 ghost use Rattle.btree_change.specs.Loads.{KeepsLoads};
 ghost use Rattle.btree_change.specs.Spines.{HoldsLeafPair, HoldsNext, HoldsWay};
 ghost use Rattle.btree_change.specs.Spines.{MovesFence};

@@ -1,9 +1,6 @@
 //! The insertion of a member.
 ghost use Rattle.std.specs.Prelude.{◌≡◌, ◌<◌, ◌≤◌, true, IfOk, IfErr, None};
-ghost use Rattle.reg_model.specs.SpanData.{IsSpan};
-ghost use Rattle.word_rule.specs.CallerData.{due, surplus};
-ghost use Rattle.word_rule.specs.Callers.{IsIdle};
-ghost use Rattle.word_rule.specs.Places.{CALL_CREDIT};
+ghost use Rattle.btree_change.specs.Below.{CALL_CREDIT, IsIdle, IsSpan, due, surplus};
 ghost use Rattle.btree_change.specs.BySight.{HoldsFor};
 ghost use Rattle.btree_change.specs.Insertion.{AnswersInsertion, Inserts, MayPut};
 ghost use Rattle.btree_change.specs.Paths.{HoldsNothing};

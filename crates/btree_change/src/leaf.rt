@@ -1,13 +1,11 @@
 //! The answers of an insertion at its leaf, and the change of it.
 ghost use Rattle.std.specs.Prelude.{◌≡◌, ◌<◌, ◌≤◌, Bool, IfNone, IfSome, None, Some};
 ghost use Rattle.std.specs.Prelude.{length, slice_get};
-ghost use Rattle.reg_model.specs.SpanData.{IsSpan, Overlaps};
-ghost use Rattle.reg_model.specs.State.{IsFree, IsLowestOverlap};
-ghost use Rattle.tree_shape.specs.NodeData.{InOrder, IsInFences, IsLeaf, entries_of, place_for};
+ghost use Rattle.btree_change.specs.Below.{HadNoRoom, InOrder, IsFree, IsInFences, IsLeaf, IsSpan};
+ghost use Rattle.btree_change.specs.Below.{OnlyLoads, SpellsHeld, entries_of, place_for};
+ghost use Rattle.reg_model.specs.SpanData.{Overlaps};
+ghost use Rattle.reg_model.specs.State.{IsLowestOverlap};
 ghost use Rattle.reg_model.specs.declared.span.Member.{Member};
-ghost use Rattle.node_store.specs.Holding.{SpellsHeld};
-ghost use Rattle.node_store.specs.Outlines.{OnlyLoads};
-ghost use Rattle.word_rule.specs.TreeRefusals.{HadNoRoom};
 ghost use Rattle.btree_change.specs.Insertion.{IfFull, MayPut, PutsMember, RefusesMember};
 ghost use Rattle.btree_change.specs.Loads.{KeepsLoads};
 ghost use Rattle.btree_change.specs.Removing.{HoldsAlone};

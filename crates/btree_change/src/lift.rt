@@ -1,10 +1,6 @@
 //! The lift of the full root, which is split with it.
 ghost use Rattle.std.specs.Prelude.{◌≡◌, ◌≢◌, ◌<◌, true, IfErr, MatchBool, OnOk};
-ghost use Rattle.tree_shape.specs.Lawful.{IsOrdered};
-ghost use Rattle.tree_shape.specs.Steps.{IsFull};
-ghost use Rattle.tree_shape.specs.declared.limits.TheConstants.{HIGHEST_LEVEL};
-ghost use Rattle.word_rule.specs.CallerData.{surplus};
-ghost use Rattle.node_store.specs.Holding.{SpellsHeld};
+ghost use Rattle.btree_change.specs.Below.{HIGHEST_LEVEL, IsFull, IsOrdered, SpellsHeld, surplus};
 ghost use Rattle.btree_change.specs.Halves.{WritesRootParts};
 ghost use Rattle.btree_change.specs.Loads.{FoundNoRoom};
 ghost use Rattle.btree_change.specs.Paths.{StepsOnNodes};

@@ -1,10 +1,8 @@
 //! An insertion at the root, which is lifted where it is full.
 ghost use Rattle.std.specs.Prelude.{◌≡◌, ◌-◌, ◌^◌, ◌<◌, None};
-ghost use Rattle.reg_model.specs.SpanData.{IsSpan};
-ghost use Rattle.word_rule.specs.Places.{CALL_CREDIT};
+ghost use Rattle.btree_change.specs.Below.{CALL_CREDIT, IsFull, IsSpan};
 ghost use Rattle.btree_change.specs.Insertion.{MayPut};
 ghost use Rattle.btree_change.specs.Roots.{EndsPart};
-ghost use Rattle.tree_shape.specs.Steps.{IsFull};
 ghost use Rattle.btree_change.specs.Splits.{HoldsFullRoot};
 ghost use Rattle.btree_change.specs.Stands.{HoldsRoot};
 

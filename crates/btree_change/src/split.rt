@@ -1,15 +1,9 @@
 //! The split of a full child under its parent.
 ghost use Rattle.std.specs.Prelude.{◌≡◌, ◌<◌, IsSome, IsSomeAnd, length, true};
 ghost use Rattle.tree_shape.specs.Changes.{first_half, last_half};
-ghost use Rattle.tree_shape.specs.Lawful.{IsOrdered};
-ghost use Rattle.tree_shape.specs.NodeData.{InOrder, IsInFences, IsInner, pairs_of};
-ghost use Rattle.tree_shape.specs.declared.limits.TheConstants.{PAIRS};
-ghost use Rattle.tree_shape.specs.Steps.{IsFull, middle};
-ghost use Rattle.word_rule.specs.CallerData.{surplus};
-ghost use Rattle.word_rule.specs.Held.{held_of};
-ghost use Rattle.word_rule.specs.NodeTells.{HolderTells};
-ghost use Rattle.word_rule.specs.Spelling.{spelled};
-ghost use Rattle.node_store.specs.Holding.{SpellsHeld};
+ghost use Rattle.btree_change.specs.Below.{HolderTells, InOrder, IsFull, IsInFences, IsInner};
+ghost use Rattle.btree_change.specs.Below.{IsOrdered, PAIRS, SpellsHeld, held_of, middle, pairs_of};
+ghost use Rattle.btree_change.specs.Below.{spelled, surplus};
 ghost use Rattle.btree_change.specs.Halves.{WritesParts};
 ghost use Rattle.btree_change.specs.Paths.{StepsOnNodes};
 ghost use Rattle.btree_change.specs.Splits.{HoldsFull, HoldsFullChild, IsRoomFor, SplitsChild};

@@ -1,8 +1,6 @@
 //! The way of an insertion from where it stands down to its leaf, and its answer there.
 ghost use Rattle.std.specs.Prelude.{◌≡◌, ◌<◌, ◌≤◌, true, None, length};
-ghost use Rattle.reg_model.specs.SpanData.{IsSpan};
-ghost use Rattle.reg_model.specs.State.{IsFree};
-ghost use Rattle.tree_shape.specs.NodeData.{entries_of, place_for};
+ghost use Rattle.btree_change.specs.Below.{IsFree, IsSpan, entries_of, place_for};
 ghost use Rattle.btree_change.specs.Insertion.{IfFull, MayPut};
 ghost use Rattle.btree_change.specs.Roots.{EndsInsertion, EndsPart};
 ghost use Rattle.btree_change.specs.Stands.{HasCause, StandsOnWay, releases_from};
