@@ -27,9 +27,10 @@ use Rattle.node_store.specs.Locking.{FoundBusy}
 use Rattle.btree_change.specs.Paths.{AreHigher, HoldsNothing, IsLeftOut, StepsOnNodes}
 use Rattle.btree_change.specs.Releases.{LetsGo, Spends}
 use Rattle.btree_change.specs.Roots.{EndsInsertion, EndsPart, GivesUpWhole}
-use Rattle.btree_change.specs.Splits.{HoldsFullAlone, HoldsFullRoot, KeepsHeld, LiftsRoot, TakesTwo, with_release_less}
+use Rattle.btree_change.specs.Splits.{HoldsFullAlone, HoldsFullRoot, KeepsHeld, LiftsRoot, TakesTwo, root_for, with_release_less}
 use Rattle.btree_change.specs.Stands.{HasCause, HasWayOn, HoldsPair, HoldsRoot, Reaches, StandsOnWay, StandsAt}
 use Rattle.btree_change.specs.Updates.{GivesUp}
+use Rattle.btree_change.proofs.Halved.{split_pair}
 use Rattle.btree_change.proofs.Loading.{found_after, nothing_left}
 use Rattle.btree_change.proofs.Lowering.{settled_live}
 use Rattle.btree_change.proofs.NoRoom.{if_full, no_room_after}
@@ -86,27 +87,11 @@ full_alone t root m holdings h span full = record {
 
 -- The root was lifted.
 module _ (t : Terms) (m : Member) (full : FullRoot) (k : CallerData) (held : HoldsFullRoot t full m.span.first k.log.holdings) (high : full.root.content.high ≡ 18446744073709551615) (span : IsSpan m.span) (split : Split) (k1 : CallerData) (lifts : LiftsRoot t full m.span.first split k k1) where
-  parent_node : split.parent.node ≡ 0
-  parent_node = ap (λ (h : Held). h.node) lifts.parent ∙ held.is_root
-
   rest_is : drop 2 k1.log.holdings.held ≡ []
-  rest_is = ap (drop 2) lifts.held
+  rest_is = ap (drop 2) lifts.held ∙ ap (drop 3) held.held
 
   abbrev pair_for : (hs : List Holding) → [] ≡ hs → HoldsPair t m.span.first split.parent split.way hs k1.log.holdings
-  pair_for hs e = record {
-    parent_within = subst (λ n. n < t.nodes) (held.is_root ∙ sym parent_node) held.root_within;
-    child_within = lifts.within;
-    lower = lifts.lower;
-    upper = lifts.upper;
-    held = lifts.held ∙ ap (λ xs. lifts.lower ∷ lifts.upper ∷ xs) e;
-    child_is = lifts.way_held;
-    parent_is = lifts.parent_held;
-    leads = lifts.leads;
-    here = lifts.here;
-    inner = let l = ap (λ (h : Held). h.content.level) lifts.parent in omega (arith, l);
-    higher = subst (λ xs. AreHigher t split.parent.content.level xs) e tt;
-    out = lifts.out;
-  }
+  pair_for hs e = split_pair t m.span.first _ _ split k k1 hs lifts (ap (drop 3) held.held ∙ e) held.root_within (omega arith) (subst (AreHigher t (root_for full).content.level) e tt)
 
   pub lifted_reach : (pair : HoldsPair t m.span.first split.parent split.way (drop 2 k1.log.holdings.held) k1.log.holdings) × Reaches t m.span.last split.parent.content None pair.upper (drop 2 k1.log.holdings.held)
   lifted_reach = (pair_for (drop 2 k1.log.holdings.held) (sym rest_is), ((let h = ap (λ (h : Held). h.content.high) lifts.parent in let b = span.below_top in omega (arith, h, high, b)), rest_is))

@@ -15,6 +15,7 @@ pub mod Refusing
 pub mod SplitParts
 pub mod HeldParts
 pub mod Halving
+pub mod Halved
 pub mod Splitting
 pub mod SplitEnds
 pub mod Rooms

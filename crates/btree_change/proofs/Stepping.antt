@@ -22,6 +22,7 @@ use Rattle.btree_change.specs.Splits.{HasSpace, HoldsFull, HoldsFullChild, Split
 use Rattle.word_rule.specs.NodeTells.{KnowsTree}
 use Rattle.word_rule.specs.Sights.{after_node_load}
 use Rattle.btree_change.specs.Stands.{HasSplit, HasWayOn, HoldsPair}
+use Rattle.btree_change.proofs.Halved.{split_pair}
 use Rattle.btree_change.proofs.Descents.{steps_of_load}
 use Rattle.btree_change.proofs.NoRoom.{found_cause, no_room_now, same_cause}
 use Rattle.btree_change.proofs.Standing.{lowest_of, stands_below}
@@ -163,24 +164,11 @@ module _ (t : Terms) (pc : ℕ) (step : Step) (above : List Holding) (k : Caller
   was_split fresh split k1 k2 is takes s =
       let rest : drop 3 k1.log.holdings.held ≡ drop 2 k.log.holdings.held = ap (drop 3) (takes.held ∙ ap (λ hs. takes.new ∷ hs) pair.held) ∙ is in
       let level : split.parent.content.level ≡ step.parent.content.level = ap (λ (h : Held). h.content.level) s.parent in record {
-        pair = record {
-          parent_within = subst (λ x. x < t.nodes) (sym (ap (λ (h : Held). h.node) s.parent)) pair.parent_within;
-          child_within = s.within;
-          lower = s.lower;
-          upper = s.upper;
-          held = s.held ∙ ap (λ hs. s.lower ∷ s.upper ∷ hs) rest;
-          child_is = s.way_held;
-          parent_is = s.parent_held;
-          leads = s.leads;
-          here = s.here;
-          inner = let e = level in let i = pair.inner in omega (arith, e, i);
-          higher = subst (λ l. AreHigher t l (drop 2 k.log.holdings.held)) (sym level) (subst (AreHigher t step.parent.content.level) is pair.higher);
-          out = s.out;
-        };
+        pair = split_pair t pc _ _ split k1 k2 (drop 2 k.log.holdings.held) s rest pair.parent_within pair.inner (subst (AreHigher t step.parent.content.level) is pair.higher);
         way = s.room;
         cause = tt;
         node = ap (λ (h : Held). h.node) s.parent;
         frame = ap (λ (h : Held). frame_of h.content) s.parent;
-        less = s.lower_level;
+        less = let l = s.lower_level in omega (arith, l, level);
         steps = steps_after 0 1 1 k k1 k2 (omega arith) (spends_same k k1 takes.same) (spends_one k1 k2 s.same);
       }

@@ -113,9 +113,8 @@ parent_for full pc = record {
 abbrev pub other_half : ℕ → ℕ → ℕ → NodeData → ℕ
 other_half left right pc s = if nat_le pc (middle_fence s) then right else left
 
--- A full child was split under its parent. The half for the address is held, and the parent, which
--- has a pair more.
-pub record SplitsChild (t : Terms) (full : FullChild) (pc : ℕ) (split : Split) (k k' : CallerData)
+-- A full node was split under a node above. The half for the address is held, and the node above.
+pub record SplitsUnder (t : Terms) (pc : ℕ) (half over : Held) (split : Split) (k k' : CallerData)
     : Type 0 where
   pub lower : Holding
   pub upper : Holding
@@ -123,14 +122,20 @@ pub record SplitsChild (t : Terms) (full : FullChild) (pc : ℕ) (split : Split)
   pub out : k'.log.holdings.out ≡ []
   pub way_held : IsHeldAs t split.way lower
   pub parent_held : IsHeldAs t split.parent upper
-  pub way : split.way ≡ half_for full.child.node full.fresh pc full.child.content
-  pub parent : split.parent ≡ parent_for full pc
+  pub way : split.way ≡ half
+  pub parent : split.parent ≡ over
   pub within : split.way.node < t.nodes
   pub here : IsInFences pc split.way.content
   pub leads : HasChildFor split.parent.content pc split.way.node
-  pub lower_level : split.way.content.level < full.parent.content.level
+  pub lower_level : split.way.content.level < split.parent.content.level
   pub room : HasSpace split.way.content.body
   pub same : StepsOnNodes (with_release_less k) k'
+
+-- a full child was split under its parent, which has a pair more
+abbrev pub SplitsChild : Terms → FullChild → ℕ → Split → CallerData → CallerData → Type 0
+SplitsChild t full pc =
+    SplitsUnder t pc (half_for full.child.node full.fresh pc full.child.content)
+    (parent_for full pc)
 
 -- A full node on the way is held as the words spell it; no node is out, or one where it is the
 -- root, which needs two.
@@ -203,24 +208,10 @@ root_for full = record {
   changed = true;
 }
 
--- The full root was lifted and split. The half for the address is held, and the root, which is a
--- level higher and has the halves as its children.
-pub record LiftsRoot (t : Terms) (full : FullRoot) (pc : ℕ) (split : Split) (k k' : CallerData)
-    : Type 0 where
-  pub lower : Holding
-  pub upper : Holding
-  pub held : k'.log.holdings.held ≡ lower ∷ upper ∷ []
-  pub out : k'.log.holdings.out ≡ []
-  pub way_held : IsHeldAs t split.way lower
-  pub parent_held : IsHeldAs t split.parent upper
-  pub way : split.way ≡ half_for full.left full.right pc full.root.content
-  pub parent : split.parent ≡ root_for full
-  pub within : split.way.node < t.nodes
-  pub here : IsInFences pc split.way.content
-  pub leads : HasChildFor split.parent.content pc split.way.node
-  pub lower_level : split.way.content.level < split.parent.content.level
-  pub room : HasSpace split.way.content.body
-  pub same : StepsOnNodes (with_release_less k) k'
+-- the full root was lifted and split: it is a level higher, and has the halves as its children
+abbrev pub LiftsRoot : Terms → FullRoot → ℕ → Split → CallerData → CallerData → Type 0
+LiftsRoot t full pc =
+    SplitsUnder t pc (half_for full.left full.right pc full.root.content) (root_for full)
 
 -- The full root alone is held, and no node is out.
 pub record HoldsFullAlone (t : Terms) (root : Held) (pc : ℕ) (holdings : Holdings) : Type 0 where
