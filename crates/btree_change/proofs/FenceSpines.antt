@@ -45,53 +45,57 @@ climb_spine slot lower (h ∷ spine) top locks s climb =
     subst (λ k. IsSpine last_child k h.node (locks ++ h ∷ [])) e (h, locks, ((refl, sym e), refl, subst (λ m. IsSpine last_child lower.settled.level m locks) climb.0.0 s)) in
     subst (ClimbsSpine slot top) (append_assoc locks (h ∷ []) spine) (climb_spine slot h spine top (locks ++ h ∷ []) here climb.1)
 
+-- a spine of the tree by the same child of each node
+abbrev spine_by : (ℕ → List Pair → ℕ) → Contents → ℕ → ℕ → List ℕ
+spine_by child f zero n = n ∷ []
+spine_by child f (suc level) n = n ∷ spine_by child f level (child 0 (pairs_of (f n)))
+
+last_by : (f : Contents) (level n : ℕ) → spine_by last_child f level n ≡ last_spine f level n
+last_by f zero n = refl
+last_by f (suc level) n = ap (λ ns. n ∷ ns) (last_by f level (last_child 0 (pairs_of (f n))))
+
+first_by : (f : Contents) (level n : ℕ) → spine_by first_child f level n ≡ first_spine f level n
+first_by f zero n = refl
+first_by f (suc level) n = ap (λ ns. n ∷ ns) (first_by f level (first_child 0 (pairs_of (f n))))
+
 -- what holds of each lock of a spine holds of each node of the tree's spine
-pub last_nodes : (f : Contents) (P : ℕ → Type 0) (level n : ℕ) (locks : List Holding) → IsSpine last_child level n locks → AllByRecursion (λ (h : Holding). (f h.node ≡ h.settled) × P h.node) locks → AllByRecursion P (last_spine f level n)
-last_nodes f P zero n locks (h, (at, is)) all = (subst P at.0 (subst (AllByRecursion (λ (a : Holding). (f a.node ≡ a.settled) × P a.node)) is all).0.1, tt)
-last_nodes f P (suc level) n locks (h, lower, (at, is, below)) all =
+nodes_by : (child : ℕ → List Pair → ℕ) (f : Contents) (P : ℕ → Type 0) (level n : ℕ) (locks : List Holding) → IsSpine child level n locks → AllByRecursion (λ (h : Holding). (f h.node ≡ h.settled) × P h.node) locks → AllByRecursion P (spine_by child f level n)
+nodes_by child f P zero n locks (h, (at, is)) all = (subst P at.0 (subst (AllByRecursion (λ (a : Holding). (f a.node ≡ a.settled) × P a.node)) is all).0.1, tt)
+nodes_by child f P (suc level) n locks (h, lower, (at, is, below)) all =
     let parts = all_parts (λ (a : Holding). (f a.node ≡ a.settled) × P a.node) lower (h ∷ []) (subst (AllByRecursion (λ (a : Holding). (f a.node ≡ a.settled) × P a.node)) is all) in
     let same : h.settled ≡ f n = sym parts.1.0.0 ∙ ap f at.0 in (
       subst P at.0 parts.1.0.1,
-      subst (λ (z : NodeData). AllByRecursion P (last_spine f level (last_child 0 (pairs_of z)))) same (last_nodes f P level (last_child 0 (pairs_of h.settled)) lower below parts.0),
+      subst (λ (z : NodeData). AllByRecursion P (spine_by child f level (child 0 (pairs_of z)))) same (nodes_by child f P level (child 0 (pairs_of h.settled)) lower below parts.0),
     )
+
+pub last_nodes : (f : Contents) (P : ℕ → Type 0) (level n : ℕ) (locks : List Holding) → IsSpine last_child level n locks → AllByRecursion (λ (h : Holding). (f h.node ≡ h.settled) × P h.node) locks → AllByRecursion P (last_spine f level n)
+last_nodes f P level n locks spine all = subst (AllByRecursion P) (last_by f level n) (nodes_by last_child f P level n locks spine all)
 
 pub first_nodes : (f : Contents) (P : ℕ → Type 0) (level n : ℕ) (locks : List Holding) → IsSpine first_child level n locks → AllByRecursion (λ (h : Holding). (f h.node ≡ h.settled) × P h.node) locks → AllByRecursion P (first_spine f level n)
-first_nodes f P zero n locks (h, (at, is)) all = (subst P at.0 (subst (AllByRecursion (λ (a : Holding). (f a.node ≡ a.settled) × P a.node)) is all).0.1, tt)
-first_nodes f P (suc level) n locks (h, lower, (at, is, below)) all =
-    let parts = all_parts (λ (a : Holding). (f a.node ≡ a.settled) × P a.node) lower (h ∷ []) (subst (AllByRecursion (λ (a : Holding). (f a.node ≡ a.settled) × P a.node)) is all) in
-    let same : h.settled ≡ f n = sym parts.1.0.0 ∙ ap f at.0 in (
-      subst P at.0 parts.1.0.1,
-      subst (λ (z : NodeData). AllByRecursion P (first_spine f level (first_child 0 (pairs_of z)))) same (first_nodes f P level (first_child 0 (pairs_of h.settled)) lower below parts.0),
-    )
+first_nodes f P level n locks spine all = subst (AllByRecursion P) (first_by f level n) (nodes_by first_child f P level n locks spine all)
 
--- each lock of a spine is of one of the tree's
 later : (P : Holding → Type 0) (Q : Holding → Type 0) → ((h : Holding) → P h → Q h) → (xs : List Holding) → AllByRecursion P xs → AllByRecursion Q xs
 later P Q each [] all = tt
 later P Q each (x ∷ xs) all = (each x all.0, later P Q each xs all.1)
 
-pub last_locks : (f : Contents) (level n : ℕ) (locks : List Holding) → IsSpine last_child level n locks → AllByRecursion (λ (h : Holding). f h.node ≡ h.settled) locks → AllByRecursion (λ (h : Holding). 0 < times h.node (last_spine f level n)) locks
-last_locks f zero n locks (h, (at, is)) all = subst (AllByRecursion (λ (a : Holding). 0 < times a.node (n ∷ []))) (sym is) (subst (λ m. 0 < times m (n ∷ [])) (sym at.0) (times_head n []), tt)
-last_locks f (suc level) n locks (h, lower, (at, is, below)) all =
+-- each lock of a spine is of one of the tree's
+locks_by : (child : ℕ → List Pair → ℕ) (f : Contents) (level n : ℕ) (locks : List Holding) → IsSpine child level n locks → AllByRecursion (λ (h : Holding). f h.node ≡ h.settled) locks → AllByRecursion (λ (h : Holding). 0 < times h.node (spine_by child f level n)) locks
+locks_by child f zero n locks (h, (at, is)) all = subst (AllByRecursion (λ (a : Holding). 0 < times a.node (n ∷ []))) (sym is) (subst (λ m. 0 < times m (n ∷ [])) (sym at.0) (times_head n []), tt)
+locks_by child f (suc level) n locks (h, lower, (at, is, below)) all =
     let parts = all_parts (λ (a : Holding). f a.node ≡ a.settled) lower (h ∷ []) (subst (AllByRecursion (λ (a : Holding). f a.node ≡ a.settled)) is all) in
     let same : h.settled ≡ f n = sym parts.1.0 ∙ ap f at.0 in
-    let rest = last_locks f level (last_child 0 (pairs_of h.settled)) lower below parts.0 in
-    let rest' = subst (λ (z : NodeData). AllByRecursion (λ (a : Holding). 0 < times a.node (last_spine f level (last_child 0 (pairs_of z)))) lower) same rest in
-    subst (AllByRecursion (λ (a : Holding). 0 < times a.node (last_spine f (suc level) n))) (sym is)
-    (all_append (λ (a : Holding). 0 < times a.node (last_spine f (suc level) n)) lower (h ∷ [])
-    (later (λ (a : Holding). 0 < times a.node (last_spine f level (last_child 0 (pairs_of (f n))))) (λ (a : Holding). 0 < times a.node (last_spine f (suc level) n)) (λ a some. omega (arith, some)) lower rest')
-    (subst (λ m. 0 < times m (last_spine f (suc level) n)) (sym at.0) (times_head n (last_spine f level (last_child 0 (pairs_of (f n))))), tt))
+    let rest = locks_by child f level (child 0 (pairs_of h.settled)) lower below parts.0 in
+    let rest' = subst (λ (z : NodeData). AllByRecursion (λ (a : Holding). 0 < times a.node (spine_by child f level (child 0 (pairs_of z)))) lower) same rest in
+    subst (AllByRecursion (λ (a : Holding). 0 < times a.node (spine_by child f (suc level) n))) (sym is)
+    (all_append (λ (a : Holding). 0 < times a.node (spine_by child f (suc level) n)) lower (h ∷ [])
+    (later (λ (a : Holding). 0 < times a.node (spine_by child f level (child 0 (pairs_of (f n))))) (λ (a : Holding). 0 < times a.node (spine_by child f (suc level) n)) (λ a some. omega (arith, some)) lower rest')
+    (subst (λ m. 0 < times m (spine_by child f (suc level) n)) (sym at.0) (times_head n (spine_by child f level (child 0 (pairs_of (f n))))), tt))
+
+pub last_locks : (f : Contents) (level n : ℕ) (locks : List Holding) → IsSpine last_child level n locks → AllByRecursion (λ (h : Holding). f h.node ≡ h.settled) locks → AllByRecursion (λ (h : Holding). 0 < times h.node (last_spine f level n)) locks
+last_locks f level n locks spine all = subst (λ ns. AllByRecursion (λ (h : Holding). 0 < times h.node ns) locks) (last_by f level n) (locks_by last_child f level n locks spine all)
 
 pub first_locks : (f : Contents) (level n : ℕ) (locks : List Holding) → IsSpine first_child level n locks → AllByRecursion (λ (h : Holding). f h.node ≡ h.settled) locks → AllByRecursion (λ (h : Holding). 0 < times h.node (first_spine f level n)) locks
-first_locks f zero n locks (h, (at, is)) all = subst (AllByRecursion (λ (a : Holding). 0 < times a.node (n ∷ []))) (sym is) (subst (λ m. 0 < times m (n ∷ [])) (sym at.0) (times_head n []), tt)
-first_locks f (suc level) n locks (h, lower, (at, is, below)) all =
-    let parts = all_parts (λ (a : Holding). f a.node ≡ a.settled) lower (h ∷ []) (subst (AllByRecursion (λ (a : Holding). f a.node ≡ a.settled)) is all) in
-    let same : h.settled ≡ f n = sym parts.1.0 ∙ ap f at.0 in
-    let rest = first_locks f level (first_child 0 (pairs_of h.settled)) lower below parts.0 in
-    let rest' = subst (λ (z : NodeData). AllByRecursion (λ (a : Holding). 0 < times a.node (first_spine f level (first_child 0 (pairs_of z)))) lower) same rest in
-    subst (AllByRecursion (λ (a : Holding). 0 < times a.node (first_spine f (suc level) n))) (sym is)
-    (all_append (λ (a : Holding). 0 < times a.node (first_spine f (suc level) n)) lower (h ∷ [])
-    (later (λ (a : Holding). 0 < times a.node (first_spine f level (first_child 0 (pairs_of (f n))))) (λ (a : Holding). 0 < times a.node (first_spine f (suc level) n)) (λ a some. omega (arith, some)) lower rest')
-    (subst (λ m. 0 < times m (first_spine f (suc level) n)) (sym at.0) (times_head n (first_spine f level (first_child 0 (pairs_of (f n))))), tt))
+first_locks f level n locks spine all = subst (λ ns. AllByRecursion (λ (h : Holding). 0 < times h.node ns) locks) (first_by f level n) (locks_by first_child f level n locks spine all)
 
 -- a lock's level is at most that of its spine
 pub spine_levels : (child : ℕ → List Pair → ℕ) (level n : ℕ) (locks : List Holding) → IsSpine child level n locks → AllByRecursion (λ (h : Holding). h.settled.level ≤ level) locks

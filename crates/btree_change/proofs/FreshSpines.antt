@@ -54,90 +54,115 @@ let_go_head n h base k k' held node far never is =
     ap (λ (z : CallerData). z.log.holdings) is
     ∙ (λ i. record k.log.holdings { held = (ap (without_lock n) held ∙ without_head n h base node (subst (λ m. AllByRecursion (λ (a : Holding). a.node ≢ m) base) node far)) i })
 
+-- The lock of a spine that is a leaf alone, and is held over others.
+pub record HoldsSpineLeaf (P : Holding → Type 0) (n : ℕ) (held base : List Holding) : Type 0 where
+  pub lock : Holding
+  pub at : IsLockAt n zero lock
+  pub parts : held ≡ lock ∷ base
+  pub is : P lock
+
+-- The topmost lock of a spine that is held over others, and what stands below it.
+pub record HoldsSpineTop (P : Holding → Type 0) (n level : ℕ) (held base : List Holding) : Type 0 where
+  pub lock : Holding
+  pub lower : List Holding
+  pub at : IsLockAt n level lock
+  pub spine : IsSpine first_child (level - 1) (first_child 0 (pairs_of lock.settled)) lower
+  pub parts : held ≡ lower ++ (lock ∷ base)
+  pub is : P lock
+  pub each : AllByRecursion P lower
+
+module _ (P : Holding → Type 0) (n level : ℕ) (held locks base : List Holding) (split : held ≡ locks ++ base) (spine : IsSpine first_child level n locks) (each : AllByRecursion P locks) where
+  pub spine_leaf : level ≡ 0 → HoldsSpineLeaf P n held base
+  spine_leaf zero_level =
+      let leaf = leaf_of first_child n level locks zero_level spine in record {
+        lock = leaf.0;
+        at = leaf.1.0;
+        parts = split ∙ ap (λ xs. xs ++ base) leaf.1.1;
+        is = (subst (AllByRecursion P) leaf.1.1 each).0;
+      }
+
+  pub spine_top : level ≢ 0 → HoldsSpineTop P n level held base
+  spine_top some =
+      let top = top_of first_child n level locks some spine in
+      let all = all_parts P top.1 (top.0 ∷ []) (subst (AllByRecursion P) top.2.1 each) in record {
+        lock = top.0;
+        lower = top.1;
+        at = top.2.0;
+        spine = top.2.2;
+        parts = split ∙ (ap (λ xs. xs ++ base) top.2.1 ∙ append_assoc top.1 (top.0 ∷ []) base);
+        is = all.1.0;
+        each = all.0;
+      }
+
 module _ (t : Terms) (n level : ℕ) (k : CallerData) (s : HoldsFresh t n level k.log.holdings) (zero_level : level ≡ 0) where
-  leaf : (h : Holding) × (IsLockAt n zero h × (s.locks ≡ h ∷ []))
-  leaf = leaf_of first_child n level s.locks zero_level s.spine
+  leaf : HoldsSpineLeaf (IsFreshLock t) n k.log.holdings.held s.base
+  leaf = spine_leaf (IsFreshLock t) n level k.log.holdings.held s.locks s.base s.held s.spine s.fresh zero_level
 
-  leaf_held : k.log.holdings.held ≡ leaf.0 ∷ s.base
-  leaf_held = s.held ∙ ap (λ xs. xs ++ s.base) leaf.1.1
-
-  leaf_fresh : IsFreshLock t leaf.0
-  leaf_fresh = (subst (AllByRecursion (IsFreshLock t)) leaf.1.1 s.fresh).0
-
-  leaf_apart : AreApart (leaf.0 ∷ s.base)
-  leaf_apart = subst AreApart leaf_held s.apart
+  leaf_apart : AreApart (leaf.lock ∷ s.base)
+  leaf_apart = subst AreApart leaf.parts s.apart
 
   pub leaf_within : n < t.nodes
-  leaf_within = subst (λ m. m < t.nodes) leaf.1.0.0 leaf_fresh.within
+  leaf_within = subst (λ m. m < t.nodes) leaf.at.0 leaf.is.within
 
   pub leaf_clean : IsSomeAnd (held_of n k.log.holdings.held) (λ h. h.stored ≡ false)
-  leaf_clean = subst (λ o. IsSomeAnd o (λ (h : Holding). h.stored ≡ false)) (sym (ap (held_of n) leaf_held ∙ found_head n leaf.0 s.base leaf.1.0.0)) leaf_fresh.clean
+  leaf_clean = subst (λ o. IsSomeAnd o (λ (h : Holding). h.stored ≡ false)) (sym (ap (held_of n) leaf.parts ∙ found_head n leaf.lock s.base leaf.at.0)) leaf.is.clean
 
   pub leaf_let_go_of : (k' : CallerData) → k' ≡ record k { log = after_node_release_same n k.log } → k'.log.holdings ≡ record k.log.holdings { held = s.base }
-  leaf_let_go_of k' is = let_go_head n leaf.0 s.base k k' leaf_held leaf.1.0.0 leaf_apart.0 (λ e. leaf_fresh.never_root (leaf.1.0.0 ∙ e)) is
+  leaf_let_go_of k' is = let_go_head n leaf.lock s.base k k' leaf.parts leaf.at.0 leaf_apart.0 (λ e. leaf.is.never_root (leaf.at.0 ∙ e)) is
 
 module _ (t : Terms) (n level : ℕ) (k : CallerData) (s : HoldsFresh t n level k.log.holdings) (some : level ≢ 0) where
-  top : (h : Holding) × (lower : List Holding) × (IsLockAt n level h × (s.locks ≡ lower ++ h ∷ []) × IsSpine first_child (level - 1) (first_child 0 (pairs_of h.settled)) lower)
-  top = top_of first_child n level s.locks some s.spine
+  top : HoldsSpineTop (IsFreshLock t) n level k.log.holdings.held s.base
+  top = spine_top (IsFreshLock t) n level k.log.holdings.held s.locks s.base s.held s.spine s.fresh some
 
-  held_is : k.log.holdings.held ≡ top.1 ++ (top.0 ∷ s.base)
-  held_is = s.held ∙ (ap (λ xs. xs ++ s.base) top.2.1 ∙ append_assoc top.1 (top.0 ∷ []) s.base)
+  apart : AreApart (top.lower ++ (top.lock ∷ s.base))
+  apart = subst AreApart top.parts s.apart
 
-  apart : AreApart (top.1 ++ (top.0 ∷ s.base))
-  apart = subst AreApart held_is s.apart
-
-  fresh_all : AllByRecursion (IsFreshLock t) top.1 × AllByRecursion (IsFreshLock t) (top.0 ∷ [])
-  fresh_all = all_parts (IsFreshLock t) top.1 (top.0 ∷ []) (subst (AllByRecursion (IsFreshLock t)) top.2.1 s.fresh)
-
-  fresh : IsFreshLock t top.0
-  fresh = fresh_all.1.0
-
-  there : (xs : List Holding) → In top.0 (xs ++ (top.0 ∷ s.base))
+  there : (xs : List Holding) → In top.lock (xs ++ (top.lock ∷ s.base))
   there [] = inl refl
   there (x ∷ xs) = inr (there xs)
 
-  found : held_of n k.log.holdings.held ≡ Some top.0
-  found = ap (held_of n) held_is ∙ subst (λ m. held_of m (top.1 ++ (top.0 ∷ s.base)) ≡ Some top.0) top.2.0.0 (found_in (top.1 ++ (top.0 ∷ s.base)) top.0 apart (there top.1))
+  found : held_of n k.log.holdings.held ≡ Some top.lock
+  found = ap (held_of n) top.parts ∙ subst (λ m. held_of m (top.lower ++ (top.lock ∷ s.base)) ≡ Some top.lock) top.at.0 (found_in (top.lower ++ (top.lock ∷ s.base)) top.lock apart (there top.lower))
 
   pub top_within : n < t.nodes
-  top_within = subst (λ m. m < t.nodes) top.2.0.0 fresh.within
+  top_within = subst (λ m. m < t.nodes) top.at.0 top.is.within
 
   pub may_read_top : IsSomeAnd (held_of n k.log.holdings.held) (λ z. IsSome (spelled z.words))
-  may_read_top = may_read_found n top.0.settled top.0 k found fresh.live.spells
+  may_read_top = may_read_found n top.lock.settled top.lock k found top.is.live.spells
 
   module _ (k1 : CallerData) (shape : NodeData) (reads : ReadsHeld n k k1 shape) (same : k1.log.holdings ≡ k.log.holdings) where
-    is : top.0.settled ≡ shape
-    is = reads_spelled n top.0.settled shape top.0 k k1 found fresh.live.spells reads
+    is : top.lock.settled ≡ shape
+    is = reads_spelled n top.lock.settled shape top.lock k k1 found top.is.live.spells reads
 
     pub top_pairs : 0 < length (pairs_of shape)
-    top_pairs = subst (λ (z : NodeData). 0 < length (pairs_of z)) is (fresh.pairs (let e = top.2.0.1 in omega (arith, e, some)))
+    top_pairs = subst (λ (z : NodeData). 0 < length (pairs_of z)) is (top.is.pairs (let e = top.at.1 in omega (arith, e, some)))
 
     pub fresh_below : (child : ℕ) → child ≡ first_child 0 (pairs_of shape) → HoldsFresh t child (level - 1) k1.log.holdings
     fresh_below child e = record {
-      locks = top.1;
-      base = top.0 ∷ s.base;
-      held = ap (λ (z : Holdings). z.held) same ∙ held_is;
-      spine = subst (λ c. IsSpine first_child (level - 1) c top.1) (ap (λ (z : NodeData). first_child 0 (pairs_of z)) is ∙ sym e) top.2.2;
-      fresh = fresh_all.0;
+      locks = top.lower;
+      base = top.lock ∷ s.base;
+      held = ap (λ (z : Holdings). z.held) same ∙ top.parts;
+      spine = subst (λ c. IsSpine first_child (level - 1) c top.lower) (ap (λ (z : NodeData). first_child 0 (pairs_of z)) is ∙ sym e) top.spine;
+      fresh = top.each;
       apart = subst AreApart (sym (ap (λ (z : Holdings). z.held) same)) s.apart;
     }
 
     module _ (child : ℕ) (e : child ≡ first_child 0 (pairs_of shape)) (k2 : CallerData) (below : (spine : HoldsFresh t child (level - 1) k1.log.holdings) → k2.log.holdings ≡ record k1.log.holdings { held = spine.base }) where
-      left : k2.log.holdings ≡ record k.log.holdings { held = top.0 ∷ s.base }
+      left : k2.log.holdings ≡ record k.log.holdings { held = top.lock ∷ s.base }
       unfolding fresh_below
-      left = below (fresh_below child e) ∙ ap (λ (z : Holdings). record z { held = top.0 ∷ s.base }) same
+      left = below (fresh_below child e) ∙ ap (λ (z : Holdings). record z { held = top.lock ∷ s.base }) same
 
-      left_apart : AreApart (top.0 ∷ s.base)
-      left_apart = go top.1 apart
+      left_apart : AreApart (top.lock ∷ s.base)
+      left_apart = go top.lower apart
         where
-          go : (xs : List Holding) → AreApart (xs ++ (top.0 ∷ s.base)) → AreApart (top.0 ∷ s.base)
+          go : (xs : List Holding) → AreApart (xs ++ (top.lock ∷ s.base)) → AreApart (top.lock ∷ s.base)
           go [] all = all
           go (x ∷ xs) all = go xs all.1
 
       pub top_clean : IsSomeAnd (held_of n k2.log.holdings.held) (λ h. h.stored ≡ false)
-      top_clean = subst (λ o. IsSomeAnd o (λ (h : Holding). h.stored ≡ false)) (sym (ap (λ (z : Holdings). held_of n z.held) left ∙ found_head n top.0 s.base top.2.0.0)) fresh.clean
+      top_clean = subst (λ o. IsSomeAnd o (λ (h : Holding). h.stored ≡ false)) (sym (ap (λ (z : Holdings). held_of n z.held) left ∙ found_head n top.lock s.base top.at.0)) top.is.clean
 
       pub top_let_go_of : (k3 : CallerData) → k3 ≡ record k2 { log = after_node_release_same n k2.log } → k3.log.holdings ≡ record k.log.holdings { held = s.base }
       top_let_go_of k3 now =
-          let_go_head n top.0 s.base k2 k3 (ap (λ (z : Holdings). z.held) left) top.2.0.0 left_apart.0 (λ z. fresh.never_root (top.2.0.0 ∙ z)) now
+          let_go_head n top.lock s.base k2 k3 (ap (λ (z : Holdings). z.held) left) top.at.0 left_apart.0 (λ z. top.is.never_root (top.at.0 ∙ z)) now
           ∙ ap (λ (z : Holdings). record z { held = s.base }) left

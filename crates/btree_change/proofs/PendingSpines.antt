@@ -1,5 +1,5 @@
 -- A spine that was written is let go of, from its leaf up: with the leaf, all that is held settles.
-use Rattle.std.proofs.Common.{◌≡◌, ◌≢◌, ℕ, zero, ◌+◌, ◌-◌, ◌*◌, ◌<◌, List, [], ◌∷◌, ◌++◌, length, map, append_assoc, refl, ap, sym, ◌∙◌, subst, arith, Bool, true, false, not, Some, None, IsSome, IsSomeAnd, IsTrue, eq-eqb, ne_eqb, cond, if◌then◌else◌}
+use Rattle.std.proofs.Common.{◌≡◌, ◌≢◌, ℕ, ◌+◌, ◌-◌, ◌*◌, ◌<◌, List, [], ◌∷◌, ◌++◌, length, map, refl, ap, sym, ◌∙◌, subst, arith, Bool, true, false, not, Some, None, IsSome, IsSomeAnd, IsTrue, eq-eqb, ne_eqb, cond, if◌then◌else◌}
 use Rattle.std.specs.List.{AllByRecursion}
 use Rattle.tree_shape.specs.declared.pair.Pair.{Pair}
 use Rattle.tree_shape.specs.NodeData.{NodeData, pairs_of}
@@ -19,9 +19,9 @@ use Rattle.word_rule.specs.Steps.{MayRelease, after_node_release, after_node_rel
 use Rattle.node_store.specs.Holding.{ReadsHeld}
 use Rattle.btree_change.specs.Paths.{StepsOnNodes}
 use Rattle.btree_change.specs.Loads.{KeepsLoads}
-use Rattle.btree_change.specs.Spines.{AreApart, IsLockAt, IsPending, IsReadable, IsSpine, LetsGoSettled}
+use Rattle.btree_change.specs.Spines.{AreApart, IsPending, IsReadable, IsSpine, LetsGoSettled}
 use Rattle.btree_change.proofs.Descending.{steps_of_read}
-use Rattle.btree_change.proofs.FreshSpines.{all_parts, apart_mid, leaf_of, top_of as top_below}
+use Rattle.btree_change.proofs.FreshSpines.{HoldsSpineLeaf, HoldsSpineTop, all_parts, apart_mid, spine_leaf, spine_top}
 use Rattle.node_store.proofs.Settled.{ExchangeLaw}
 use Rattle.btree_change.proofs.LettingGo.{IsSettled, settles_nothing}
 use Rattle.btree_change.proofs.Loading.{keeps_none}
@@ -59,74 +59,59 @@ map_settled settled [] all = tt
 map_settled settled (h ∷ hs) all = (all.0, map_settled settled hs all.1)
 
 module _ (t : Terms) (n level : ℕ) (k : CallerData) (p : IsPending t n level k.log.holdings) (zero_level : level ≡ 0) where
-  leaf : (h : Holding) × (IsLockAt n zero h × (p.locks ≡ h ∷ []))
-  leaf = leaf_of first_child n level p.locks zero_level p.spine
-
-  leaf_held : k.log.holdings.held ≡ leaf.0 ∷ p.base
-  leaf_held = p.held ∙ ap (λ xs. xs ++ p.base) leaf.1.1
-
-  leaf_each : IsReadable t leaf.0
-  leaf_each = (subst (AllByRecursion (IsReadable t)) leaf.1.1 p.each).0
+  leaf : HoldsSpineLeaf (IsReadable t) n k.log.holdings.held p.base
+  leaf = spine_leaf (IsReadable t) n level k.log.holdings.held p.locks p.base p.held p.spine p.each zero_level
 
   leaf_far : AllByRecursion (λ (a : Holding). a.node ≢ n) p.base
-  leaf_far = subst (λ m. AllByRecursion (λ (a : Holding). a.node ≢ m) p.base) leaf.1.0.0 (subst AreApart leaf_held p.apart).0
+  leaf_far = subst (λ m. AllByRecursion (λ (a : Holding). a.node ≢ m) p.base) leaf.at.0 (subst AreApart leaf.parts p.apart).0
 
   pub leaf_inside : n < t.nodes
-  leaf_inside = subst (λ m. m < t.nodes) leaf.1.0.0 leaf_each.within
+  leaf_inside = subst (λ m. m < t.nodes) leaf.at.0 leaf.is.within
 
   pub leaf_may : MayRelease n k.log
-  leaf_may = subst (λ o. IsSomeAnd o (λ (h : Holding). IsSome (spelled h.words) × (IsSome h.mark → Differs h → IsTrue (is_lawful k.log None)))) (sym (ap (held_of n) leaf_held ∙ found_head n leaf.0 p.base leaf.1.0.0))
-      (subst IsSome (sym leaf_each.spells) refl, λ marked differs. (p.settles k.log refl).0)
+  leaf_may = subst (λ o. IsSomeAnd o (λ (h : Holding). IsSome (spelled h.words) × (IsSome h.mark → Differs h → IsTrue (is_lawful k.log None)))) (sym (ap (held_of n) leaf.parts ∙ found_head n leaf.lock p.base leaf.at.0))
+      (subst IsSome (sym leaf.is.spells) refl, λ marked differs. (p.settles k.log refl).0)
 
   pub leaf_settles : (k' : CallerData) → k' ≡ record k { log = after_node_release n k.log } → LetsGoSettled p.settled p.base level k k'
   leaf_settles k' is =
       subst (LetsGoSettled p.settled p.base level k) (sym (released_so n k k' (record k.log { holdings = record k.log.holdings { held = map p.settled k.log.holdings.held; out = [] } }) (p.settles k.log refl).1 is)) (record {
         calls = calls_so k refl refl;
         budget = ap (λ x. record k.log.budget { credit = k.log.budget.credit - x }) (let e : 1 ≡ level + 1 = omega (arith, zero_level) in e);
-        held = ap (λ hs. without_lock n (map p.settled hs)) leaf_held ∙ without_top p.settled p.keeps n leaf.0 p.base leaf.1.0.0 leaf_far;
+        held = ap (λ hs. without_lock n (map p.settled hs)) leaf.parts ∙ without_top p.settled p.keeps n leaf.lock p.base leaf.at.0 leaf_far;
         out = refl;
       })
 
 module _ (t : Terms) (n level : ℕ) (k : CallerData) (p : IsPending t n level k.log.holdings) (some : level ≢ 0) where
-  top : (h : Holding) × (lower : List Holding) × (IsLockAt n level h × (p.locks ≡ lower ++ h ∷ []) × IsSpine first_child (level - 1) (first_child 0 (pairs_of h.settled)) lower)
-  top = top_below first_child n level p.locks some p.spine
+  top : HoldsSpineTop (IsReadable t) n level k.log.holdings.held p.base
+  top = spine_top (IsReadable t) n level k.log.holdings.held p.locks p.base p.held p.spine p.each some
 
-  held_is : k.log.holdings.held ≡ top.1 ++ (top.0 ∷ p.base)
-  held_is = p.held ∙ (ap (λ xs. xs ++ p.base) top.2.1 ∙ append_assoc top.1 (top.0 ∷ []) p.base)
+  apart : AreApart (top.lower ++ (top.lock ∷ p.base))
+  apart = subst AreApart top.parts p.apart
 
-  apart : AreApart (top.1 ++ (top.0 ∷ p.base))
-  apart = subst AreApart held_is p.apart
-
-  each_all : AllByRecursion (IsReadable t) top.1 × AllByRecursion (IsReadable t) (top.0 ∷ [])
-  each_all = all_parts (IsReadable t) top.1 (top.0 ∷ []) (subst (AllByRecursion (IsReadable t)) top.2.1 p.each)
-
-  each : IsReadable t top.0
-  each = each_all.1.0
-
-  found : held_of n k.log.holdings.held ≡ Some top.0
-  found = ap (held_of n) held_is ∙ subst (λ m. held_of m (top.1 ++ (top.0 ∷ p.base)) ≡ Some top.0) top.2.0.0 (in_mid top.1 top.0 p.base apart)
+  found : held_of n k.log.holdings.held ≡ Some top.lock
+  found = ap (held_of n) top.parts ∙ subst (λ m. held_of m (top.lower ++ (top.lock ∷ p.base)) ≡ Some top.lock) top.at.0 (in_mid top.lower top.lock p.base apart)
 
   pub top_inside : n < t.nodes
-  top_inside = subst (λ m. m < t.nodes) top.2.0.0 each.within
+  top_inside = subst (λ m. m < t.nodes) top.at.0 top.is.within
 
   pub may_read_pending : IsSomeAnd (held_of n k.log.holdings.held) (λ z. IsSome (spelled z.words))
-  may_read_pending = may_read_found n each.content top.0 k found each.spells
+  may_read_pending = may_read_found n top.is.content top.lock k found top.is.spells
 
   far : AllByRecursion (λ (a : Holding). a.node ≢ n) p.base
-  far = subst (λ m. AllByRecursion (λ (a : Holding). a.node ≢ m) p.base) top.2.0.0 (apart_mid top.1 top.0 p.base apart).1
+  far = subst (λ m. AllByRecursion (λ (a : Holding). a.node ≢ m) p.base) top.at.0 (apart_mid top.lower top.lock p.base apart).1
 
-  settled_all : AllByRecursion (λ (h : Holding). SpellsNode (p.settled h).words (p.settled h).settled) (top.0 ∷ p.base)
-  settled_all = (all_parts (λ (h : Holding). SpellsNode (p.settled h).words (p.settled h).settled) top.1 (top.0 ∷ p.base) (subst (AllByRecursion (λ (h : Holding). SpellsNode (p.settled h).words (p.settled h).settled)) held_is p.all)).1
+  settled_all : AllByRecursion (λ (h : Holding). SpellsNode (p.settled h).words (p.settled h).settled) (top.lock ∷ p.base)
+  settled_all = (all_parts (λ (h : Holding). SpellsNode (p.settled h).words (p.settled h).settled) top.lower (top.lock ∷ p.base) (subst (AllByRecursion (λ (h : Holding). SpellsNode (p.settled h).words (p.settled h).settled)) top.parts p.all)).1
 
   module _ (k1 : CallerData) (shape : NodeData) (reads : ReadsHeld n k k1 shape) (same : k1.log.holdings ≡ k.log.holdings) where
-    is : each.content ≡ shape
-    is = reads_spelled n each.content shape top.0 k k1 found each.spells reads
+    is : top.is.content ≡ shape
+    is = reads_spelled n top.is.content shape top.lock k k1 found top.is.spells reads
 
-    pairs_is : pairs_of top.0.settled ≡ pairs_of shape
-    pairs_is = sym each.pairs ∙ ap pairs_of is
+    pairs_is : pairs_of top.lock.settled ≡ pairs_of shape
+    pairs_is = sym top.is.pairs ∙ ap pairs_of is
 
     pub pending_pairs : 0 < length (pairs_of shape)
-    pending_pairs = subst (λ (ps : List Pair). 0 < length ps) pairs_is (each.some (let e = top.2.0.1 in omega (arith, e, some)))
+    pending_pairs = subst (λ (ps : List Pair). 0 < length ps) pairs_is (top.is.some (let e = top.at.1 in omega (arith, e, some)))
 
     steps1 : StepsOnNodes k k1
     steps1 = steps_of_read n k k1 shape reads
@@ -140,21 +125,21 @@ module _ (t : Terms) (n level : ℕ) (k : CallerData) (p : IsPending t n level k
       settles = λ v at. p.settles v (at ∙ same);
       keeps = p.keeps;
       all = subst (λ (z : Holdings). AllByRecursion (λ (h : Holding). SpellsNode (p.settled h).words (p.settled h).settled) z.held) (sym same) p.all;
-      locks = top.1;
-      base = top.0 ∷ p.base;
-      held = ap (λ (z : Holdings). z.held) same ∙ held_is;
-      spine = subst (λ c. IsSpine first_child (level - 1) c top.1) (ap (first_child 0) pairs_is ∙ sym e) top.2.2;
-      each = each_all.0;
+      locks = top.lower;
+      base = top.lock ∷ p.base;
+      held = ap (λ (z : Holdings). z.held) same ∙ top.parts;
+      spine = subst (λ c. IsSpine first_child (level - 1) c top.lower) (ap (first_child 0) pairs_is ∙ sym e) top.spine;
+      each = top.each;
       apart = subst AreApart (sym (ap (λ (z : Holdings). z.held) same)) p.apart;
     }
 
     module _ (child : ℕ) (e : child ≡ first_child 0 (pairs_of shape)) (k2 : CallerData) (below : (spine : IsPending t child (level - 1) k1.log.holdings) → LetsGoSettled spine.settled spine.base (level - 1) k1 k2) where
-      gone : LetsGoSettled p.settled (top.0 ∷ p.base) (level - 1) k1 k2
+      gone : LetsGoSettled p.settled (top.lock ∷ p.base) (level - 1) k1 k2
       unfolding pending_below
       gone = below (pending_below child e)
 
       pub top_may : MayRelease n k2.log
-      top_may = subst (λ o. IsSomeAnd o (λ (h : Holding). IsSome (spelled h.words) × (IsSome h.mark → Differs h → IsTrue (is_lawful k2.log None)))) (sym (ap (held_of n) gone.held ∙ found_head n (p.settled top.0) (map p.settled p.base) (p.keeps top.0 ∙ top.2.0.0)))
+      top_may = subst (λ o. IsSomeAnd o (λ (h : Holding). IsSome (spelled h.words) × (IsSome h.mark → Differs h → IsTrue (is_lawful k2.log None)))) (sym (ap (held_of n) gone.held ∙ found_head n (p.settled top.lock) (map p.settled p.base) (p.keeps top.lock ∙ top.at.0)))
           (subst IsSome (sym settled_all.0) refl, λ marked differs. absurd (differs settled_all.0))
 
       top_calls : KeepsCalls k k2
@@ -168,11 +153,11 @@ module _ (t : Terms) (n level : ℕ) (k : CallerData) (p : IsPending t n level k
 
       pub top_settles : ExchangeLaw → (k3 : CallerData) → k3 ≡ record k2 { log = after_node_release n k2.log } → LetsGoSettled p.settled p.base level k k3
       top_settles law k3 now =
-          let none : settle None k2.log ≡ k2.log = settles_nothing law k2.log (subst (AllByRecursion IsSettled) (sym gone.held) (map_settled p.settled (top.0 ∷ p.base) settled_all)) in
+          let none : settle None k2.log ≡ k2.log = settles_nothing law k2.log (subst (AllByRecursion IsSettled) (sym gone.held) (map_settled p.settled (top.lock ∷ p.base) settled_all)) in
           subst (LetsGoSettled p.settled p.base level k) (sym (released_so n k2 k3 k2.log none now)) (record {
             calls = kept_calls_on top_calls (calls_so k2 refl refl);
             budget = ap after_spending (gone.budget ∙ ap (λ (z : Budget). record z { credit = z.credit - (level - 1 + 1) }) steps1.budget)
                 ∙ ap (λ x. record k.log.budget { credit = x }) (let d : (k.log.budget.credit - (level - 1 + 1)) - 1 ≡ k.log.budget.credit - (level + 1) = omega (arith, some) in d);
-            held = ap (without_lock n) gone.held ∙ without_top p.settled p.keeps n top.0 p.base top.2.0.0 far;
+            held = ap (without_lock n) gone.held ∙ without_top p.settled p.keeps n top.lock p.base top.at.0 far;
             out = gone.out;
           })
