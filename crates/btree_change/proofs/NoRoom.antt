@@ -1,6 +1,6 @@
 -- That there was no room, by the loads of some steps: it stays so where more is loaded before and
 -- after them.
-use Rattle.std.proofs.Common.{◌≡◌, ℕ, List, ◌∷◌, ◌++◌, length, append_assoc, sym, ap, ◌∙◌, subst}
+use Rattle.std.proofs.Common.{◌≡◌, ℕ, List, [], ◌∷◌, ◌++◌, length, append_assoc, append-nil, sym, ap, ◌∙◌, subst}
 use Rattle.reg_model.specs.declared.answer.Inserted.{Inserted}
 use Rattle.reg_model.specs.declared.answer.Inserted.TheVariants as inserted
 use Rattle.word_rule.specs.CallerData.{CallerData}
@@ -13,15 +13,15 @@ use Rattle.btree_change.specs.Loads.{FoundNoRoom, KeepsLoads}
 use Rattle.btree_change.specs.Stands.{HasCause, IfNoneFree}
 use Rattle.btree_change.proofs.Loading.{keeps_all, keeps_then}
 
--- More loads behind leave the cause where it was.
-pub more_loads : (base receipts : ℕ) (loads more : List LoadEvent) → HadNoRoom base receipts loads → HadNoRoom base receipts (loads ++ more)
-more_loads base receipts loads more r = record {
-  before = r.before;
+-- Loads before and behind leave the cause where it was.
+pub among_loads : (base receipts : ℕ) (earlier loads more : List LoadEvent) → HadNoRoom base receipts loads → HadNoRoom base receipts (earlier ++ (loads ++ more))
+among_loads base receipts earlier loads more r = record {
+  before = earlier ++ r.before;
   count = r.count;
   between = r.between;
   cause = r.cause;
   behind = r.behind ++ more;
-  in_order = ap (λ z. z ++ more) r.in_order ∙ (append_assoc r.before (r.count ∷ (r.between ++ (r.cause ∷ r.behind))) more ∙ ap (λ z. r.before ++ (r.count ∷ z)) (append_assoc r.between (r.cause ∷ r.behind) more));
+  in_order = ap (λ z. earlier ++ (z ++ more)) r.in_order ∙ (ap (λ z. earlier ++ z) (append_assoc r.before (r.count ∷ (r.between ++ (r.cause ∷ r.behind))) more ∙ ap (λ z. r.before ++ (r.count ∷ z)) (append_assoc r.between (r.cause ∷ r.behind) more)) ∙ sym (append_assoc earlier r.before (r.count ∷ (r.between ++ (r.cause ∷ (r.behind ++ more))))));
   since = r.since;
   node = r.node;
   held = r.held;
@@ -35,27 +35,11 @@ more_loads base receipts loads more r = record {
   shut = r.shut;
 }
 
--- So do more before.
+pub more_loads : (base receipts : ℕ) (loads more : List LoadEvent) → HadNoRoom base receipts loads → HadNoRoom base receipts (loads ++ more)
+more_loads base receipts loads more r = among_loads base receipts [] loads more r
+
 earlier_loads : (base receipts : ℕ) (earlier loads : List LoadEvent) → HadNoRoom base receipts loads → HadNoRoom base receipts (earlier ++ loads)
-earlier_loads base receipts earlier loads r = record {
-  before = earlier ++ r.before;
-  count = r.count;
-  between = r.between;
-  cause = r.cause;
-  behind = r.behind;
-  in_order = ap (λ z. earlier ++ z) r.in_order ∙ sym (append_assoc earlier r.before (r.count ∷ (r.between ++ (r.cause ∷ r.behind))));
-  since = r.since;
-  node = r.node;
-  held = r.held;
-  full = r.full;
-  on_way = r.on_way;
-  last = r.last;
-  stores = r.stores;
-  stored = r.stored;
-  unstored = r.unstored;
-  still = r.still;
-  shut = r.shut;
-}
+earlier_loads base receipts earlier loads r = subst (λ z. HadNoRoom base receipts (earlier ++ z)) (append-nil loads) (among_loads base receipts earlier loads [] r)
 
 -- it is among all loads then
 pub no_room_now : (base : ℕ) (k k' : CallerData) → FoundNoRoom base k k' → HadNoRoom base (length k.log.receipts.own) k'.log.trace.loads
