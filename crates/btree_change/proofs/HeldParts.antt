@@ -1,5 +1,5 @@
 -- Single locks among those that are held: dropped, told apart, and at their places in the tree.
-use Rattle.std.proofs.Common.{◌≡◌, ◌≢◌, ℕ, ◌≤◌, List, [], ◌∷◌, ◌++◌, sym, refl, ap, ◌∙◌, subst, arith, Bool, true, false, ◌==◌, not, IsTrue, true≢false, Option, Some, None, IfSome, IsSome, eq-eqb, ne_eqb, cond}
+use Rattle.std.proofs.Common.{◌≡◌, ◌≢◌, ℕ, ◌≤◌, List, [], ◌∷◌, ◌++◌, sym, refl, ap, ◌∙◌, subst, arith, Bool, true, false, ◌==◌, not, IsTrue, true≢false, Option, Some, None, IfSome, IsSome, is_some, eq-eqb, ne_eqb, cond}
 use Rattle.std.specs.List.{AllByRecursion}
 use Rattle.tree_shape.specs.declared.node.Frame.{Frame}
 use Rattle.tree_shape.specs.NodeData.{NodeData}
@@ -49,6 +49,14 @@ is_none n xs far = not_among xs n (times_far n xs far)
 -- what a tree says of a lock that is marked live
 abbrev pub IsTold : Contents → (ℕ → Bool) → Holding → Type 0
 IsTold f live a = IsSome a.mark → IsTrue (live a.node) × (f a.node ≡ a.settled)
+
+-- a lock of a node that the tree doesn't have has no place
+pub told_unmarked : (f : Contents) (live : ℕ → Bool) (a : Holding) → IsTold f live a → live a.node ≡ false → a.mark ≡ None
+told_unmarked f live a told dead = go a.mark refl
+  where
+    go : (o : Option Frame) → a.mark ≡ o → a.mark ≡ None
+    go None e = e
+    go (Some place) e = absurd (true≢false (sym (told (ap is_some e)).0 ∙ dead))
 
 pub lives_apart : (live : ℕ → Bool) (n m : ℕ) → live n ≡ true → live m ≡ false → n ≢ m
 lives_apart live n m a b e = true≢false (sym a ∙ (ap live e ∙ b))

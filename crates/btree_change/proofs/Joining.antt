@@ -91,12 +91,6 @@ module _ (t : Terms) (x : Siblings) (k k1 : CallerData) (found : ℕ) (hs : Hold
   abbrev r : ℕ
   r = x.right.node
 
-  abbrev o : Bool
-  o = hs.left_first
-
-  abbrev s : NodeData
-  s = x.above.content
-
   abbrev one : NodeData
   one = joined x.left.content x.right.content
 

@@ -1,8 +1,7 @@
 -- The full root is lifted and split in one step: what is held before, and the change that is written.
-use Rattle.std.proofs.Common.{◌≡◌, ◌≢◌, ℕ, ◌+◌, ◌<◌, ◌≤◌, List, [], ◌∷◌, length, sym, refl, ap, ◌∙◌, subst, arith, Bool, true, false, IsTrue, true≢false, Option, Some, None, IsSome, IsSomeAnd, is_some, inl, inr, ◌⊎◌, eq-eqb, ne_eqb}
+use Rattle.std.proofs.Common.{◌≡◌, ◌≢◌, ℕ, ◌+◌, ◌<◌, ◌≤◌, List, [], ◌∷◌, length, sym, refl, ap, ◌∙◌, subst, arith, Bool, true, false, IsTrue, None, IsSome, IsSomeAnd, inl, inr, ◌⊎◌, eq-eqb, ne_eqb}
 use Rattle.std.proofs.lemmas.Bool.{ltb-true}
 use Rattle.std.specs.List.{AllByRecursion}
-use Rattle.tree_shape.specs.declared.node.Frame.{Frame}
 use Rattle.tree_shape.specs.Changes.{first_half, last_half}
 use Rattle.tree_shape.specs.Lawful.{IsLawfulTree}
 use Rattle.tree_shape.specs.LocalChange.{IsChangeOf}
@@ -26,7 +25,7 @@ use Rattle.btree_change.specs.declared.split.Parts.{Parts}
 use Rattle.btree_change.specs.Halves.{WritesRootParts}
 use Rattle.btree_change.specs.Paths.{StepsOnNodes}
 use Rattle.btree_change.specs.Splits.{HoldsFullRoot, root_parts_for}
-use Rattle.btree_change.proofs.HeldParts.{AreFar, IsTold, is_first, is_second, is_third, lives_apart}
+use Rattle.btree_change.proofs.HeldParts.{AreFar, IsTold, is_first, is_second, is_third, lives_apart, told_unmarked}
 use Rattle.btree_change.proofs.HeldLists.{HeldOnce}
 use Rattle.btree_change.proofs.Settling.{FitsChange, IsHeldChange, left_out, marked_at, none_out}
 use Rattle.btree_change.proofs.SplitParts.{are_halves}
@@ -72,18 +71,10 @@ module _ (t : Terms) (full : FullRoot) (pc : ℕ) (k0 : CallerData) (h : HoldsFu
   right_dead = tree.dead full.right (subst (λ ns. IsTrue (is_among ns full.right)) (sym h.out) (is_first full.right (full.left ∷ [])))
 
   left_unmarked : h.left.mark ≡ None
-  left_unmarked = go h.left.mark refl
-    where
-      go : (o : Option Frame) → h.left.mark ≡ o → h.left.mark ≡ None
-      go None e = e
-      go (Some place) e = absurd (true≢false (sym (told.1.0 (ap is_some e)).0 ∙ (ap tree.live h.left_free.node ∙ left_dead)))
+  left_unmarked = told_unmarked tree.contents tree.live h.left told.1.0 (ap tree.live h.left_free.node ∙ left_dead)
 
   right_unmarked : h.right.mark ≡ None
-  right_unmarked = go h.right.mark refl
-    where
-      go : (o : Option Frame) → h.right.mark ≡ o → h.right.mark ≡ None
-      go None e = e
-      go (Some place) e = absurd (true≢false (sym (told.0 (ap is_some e)).0 ∙ (ap tree.live h.right_free.node ∙ right_dead)))
+  right_unmarked = told_unmarked tree.contents tree.live h.right told.0 (ap tree.live h.right_free.node ∙ right_dead)
 
   pub left_zero : full.left ≢ 0
   left_zero e = lives_apart tree.live 0 full.left root_live left_dead (sym e)

@@ -4,7 +4,7 @@ use Rattle.std.specs.List.{AllByRecursion, slice_get}
 use Rattle.tree_shape.specs.Changes.{pair}
 use Rattle.tree_shape.specs.Lawful.{FitsParent}
 use Rattle.tree_shape.specs.NodeData.{NodeData, pairs_of}
-use Rattle.tree_shape.specs.Trees.{Branch, Contents, branches}
+use Rattle.tree_shape.specs.Trees.{Branch, branches}
 use Rattle.tree_shape.specs.declared.pair.Pair.{Pair}
 use Rattle.tree_shape.proofs.Halves.{fewest_pairs_some, pairs_filled}
 use Rattle.tree_shape.proofs.Joins.{Neighbours, neighbours}
@@ -71,12 +71,6 @@ module _ (t : Terms) (child : Child) (pc first beside : ℕ) (q : Pair) (k k1 k2
 
   abbrev n : ℕ
   n = child.above.node
-
-  abbrev c : Held
-  c = child.at
-
-  abbrev f : Contents
-  f = tree.contents
 
   told : (IsSome h.lower.mark → IsTrue (tree.live h.lower.node) × (tree.contents h.lower.node ≡ h.lower.settled)) × (IsSome h.upper.mark → IsTrue (tree.live h.upper.node) × (tree.contents h.upper.node ≡ h.upper.settled))
   told = let all = subst (AllByRecursion (λ (z : Holding). IsSome z.mark → IsTrue (tree.live z.node) × (tree.contents z.node ≡ z.settled))) h.held tree.marked in (all.0, all.1.0)

@@ -109,9 +109,6 @@ module _ (t : Terms) (x : Siblings) (k : CallerData) (hs : HoldsSiblings t x k.l
   abbrev r : ℕ
   r = x.right.node
 
-  abbrev f : Contents
-  f = tree.contents
-
   abbrev p : Pair
   p = pair x.left.node x.left.content.high
 

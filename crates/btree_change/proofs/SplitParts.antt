@@ -69,23 +69,23 @@ pub record AreHalves (body : Body) : Type 0 where
   pub right_room : HasSpace (last_part (middle body) body)
 
 pub are_halves : (body : Body) → IsFull body → AreHalves body
-are_halves (Pairs pairs) full =
-    let first = length-take-le 7 pairs (omega (arith, full)) in let last = length-drop 7 pairs in record {
-      left_kind = λ e. omega (arith, e);
-      right_kind = λ e. omega (arith, e);
-      less = omega (arith, first, full);
-      left_room = omega (arith, first);
-      right_room = omega (arith, last, full);
-    }
-are_halves (Entries entries) full =
-    let first = length-take-le 5 entries (omega (arith, full)) in let last = length-drop 5 entries in record {
-      left_kind = λ e. omega (arith, e);
-      right_kind = λ e. omega (arith, e);
-      less = omega (arith, first, full);
-      left_room = omega (arith, first);
-      right_room = omega (arith, last, full);
-    }
-are_halves (Link next) full = absurd full
+are_halves body full = record {
+  left_kind = (kinds body full).0;
+  right_kind = (kinds body full).1;
+  less = (sizes body full).0;
+  left_room = (sizes body full).1;
+  right_room = (sizes body full).2;
+}
+  where
+    kinds : (b : Body) → IsFull b → (kind_of_body (first_part (middle b) b) ≢ 2) × (kind_of_body (last_part (middle b) b) ≢ 2)
+    kinds (Pairs pairs) full = (λ e. omega (arith, e), λ e. omega (arith, e))
+    kinds (Entries entries) full = (λ e. omega (arith, e), λ e. omega (arith, e))
+    kinds (Link next) full = absurd full
+
+    sizes : (b : Body) → IsFull b → (size (first_part (middle b) b) < size b) × HasSpace (first_part (middle b) b) × HasSpace (last_part (middle b) b)
+    sizes (Pairs pairs) full = let first = length-take-le 7 pairs (omega (arith, full)) in let last = length-drop 7 pairs in (omega (arith, first, full), omega (arith, first), omega (arith, last, full))
+    sizes (Entries entries) full = let first = length-take-le 5 entries (omega (arith, full)) in let last = length-drop 5 entries in (omega (arith, first, full), omega (arith, first), omega (arith, last, full))
+    sizes (Link next) full = absurd full
 
 -- what is stored differs from what was there
 pub left_differs : (s : NodeData) → IsFull s.body → first_half (middle s.body) s ≢ s

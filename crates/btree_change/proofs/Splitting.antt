@@ -1,7 +1,6 @@
 -- A full child is split under its parent: what is held before, and the change that is written.
-use Rattle.std.proofs.Common.{◌≡◌, ◌≢◌, ℕ, ◌-◌, ◌<◌, ◌≤◌, List, [], ◌∷◌, drop, length, slice_get, sym, refl, ap, ◌∙◌, subst, arith, Bool, true, false, IsTrue, true≢false, Option, Some, None, IsSome, IsSomeAnd, is_some, inl, inr, ◌⊎◌, eq-eqb, ne_eqb, Contains}
+use Rattle.std.proofs.Common.{◌≡◌, ◌≢◌, ℕ, ◌-◌, ◌<◌, ◌≤◌, List, [], ◌∷◌, drop, length, slice_get, sym, refl, ap, ◌∙◌, subst, arith, Bool, true, false, IsTrue, Some, None, IsSome, IsSomeAnd, inl, inr, ◌⊎◌, eq-eqb, ne_eqb, Contains}
 use Rattle.std.specs.List.{AllByRecursion}
-use Rattle.tree_shape.specs.declared.node.Frame.{Frame}
 use Rattle.tree_shape.specs.declared.pair.Pair.{Pair}
 use Rattle.tree_shape.specs.Changes.{at_slot, divide, first_half, last_half}
 use Rattle.tree_shape.specs.Lawful.{FitsParent, IsLawfulTree, IsOrderedAs}
@@ -9,7 +8,7 @@ use Rattle.tree_shape.specs.LocalChange.{IsChangeOf}
 use Rattle.tree_shape.specs.NodeData.{NodeData, Pairs, IsInFences, pairs_of, slot_for}
 use Rattle.tree_shape.specs.Numbers.{is_among}
 use Rattle.tree_shape.specs.Steps.{IsFull, IsSplit, middle, middle_fence}
-use Rattle.tree_shape.specs.Trees.{Branch, Contents, branches}
+use Rattle.tree_shape.specs.Trees.{Contents, branches}
 use Rattle.tree_shape.proofs.Halves.{only}
 use Rattle.word_rule.specs.CallerData.{CallerData}
 use Rattle.word_rule.specs.declared.log.Holding.{Holding}
@@ -27,7 +26,7 @@ use Rattle.btree_change.specs.Halves.{WritesParts}
 use Rattle.btree_change.specs.Paths.{StepsOnNodes}
 use Rattle.btree_change.specs.Splits.{HoldsFullChild, parts_for}
 use Rattle.btree_change.proofs.Descending.{level_of}
-use Rattle.btree_change.proofs.HeldParts.{AreFar, IsTold, higher_dead, higher_far, higher_once, higher_stay, is_first, is_none, is_second, is_third, lives_apart, place_of_lock}
+use Rattle.btree_change.proofs.HeldParts.{AreFar, IsTold, higher_dead, higher_far, higher_once, higher_stay, is_first, is_none, is_second, is_third, lives_apart, place_of_lock, told_unmarked}
 use Rattle.btree_change.proofs.Halving.{fits_new, fits_written, new_lock, written_lock}
 use Rattle.btree_change.proofs.HeldLists.{HeldOnce}
 use Rattle.btree_change.proofs.Settling.{FitsChange, IsHeldChange, StaysSettled, left_out, marked_at, none_out, stays_fit}
@@ -47,27 +46,6 @@ outside_of up down new [] x y z = tt
 outside_of up down new (a ∷ rest) x y z = ((is_none a.node (up ∷ down ∷ []) (x.0, (y.0, tt)), is_none a.node (up ∷ down ∷ new ∷ []) (x.0, (y.0, (z.0, tt)))), outside_of up down new rest x.1 y.1 z.1)
 
 module _ (t : Terms) (full : FullChild) (pc : ℕ) (k0 : CallerData) (h : HoldsFullChild t full pc k0.log.holdings) (tree : KnowsTree k0.log.holdings) where
-  abbrev f : Contents
-  f = tree.contents
-
-  abbrev up : ℕ
-  up = full.parent.node
-
-  abbrev down : ℕ
-  down = full.child.node
-
-  abbrev new : ℕ
-  new = full.fresh
-
-  abbrev s : NodeData
-  s = full.parent.content
-
-  abbrev c : NodeData
-  c = full.child.content
-
-  abbrev slot : ℕ
-  slot = slot_for pc (pairs_of full.parent.content)
-
   told : AllByRecursion (IsTold tree.contents tree.live) (h.new ∷ h.lower ∷ h.upper ∷ h.rest)
   told = subst (AllByRecursion (IsTold tree.contents tree.live)) h.held tree.marked
 
@@ -87,11 +65,7 @@ module _ (t : Terms) (full : FullChild) (pc : ℕ) (k0 : CallerData) (h : HoldsF
   new_dead = tree.dead full.fresh (subst (λ ns. IsTrue (is_among ns full.fresh)) (sym h.out) (is_first full.fresh []))
 
   pub unmarked : h.new.mark ≡ None
-  unmarked = go h.new.mark refl
-    where
-      go : (o : Option Frame) → h.new.mark ≡ o → h.new.mark ≡ None
-      go None e = e
-      go (Some place) e = absurd (true≢false (sym (told.0 (ap is_some e)).0 ∙ (ap tree.live h.free.node ∙ new_dead)))
+  unmarked = told_unmarked tree.contents tree.live h.new told.0 (ap tree.live h.free.node ∙ new_dead)
 
   -- the three nodes are told apart, and from those above
   pub new_up : full.fresh ≢ full.parent.node
@@ -102,9 +76,6 @@ module _ (t : Terms) (full : FullChild) (pc : ℕ) (k0 : CallerData) (h : HoldsF
 
   ordered : IsOrderedAs full.parent.content (Pairs (pairs_of full.parent.content))
   ordered = subst (IsOrderedAs full.parent.content) h.inner (place_of_lock t full.parent.node full.parent.content full.parent.changed h.upper h.parent).1.ordered
-
-  abbrev b : Branch
-  b = h.leads.0
 
   fits : FitsParent tree.contents h.leads.0
   fits = all_with (FitsParent tree.contents) (branches ((tree.contents full.parent.node).level - 1) (tree.contents full.parent.node)) h.leads.0 (tree.lawful.tree.fitting full.parent.node up_live)
