@@ -10,7 +10,8 @@ ghost use Rattle.btree_change.specs.Paths.{HasChildFor, HoldsNothing, StepsOnNod
 ghost use Rattle.btree_change.specs.Releases.{LetsGo, MayGo};
 ghost use Rattle.btree_change.specs.Stands.{HoldsRoot};
 
-use node_store::{Busy, Locking, Outline, outline_of, pair_of, slot_of};
+use node_store::{Busy, Locking, Outline, outline_of, pair_of, read_held, slot_of};
+use tree_shape::Node;
 use word_rule::exchange::exchange_decided;
 use word_rule::places::LEVEL;
 use word_rule::{Ask, Caller, LockId, Words};
@@ -22,6 +23,18 @@ pub(crate) struct Held {
     pub(crate) content: Outline,
     /// Whether a word was stored under its lock.
     pub(crate) changed: bool,
+}
+
+/// What a held node holds.
+pub(crate) fn content_of(words: &Words, me: &mut Caller, at: &Held) -> Node
+    requires table { me.old.table ≡ words.now.table }
+    requires inside { at.now.node < words.now.terms.nodes }
+    requires spells { SpellsHeld at.now.node at.now.content me.old.log }
+    ensures content { result ≡ at.now.content }
+    ensures steps { StepsOnNodes me.old me.new }
+    ensures holdings { me.new.log.holdings ≡ me.old.log.holdings }
+{
+    read_held(words, me, at.node)
 }
 
 /// Takes a node's lock, or answers that it is taken.

@@ -9,7 +9,7 @@ ghost use Rattle.btree_change.specs.Loads.{KeepsLoads};
 ghost use Rattle.btree_change.specs.Spines.{HoldsLeafPair, HoldsNext, HoldsWay};
 ghost use Rattle.btree_change.specs.Spines.{MovesFence};
 
-use crate::descent::Held;
+use crate::descent::{Held, content_of};
 use crate::spines::{
     Spines, let_go_of_spine, level_below, lock_spine, pair_after, pair_at, settle_spine,
     write_spines,
@@ -86,7 +86,7 @@ pub(crate) fn refused_next(
         × LiesAbove member.now.span.last right.now.content.body
         × (member.now.span.last < right.now.content.high)) }
 {
-    let content = read_held(words, me, right.node);
+    let content = content_of(words, me, right);
     let other = first_overlap(&content, &member.span)?;
     let update = Update::Register { member: *member };
     let clock = words.load_clock(me, Ask::Refused { update });

@@ -4,13 +4,13 @@ ghost use Rattle.btree_change.specs.Below.{HIGHEST_LEVEL, IsFull, IsOrdered, Spe
 ghost use Rattle.btree_change.specs.Halves.{WritesRootParts};
 ghost use Rattle.btree_change.specs.Loads.{FoundNoRoom};
 ghost use Rattle.btree_change.specs.Paths.{StepsOnNodes};
-ghost use Rattle.btree_change.specs.Splits.{GivesBack, HoldsFullAlone, HoldsFullRoot, LosesFree};
-ghost use Rattle.btree_change.specs.Splits.{HoldsOneFree, IsRoomForRoot, LiftsRoot, StaysHeld};
-ghost use Rattle.btree_change.specs.Splits.{root_parts_for};
+ghost use Rattle.btree_change.specs.Splits.{GivesBack, HoldsFullAlone, HoldsFullRoot};
+ghost use Rattle.btree_change.specs.Splits.{HoldsOneFree, IsRoomForRoot, LiftsRoot};
+ghost use Rattle.btree_change.specs.Splits.{LosesFree, StaysHeld, root_parts_for};
 
-use crate::descent::Held;
+use crate::descent::{Held, content_of};
 use crate::split::{Parts, Split, halves, room_for, settled_split, ways_of};
-use node_store::{Busy, Locking, give_free, read_held, write_held};
+use node_store::{Busy, Locking, give_free, write_held};
 use tree_shape::limits::HIGHEST_LEVEL;
 use tree_shape::{laws, lift_root, put_pair};
 use word_rule::exchange::exchange_decided;
@@ -37,7 +37,7 @@ fn root_parts(words: &Words, me: &mut Caller, full: &FullRoot) -> Parts
     ensures same { StepsOnNodes me.old me.new }
     ensures holdings { me.new.log.holdings ≡ me.old.log.holdings }
 {
-    let root = read_held(words, me, full.root.node);
+    let root = content_of(words, me, &full.root);
     let (left, right) = halves(&root);
     let (lifted, _) = lift_root(&root, full.left);
     let above = put_pair(&lifted, 0, left.high, full.right);

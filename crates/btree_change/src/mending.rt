@@ -9,7 +9,6 @@ ghost use Rattle.tree_shape.specs.NodeData.{IsInFences, Pairs, pairs_of};
 ghost use Rattle.tree_shape.specs.Numbers.{is_among};
 ghost use Rattle.word_rule.specs.CallerData.{surplus};
 ghost use Rattle.word_rule.specs.Held.{held_of};
-ghost use Rattle.node_store.specs.Holding.{SpellsHeld};
 ghost use Rattle.btree_change.specs.Paths.{StepsOnNodes};
 ghost use Rattle.btree_change.specs.Siblings.{ReturnsNode, HoldsGone, HoldsSiblings, IsInEither};
 ghost use Rattle.btree_change.specs.Siblings.{KeepsOut, LeavesParent};
@@ -18,25 +17,13 @@ ghost use Rattle.btree_change.specs.Siblings.{HoldsSunk, sunk_root};
 ghost use Rattle.btree_change.specs.Siblings.{IsGoneOrSettled, MendsSiblings, SinksRoot};
 ghost use Rattle.btree_change.specs.Siblings.{is_small_body};
 
-use crate::descent::{Held, let_go_of};
+use crate::descent::{Held, content_of, let_go_of};
 use crate::sibling::Siblings;
-use node_store::{Busy, Locking, Outline, give_free, outline_of, read_held, write_held};
+use node_store::{Busy, Locking, Outline, give_free, outline_of, write_held};
 use tree_shape::{Node, drop_pair, even_pair, join_pair, laws, set_separator, sink_root};
 use word_rule::exchange::exchange_decided;
 use word_rule::places::{FREE, KIND, LEVEL, LINK};
 use word_rule::{Caller, LockId, Words};
-
-/// What a held node holds.
-fn content_of(words: &Words, me: &mut Caller, at: &Held) -> Node
-    requires table { me.old.table ≡ words.now.table }
-    requires inside { at.now.node < words.now.terms.nodes }
-    requires spells { SpellsHeld at.now.node at.now.content me.old.log }
-    ensures content { result ≡ at.now.content }
-    ensures steps { StepsOnNodes me.old me.new }
-    ensures holdings { me.new.log.holdings ≡ me.old.log.holdings }
-{
-    read_held(words, me, at.node)
-}
 
 /// Gives back a node that is out, where all else that is held has settled.
 fn give_back<L: Locking>(locking: &L, words: &Words, me: &mut Caller, node: u32) -> Result<(), Busy>

@@ -9,8 +9,8 @@ ghost use Rattle.btree_change.specs.Paths.{StepsOnNodes};
 ghost use Rattle.btree_change.specs.Splits.{HoldsFull, HoldsFullChild, IsRoomFor, SplitsChild};
 ghost use Rattle.btree_change.specs.Splits.{other_in, parts_for, way_in};
 
-use crate::descent::Held;
-use node_store::{Busy, Locking, outline_of, read_held, take_free, write_held};
+use crate::descent::{Held, content_of};
+use node_store::{Busy, Locking, outline_of, take_free, write_held};
 use tree_shape::{Node, inner_slot, laws, put_pair, split_inner, split_leaf};
 use word_rule::exchange::exchange_decided;
 use word_rule::places::{COUNT, LEVEL};
@@ -70,8 +70,8 @@ fn parts_of(words: &Words, me: &mut Caller, full: &FullChild, pc: u64) -> Parts
     ensures same { StepsOnNodes me.old me.new }
     ensures holdings { me.new.log.holdings ≡ me.old.log.holdings }
 {
-    let child = read_held(words, me, full.child.node);
-    let parent = read_held(words, me, full.parent.node);
+    let child = content_of(words, me, &full.child);
+    let parent = content_of(words, me, &full.parent);
     let (left, right) = halves(&child);
     let slot = inner_slot(&parent, pc);
     let above = put_pair(&parent, slot, left.high, full.fresh);

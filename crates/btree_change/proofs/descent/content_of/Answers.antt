@@ -1,6 +1,6 @@
 use Rattle.btree_change.proofs.Descending.{steps_of_read}
 use Rattle.btree_change.proofs.Outlining.{may_read, spell_one, spells_read}
-use Rattle.btree_change.proofs.mending.content_of.Goals as goal
+use Rattle.btree_change.proofs.descent.content_of.Goals as goal
 
 pub read_held-requires-clause-held : goal.read_held-requires-clause-held
 read_held-requires-clause-held c = may_read c.args.at.now.node c.args.at.now.content c.args.me.now.log c.requires.spells
