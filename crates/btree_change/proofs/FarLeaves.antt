@@ -1,58 +1,56 @@
 -- An insertion whose span ends in the next leaf.
-use Rattle.std.proofs.Common.{◌≡◌, ◌≢◌, ℕ, ◌+◌, ◌%◌, ◌<◌, ◌≤◌, List, [], ◌∷◌, ◌++◌, length, drop, map, sym, refl, ap, ◌∙◌, subst, arith, true, Some, IsSome, IsSomeAnd}
+use Rattle.std.proofs.Common.{◌≡◌, ◌≢◌, ℕ, ◌+◌, ◌<◌, ◌≤◌, List, [], ◌∷◌, ◌++◌, length, drop, map, sym, refl, ap, ◌∙◌, subst, arith, true, Some, IsSome, IsSomeAnd}
 use Rattle.std.proofs.lemmas.List.{length-map}
 use Rattle.std.specs.List.{AllByRecursion}
 use Rattle.reg_model.specs.State.{IsFree}
 use Rattle.reg_model.specs.declared.answer.Inserted.{Inserted}
-use Rattle.reg_model.specs.declared.answer.Inserted.TheVariants as inserted
 use Rattle.reg_model.specs.declared.answer.Receipt.TheVariants as receipt
-use Rattle.reg_model.specs.declared.answer.Update.TheVariants as update
 use Rattle.reg_model.specs.declared.span.Member.{Member}
 use Rattle.tree_shape.specs.Changes.{ends_at_as, ends_at_fence}
-use Rattle.tree_shape.specs.NodeData.{NodeData, Body, Pairs, Entries, Link, IsInFences, entries_in, entries_of}
+use Rattle.tree_shape.specs.NodeData.{NodeData, Body, Pairs, Entries, Link, IsInFences, IsLeaf, entries_in, entries_of}
 use Rattle.tree_shape.specs.Steps.{LiesAbove}
 use Rattle.tree_shape.specs.declared.node.Frame.{Frame}
 use Rattle.word_rule.specs.CallerData.{CallerData, WordsData, surplus}
-use Rattle.word_rule.specs.Clock.{AfterClock}
 use Rattle.word_rule.specs.Held.{held_of}
 use Rattle.word_rule.specs.NodeTells.{IsLiveNode}
 use Rattle.word_rule.specs.Spelling.{spelled, SpellsNode}
-use Rattle.word_rule.specs.TreeRefusals.{AppendsRefusal, HadNoRoom, ShowsFull}
-use Rattle.word_rule.specs.declared.log.Ask.TheVariants as ask
+use Rattle.word_rule.specs.TreeRefusals.{HadNoRoom, ShowsFull}
 use Rattle.word_rule.specs.declared.log.Holding.{Holding}
 use Rattle.word_rule.specs.declared.log.Holdings.{Holdings}
 use Rattle.word_rule.specs.declared.log.Terms.{Terms}
-use Rattle.node_store.specs.Holding.{ReadsHeld, SpellsHeld}
+use Rattle.node_store.proofs.Outlined.{loads_hold}
+use Rattle.node_store.specs.Holding.{SpellsHeld}
+use Rattle.node_store.specs.Outlines.{OnlyLoads}
 use Rattle.node_store.specs.declared.locking.Busy.{Busy}
 use Rattle.btree_change.specs.declared.beyond.Far.{Far}
 use Rattle.btree_change.specs.declared.beyond.Next.{Next}
 use Rattle.btree_change.specs.declared.descent.Held.{Held}
 use Rattle.btree_change.specs.declared.path.KeptNode.{KeptNode}
 use Rattle.btree_change.specs.declared.stand.Room.TheVariants as room
-use Rattle.btree_change.specs.Far.{HoldsFar, IsAtNext, IsReadyFar, StandsFar}
-use Rattle.btree_change.specs.Insertion.{MayPut, PutsMember, RefusesMember, taken_by}
+use Rattle.btree_change.specs.Far.{HoldsFar, HoldsMoved, IsAtNext, IsReadyFar, StandsFar}
+use Rattle.btree_change.specs.Insertion.{FitsLeaf, MayPut, RefusesMember, taken_by}
 use Rattle.btree_change.specs.Kept.{AreKept, HoldsPath, LeavesBelow, as_changed}
 use Rattle.btree_change.specs.Paths.{AreHigher, HoldsNothing, IsSettledLock, StepsOnNodes}
 use Rattle.btree_change.specs.Loads.{KeepsLoads}
-use Rattle.btree_change.specs.Releases.{HaveSettled, LetsGo, MayGo, Spends}
+use Rattle.btree_change.specs.Releases.{HaveSettled, Spends}
 use Rattle.btree_change.specs.Roots.{EndsInsertion, GivesUpWhole}
 use Rattle.btree_change.specs.Spines.{AreApart, AreMovedLocks, HoldsLeafPair, HoldsNext, HoldsWay, MovesFence}
 use Rattle.btree_change.specs.Stands.{HasWayOn, LiesBeyond, SpendsCall, StandsAt, kept_node}
-use Rattle.btree_change.proofs.Answering.{AnswersHere, here_ends, here_lowest, here_surplus, leaf_room, put_here}
+use Rattle.btree_change.proofs.Answering.{leaf_room}
 use Rattle.btree_change.proofs.AtRoot.{ends_after}
-use Rattle.btree_change.proofs.Descending.{steps_of_read}
 use Rattle.btree_change.proofs.Going.{way_lowered}
 use Rattle.btree_change.proofs.Loading.{nothing_left}
-use Rattle.btree_change.proofs.LockedSpines.{may_read_found, reads_spelled}
-use Rattle.btree_change.proofs.Outlining.{spells_held}
+use Rattle.btree_change.proofs.LockedSpines.{may_read_found}
+use Rattle.btree_change.proofs.Lowering.{settled_live}
+use Rattle.btree_change.proofs.Outlining.{spells_held, spells_same, steps_of_loads}
+use Rattle.btree_change.proofs.Putting.{leaf_at_zero}
 use Rattle.btree_change.proofs.NextOverlaps.{both_free, both_leaves}
-use Rattle.btree_change.proofs.Refusing.{refused_full}
-use Rattle.btree_change.proofs.Releasing.{lowest_may}
 use Rattle.btree_change.proofs.Settling.{found_first}
 use Rattle.btree_change.proofs.Spending.{may_still, refused_call, right_before, spends_before, spends_same, steps_after, surplus_after, surplus_steps}
 use Rattle.btree_change.proofs.Standing.{live_lock, lowest_of}
 use Rattle.btree_change.proofs.Stepping.{splits_on}
 use Rattle.btree_change.proofs.HeldLists.{found_head}
+use Rattle.btree_change.proofs.HeldOutlines.{alone_spells}
 use Rattle.btree_change.specs.Removing.{HoldsAlone}
 
 -- No member overlaps in two leaves, and there was no room.
@@ -64,9 +62,6 @@ module _ (t : Terms) (n : ℕ) (s : NodeData) (r : ℕ) (u : NodeData) (m : Memb
     free = both_free t n s r u m k pair live here free free_right;
     no_room = cause;
   }
-
-  pub full_next_so : (k' : CallerData) (clock : ℕ) → AfterClock t (ask.Refused (update.Register m)) clock k.log k'.log → AppendsRefusal (ask.Refused (update.Register m)) clock k.log k'.log → k' ≡ record k { log = k'.log } → RefusesMember t m (inserted.Full (clock % 4294967296)) k k'
-  full_next_so k' clock after refusal rest = refused_full t m k k' clock after (refusal.1 shows_full_next) rest
 
 -- All that is held is the leaf and what is kept above it.
 pub all_kept : (t : Terms) (leaf : Held) (kept : List KeptNode) (holdings : Holdings) → (stands : StandsAt t leaf holdings) → AreKept t kept stands.above → HoldsPath t (kept_node leaf ∷ kept) [] holdings
@@ -151,6 +146,46 @@ entries_end fence (Pairs pairs) = refl
 entries_end fence (Entries entries) = refl
 entries_end fence (Link next) = refl
 
+-- All above a leaf is let go of, and the leaf outlined.
+module _ (t : Terms) (far : Far) (k : CallerData) (moved : HoldsMoved t far k.log.holdings) where
+  pub moved_over : (path : List KeptNode) → path ≡ map as_changed far.beyond.kept → (below : List Holding) × HoldsPath t path below k.log.holdings
+  moved_over path is = (moved.lock ∷ [], subst (λ xs. HoldsPath t xs (moved.lock ∷ []) k.log.holdings) (sym is) moved.path)
+
+  pub moved_surplus : (path : List KeptNode) → path ≡ map as_changed far.beyond.kept → length far.beyond.kept ≤ surplus k → length path ≤ surplus k
+  moved_surplus path is enough = let e = ap length is ∙ length-map far.beyond.kept as_changed in omega (arith, enough, e)
+
+  pub left_path : (path : List KeptNode) → path ≡ map as_changed far.beyond.kept → (k1 : CallerData) → ((below : List Holding) → HoldsPath t path below k.log.holdings → LeavesBelow (length path) below k k1) → LeavesBelow (length far.beyond.kept) (moved.lock ∷ []) k k1
+  unfolding moved_over
+  left_path path is k1 leaves = subst (λ n. LeavesBelow n (moved.lock ∷ []) k k1) (ap length is ∙ length-map far.beyond.kept as_changed) (leaves (moved.lock ∷ []) (moved_over path is).1)
+
+  module _ (k1 : CallerData) (leaves : LeavesBelow (length far.beyond.kept) (moved.lock ∷ []) k k1) where
+    found : held_of far.leaf.node k1.log.holdings.held ≡ Some moved.lock
+    found = ap (held_of far.leaf.node) leaves.held ∙ subst (λ n. held_of n (moved.lock ∷ []) ≡ Some moved.lock) moved.leaf.node (found_first moved.lock [])
+
+    pub may_outline : IsSomeAnd (held_of far.leaf.node k1.log.holdings.held) (λ h. IsSome (spelled h.words))
+    may_outline = may_read_found far.leaf.node moved.lock.settled moved.lock k1 found moved.leaf.spells
+
+    module _ (k2 : CallerData) (content : NodeData) (spells : SpellsHeld far.leaf.node content k1.log) (loads : OnlyLoads k1 k2) where
+      pub outline_is : content ≡ moved.lock.settled
+      outline_is = sym (spells_same far.leaf.node moved.lock.settled content moved.lock k1.log found moved.leaf.spells spells)
+
+      pub alone_so : HoldsAlone t (record { node = far.leaf.node; content = content; changed = true }) k2.log.holdings
+      alone_so = record {
+        within = moved.within;
+        lock = moved.lock;
+        held = ap (λ (hs : Holdings). hs.held) (loads_hold k1 k2 loads) ∙ leaves.held;
+        here = subst (λ s. IsSettledLock t far.leaf.node s true moved.lock) (sym outline_is) moved.leaf;
+        out = ap (λ (hs : Holdings). hs.out) (loads_hold k1 k2 loads) ∙ (leaves.out ∙ moved.out);
+      }
+
+      pub alone_spends : Spends (length far.beyond.kept) k k2
+      alone_spends = steps_after (length far.beyond.kept) 0 (length far.beyond.kept) k k1 k2 (omega arith) leaves.steps (spends_same k1 k2 (steps_of_loads k1 k2 loads))
+
+-- The fence was moved and all above the leaf let go of: the member fits there.
+pub record LeavesLeaf (t : Terms) (m : Member) (far : Far) (leaf : Held) (k k' : CallerData) : Type 0 where
+  pub fits : FitsLeaf t m leaf k'.log.holdings
+  pub spends : Spends (length far.beyond.kept + 12) k k'
+
 -- The fence is moved, all above the leaf is let go of, and the member is put into the leaf.
 module _ (t : Terms) (m : Member) (far : Far) (k : CallerData) (ready : IsReadyFar t m far k.log.holdings) where
   abbrev way : HoldsWay t far.beyond.node far.beyond.slot ready.holds.next.base
@@ -202,13 +237,13 @@ module _ (t : Terms) (m : Member) (far : Far) (k : CallerData) (ready : IsReadyF
       loads = told;
     }
 
-    pub moved_surplus : (path : List KeptNode) → path ≡ map as_changed far.beyond.kept → length far.beyond.kept + 13 ≤ surplus k → length path ≤ surplus k1
-    moved_surplus path is enough = let e = ap length is ∙ length-map far.beyond.kept as_changed in surplus_steps 12 k k1 (length path) spent (omega (arith, enough, e))
+    pub moved_enough : length far.beyond.kept + 13 ≤ surplus k → length far.beyond.kept ≤ surplus k1
+    moved_enough enough = surplus_steps 12 k k1 (length far.beyond.kept) spent (omega (arith, enough))
 
     held_is : k1.log.holdings.held ≡ moves.lock' ∷ above1
     held_is = moves.held ∙ ap (λ rest. moves.lock' ∷ (moves.spine' ++ moves.top' ∷ rest)) ready.holds.alone
 
-    pub moved_path : HoldsPath t (map as_changed far.beyond.kept) (moves.lock' ∷ []) k1.log.holdings
+    moved_path : HoldsPath t (map as_changed far.beyond.kept) (moves.lock' ∷ []) k1.log.holdings
     moved_path = record {
       locks = above1;
       held = held_is;
@@ -220,79 +255,57 @@ module _ (t : Terms) (m : Member) (far : Far) (k : CallerData) (ready : IsReadyF
       );
     }
 
-    pub moved_over : (path : List KeptNode) → path ≡ map as_changed far.beyond.kept → (below : List Holding) × HoldsPath t path below k1.log.holdings
-    moved_over path is = (moves.lock' ∷ [], subst (λ xs. HoldsPath t xs (moves.lock' ∷ []) k1.log.holdings) (sym is) moved_path)
+    pub moved_all : HoldsMoved t far k1.log.holdings
+    moved_all = record {
+      lock = moves.lock';
+      path = moved_path;
+      within = leaf.within;
+      leaf = subst (λ s. IsSettledLock t far.leaf.node s true moves.lock') (sym leaf_here.settled) leaf_here;
+      out = moves.out;
+    }
 
-    -- they were let go of
-    pub left_path : (path : List KeptNode) → path ≡ map as_changed far.beyond.kept → (k2 : CallerData) → ((below : List Holding) → HoldsPath t path below k1.log.holdings → LeavesBelow (length path) below k1 k2) → LeavesBelow (length far.beyond.kept) (moves.lock' ∷ []) k1 k2
-    left_path path is k2 leaves = subst (λ n. LeavesBelow n (moves.lock' ∷ []) k1 k2) (ap length is ∙ length-map far.beyond.kept as_changed) (leaves (moves.lock' ∷ []) (subst (λ xs. HoldsPath t xs (moves.lock' ∷ []) k1.log.holdings) (sym is) moved_path))
+    -- all above the leaf was let go of
+    module _ (at : Held) (k2 : CallerData) (alone : HoldsAlone t at k2.log.holdings) (content : (moved : HoldsMoved t far k1.log.holdings) → at.content ≡ moved.lock.settled) (spends : Spends (length far.beyond.kept) k1 k2) where
+      at_is : now ≡ at.content
+      unfolding moved_all
+      at_is = sym (content moved_all ∙ leaf_here.settled)
 
-    module _ (k2 : CallerData) (leaves : LeavesBelow (length far.beyond.kept) (moves.lock' ∷ []) k1 k2) where
-      found : held_of far.leaf.node k2.log.holdings.held ≡ Some moves.lock'
-      found = ap (held_of far.leaf.node) leaves.held ∙ subst (λ n. held_of n (moves.lock' ∷ []) ≡ Some moves.lock') leaf_here.node (found_first moves.lock' [])
+      entries_are : entries_of at.content ≡ entries_of far.leaf.content
+      entries_are = ap entries_of (sym at_is) ∙ entries_end m.span.last far.leaf.content.body
 
-      pub may_read_leaf : IsSomeAnd (held_of far.leaf.node k2.log.holdings.held) (λ h. IsSome (spelled h.words))
-      may_read_leaf = may_read_found far.leaf.node now moves.lock' k2 found leaf_here.spells
+      pub leaves_leaf : LeavesLeaf t m far at k k2
+      leaves_leaf = record {
+        fits = record {
+          alone = alone;
+          level = ap (λ (z : NodeData). z.level) (sym at_is) ∙ ready.ends.level;
+          low = let a = ready.ends.here.0 in let e = ap (λ (z : NodeData). z.low) at_is in omega (arith, a, e);
+          high = let e = ap (λ (z : NodeData). z.high) at_is in omega (arith, e);
+          room = subst (λ xs. length xs < 10) (sym entries_are) (leaf_room t far.leaf ready.holds.next.base leaf ready.ends.level ready.room);
+          free = subst (IsFree m.span) (sym entries_are) ready.ends.free;
+        };
+        spends = steps_after 12 (length far.beyond.kept) (length far.beyond.kept + 12) k k1 k2 (omega arith) spent spends;
+      }
 
-      pub left_table : k2.table ≡ k.table
-      left_table = leaves.steps.calls.caller.table ∙ moves.calls.caller.table
+-- The leaf alone is held.
+module _ (t : Terms) (m : Member) (far : Far) (at : Held) (k k1 : CallerData) (left : LeavesLeaf t m far at k k1) where
+  pub left_spells : SpellsHeld at.node at.content k1.log
+  left_spells = alone_spells t at k1.log left.fits.alone
 
-      module _ (k3 : CallerData) (shape : NodeData) (reads : ReadsHeld far.leaf.node k2 k3 shape) (kept : k3.log.holdings ≡ k2.log.holdings) where
-        shape_is : now ≡ shape
-        shape_is = reads_spelled far.leaf.node now shape moves.lock' k2 k3 found leaf_here.spells reads
+  pub left_leaf : IsLeaf at.content
+  left_leaf = leaf_at_zero at.content (settled_live t at.node at.content at.changed left.fits.alone.lock left.fits.alone.here).1.1.ordered left.fits.level
 
-        pub leaf_held : HoldsAlone t (record { node = far.leaf.node; content = shape; changed = true }) k3.log.holdings
-        leaf_held = record {
-          within = leaf.within;
-          lock = moves.lock';
-          held = ap (λ (hs : Holdings). hs.held) kept ∙ leaves.held;
-          here = subst (λ s. IsSettledLock t far.leaf.node s true moves.lock') shape_is leaf_here;
-          out = ap (λ (hs : Holdings). hs.out) kept ∙ (leaves.out ∙ moves.out);
-        }
+  pub left_still : (k2 : CallerData) → OnlyLoads k1 k2 → LeavesLeaf t m far at k k2
+  left_still k2 loads = record {
+    fits = subst (FitsLeaf t m at) (sym (loads_hold k1 k2 loads)) left.fits;
+    spends = steps_after (length far.beyond.kept + 12) 0 (length far.beyond.kept + 12) k k1 k2 (omega arith) left.spends (spends_same k1 k2 (steps_of_loads k1 k2 loads));
+  }
 
-        pub shape_level : shape.level ≡ 0
-        shape_level = ap (λ (z : NodeData). z.level) (sym shape_is) ∙ ready.ends.level
+  pub may_put_far : (w : WordsData) → MayPut w m (length far.beyond.kept + 13) k → MayPut w m 1 k1
+  may_put_far w may = may_still w m (length far.beyond.kept + 12) (length far.beyond.kept + 13) 1 k k1 (omega arith) left.spends may
 
-        pub shape_low : shape.low ≤ m.span.first
-        shape_low = let a = ready.ends.here.0 in let e = ap (λ (z : NodeData). z.low) shape_is in omega (arith, a, e)
-
-        pub shape_high : m.span.last ≤ shape.high
-        shape_high = let e = ap (λ (z : NodeData). z.high) shape_is in omega (arith, e)
-
-        entries_are : entries_of shape ≡ entries_of far.leaf.content
-        entries_are = ap entries_of (sym shape_is) ∙ entries_end m.span.last far.leaf.content.body
-
-        pub shape_room : length (entries_of shape) < 10
-        shape_room = subst (λ xs. length xs < 10) (sym entries_are) (leaf_room t far.leaf ready.holds.next.base leaf ready.ends.level ready.room)
-
-        pub shape_free : IsFree m.span (entries_of shape)
-        shape_free = subst (IsFree m.span) (sym entries_are) ready.ends.free
-
-        spent3 : Spends (length far.beyond.kept + 12) k k3
-        spent3 =
-            steps_after (length far.beyond.kept + 12) 0 (length far.beyond.kept + 12) k k2 k3 (omega arith)
-            (steps_after 12 (length far.beyond.kept) (length far.beyond.kept + 12) k k1 k2 (omega arith) spent leaves.steps)
-            (spends_same k2 k3 (steps_of_read far.leaf.node k2 k3 shape reads))
-
-        pub may_put_far : (w : WordsData) → MayPut w m (length far.beyond.kept + 13) k → MayPut w m 0 k3
-        may_put_far w may = may_still w m (length far.beyond.kept + 12) (length far.beyond.kept + 13) 0 k k3 (omega arith) spent3 may
-
-        -- the member was put there, and the leaf let go of
-        module _ (number : ℕ) (k4 : CallerData) (puts : PutsMember t m far.leaf.node number k3 k4) where
-          put_answers : AnswersHere t m far.leaf.node (inserted.Done number) true k3 k4
-          put_answers = put_here t m far.leaf.node number k3 k4 puts
-
-          pub table4 : k4.table ≡ k.table
-          table4 = puts.call.caller.table ∙ spent3.calls.caller.table
-
-          pub put_may : MayGo far.leaf.node true k4.log.holdings
-          put_may = lowest_may far.leaf.node true k4.log.holdings (here_lowest t m far.leaf.node (inserted.Done number) true k3 k4 put_answers)
-
-          pub put_surplus : length far.beyond.kept + 13 ≤ surplus k → 0 < surplus k4
-          put_surplus enough = here_surplus t m far.leaf.node (inserted.Done number) true k3 k4 put_answers 1 (surplus_steps (length far.beyond.kept + 12) k k3 1 spent3 (omega (arith, enough)))
-
-          pub put_ends : (k5 : CallerData) → LetsGo far.leaf.node k4 k5 → EndsInsertion t m (inserted.Done number) (length far.beyond.kept + 13) k k5
-          put_ends k5 goes = ends_after t m (inserted.Done number) (length far.beyond.kept + 12) 1 (length far.beyond.kept + 13) k k3 k5 (omega arith) spent3 (here_ends t m far.leaf.node (inserted.Done number) true k3 k4 put_answers k5 goes)
+  -- the member was put there, and the leaf let go of
+  pub put_ends : (answer : Inserted) (k2 : CallerData) → EndsInsertion t m answer 1 k1 k2 → EndsInsertion t m answer (length far.beyond.kept + 13) k k2
+  put_ends answer k2 ends = ends_after t m answer (length far.beyond.kept + 12) 1 (length far.beyond.kept + 13) k k1 k2 (omega arith) left.spends ends
 
 -- The next leaf is held.
 module _ (t : Terms) (m : Member) (n : Next) (k : CallerData) (at : IsAtNext t m n k.log) where

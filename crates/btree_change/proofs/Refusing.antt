@@ -128,6 +128,3 @@ module _ (t : Terms) (n : ℕ) (s : NodeData) (changed : Bool) (m : Member) (k :
         free = subst (IsFree m.span) (sym leaf.1) free;
         no_room = cause;
       }
-
-  pub full_so : (k' : CallerData) (clock : ℕ) → AfterClock t (ask.Refused (update.Register m)) clock k.log k'.log → AppendsRefusal (ask.Refused (update.Register m)) clock k.log k'.log → k' ≡ record k { log = k'.log } → RefusesMember t m (inserted.Full (clock % 4294967296)) k k'
-  full_so k' clock after refusal rest = refused_full t m k k' clock after (refusal.1 shows_full) rest

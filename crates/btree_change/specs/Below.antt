@@ -14,7 +14,7 @@ pub use Rattle.word_rule.specs.Held.{held_of}
 pub use Rattle.word_rule.specs.NodeTells.{HolderTells, IsLiveNode}
 pub use Rattle.word_rule.specs.Places.{CALL_CREDIT}
 pub use Rattle.word_rule.specs.Spelling.{spelled}
-pub use Rattle.word_rule.specs.TreeRefusals.{HadNoRoom}
+pub use Rattle.word_rule.specs.TreeRefusals.{HadNoRoom, ShowsFull}
 pub use Rattle.node_store.specs.Holding.{SpellsHeld}
 pub use Rattle.node_store.specs.Locking.{FoundBusy}
 pub use Rattle.node_store.specs.Outlines.{OnlyLoads}

@@ -1,5 +1,5 @@
 -- An insertion whose span ends beyond its leaf, in the next one.
-use Rattle.std.specs.Prelude.{◌≡◌, ℕ, ◌+◌, ◌<◌, [], length, Some}
+use Rattle.std.specs.Prelude.{◌≡◌, ℕ, ◌+◌, ◌<◌, true, [], ◌∷◌, length, map, Some}
 use Rattle.reg_model.specs.State.{IsFree}
 use Rattle.reg_model.specs.declared.span.Member.{Member}
 use Rattle.tree_shape.specs.NodeData.{NodeData, IsInFences, entries_of}
@@ -7,13 +7,15 @@ use Rattle.tree_shape.specs.Steps.{LiesAbove}
 use Rattle.tree_shape.specs.declared.node.Frame.{Frame}
 use Rattle.word_rule.specs.NodeTells.{IsLiveNode}
 use Rattle.word_rule.specs.TreeRefusals.{HadNoRoom}
+use Rattle.word_rule.specs.declared.log.Holding.{Holding}
 use Rattle.word_rule.specs.declared.log.Holdings.{Holdings}
 use Rattle.word_rule.specs.declared.log.Log.{Log}
 use Rattle.word_rule.specs.declared.log.Terms.{Terms}
 use Rattle.btree_change.specs.declared.beyond.Far.{Far}
 use Rattle.btree_change.specs.declared.beyond.Next.{Next}
 use Rattle.btree_change.specs.declared.stand.Room.TheVariants as room
-use Rattle.btree_change.specs.Kept.{AreKept}
+use Rattle.btree_change.specs.Kept.{AreKept, HoldsPath, as_changed}
+use Rattle.btree_change.specs.Paths.{IsSettledLock}
 use Rattle.btree_change.specs.Spines.{HoldsLeafPair, HoldsNext}
 use Rattle.btree_change.specs.Splits.{HasSpace}
 use Rattle.btree_change.specs.Stands.{StandsAt, StandsOnWay}
@@ -61,3 +63,11 @@ pub record IsReadyFar (t : Terms) (m : Member) (far : Far) (holdings : Holdings)
   pub lies : LiesAbove m.span.last holds.next.right.settled.body
   pub right_high : m.span.last < holds.next.right.settled.high
   pub room : HasSpace far.leaf.content.body
+
+-- The fence was moved: the leaf and all that is kept above it were stored to, and have settled.
+pub record HoldsMoved (t : Terms) (far : Far) (holdings : Holdings) : Type 0 where
+  pub lock : Holding
+  pub path : HoldsPath t (map as_changed far.beyond.kept) (lock ∷ []) holdings
+  pub within : far.leaf.node < t.nodes
+  pub leaf : IsSettledLock t far.leaf.node lock.settled true lock
+  pub out : holdings.out ≡ []

@@ -9,12 +9,17 @@ use Rattle.reg_model.specs.declared.answer.Receipt.TheVariants as receipt
 use Rattle.reg_model.specs.declared.answer.Update.{Update}
 use Rattle.reg_model.specs.declared.answer.Update.TheVariants as update
 use Rattle.reg_model.specs.declared.span.Member.{Member}
+use Rattle.tree_shape.specs.NodeData.{entries_of}
+use Rattle.tree_shape.specs.declared.limits.TheConstants.{ENTRIES}
 use Rattle.word_rule.specs.CallerData.{CallerData, WordsData, due, surplus}
 use Rattle.word_rule.specs.Callers.{IsMemberOf, start}
 use Rattle.word_rule.specs.Places.{CALL_CREDIT}
+use Rattle.word_rule.specs.declared.log.Holdings.{Holdings}
 use Rattle.word_rule.specs.declared.log.Terms.{Terms}
 use Rattle.word_rule.specs.TreeRefusals.{WasFilledSince}
+use Rattle.btree_change.specs.declared.descent.Held.{Held}
 use Rattle.btree_change.specs.Loads.{FoundNoRoom}
+use Rattle.btree_change.specs.Removing.{HoldsAlone}
 use Rattle.btree_change.specs.Updates.{AcceptsUpdate, AnswersUpdate, RefusesUpdate}
 
 -- What a part of a call that was begun asks of its caller, to put this member into a leaf: it is
@@ -50,6 +55,16 @@ IsRightInsertion t m k k' inserted.Spent = ⊥
 abbrev pub IfFull : Inserted → Type 0 → Type 0
 IfFull (inserted.Full stamp) P = P
 IfFull _ P = Unit {0}
+
+-- A member's span lies inside the fences of a leaf that is held alone, overlaps nothing there, and
+-- the leaf has room.
+pub record FitsLeaf (t : Terms) (m : Member) (leaf : Held) (holdings : Holdings) : Type 0 where
+  pub alone : HoldsAlone t leaf holdings
+  pub level : leaf.content.level ≡ 0
+  pub low : leaf.content.low ≤ m.span.first
+  pub high : m.span.last ≤ leaf.content.high
+  pub room : length (entries_of leaf.content) < ENTRIES
+  pub free : IsFree m.span (entries_of leaf.content)
 
 -- A member was put into a held leaf and committed, with this number.
 pub record PutsMember (t : Terms) (m : Member) (leaf number : ℕ) (k k' : CallerData) : Type 0 where

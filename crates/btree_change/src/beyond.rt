@@ -1,27 +1,25 @@
 //! An insertion whose span ends beyond its leaf: in the next one.
-ghost use Rattle.std.specs.Prelude.{◌≡◌, ◌≢◌, ◌<◌, true};
-ghost use Rattle.std.specs.Prelude.{IfSome, IfNone};
-ghost use Rattle.std.specs.Prelude.{◌+◌, None, length};
+ghost use Rattle.std.specs.Prelude.{◌≡◌, ◌≢◌, ◌<◌, ◌≤◌, ◌+◌, true, IfSome, IfNone, None, length};
 ghost use Rattle.btree_change.specs.Below.{Frame, HadNoRoom, IsFree, IsInFences, IsLiveNode};
 ghost use Rattle.btree_change.specs.Below.{IsSpan, LiesAbove, SpellsHeld, entries_of, surplus};
-ghost use Rattle.btree_change.specs.Loads.{KeepsLoads};
 ghost use Rattle.btree_change.specs.Paths.{HoldsNothing, StepsOnNodes};
 ghost use Rattle.btree_change.specs.Insertion.{IfFull, MayPut, RefusesMember};
 ghost use Rattle.btree_change.specs.Releases.{Spends};
+ghost use Rattle.btree_change.specs.Removing.{HoldsAlone};
 ghost use Rattle.btree_change.specs.Roots.{EndsInsertion, EndsPart};
 ghost use Rattle.btree_change.specs.Spines.{HoldsLeafPair};
 ghost use Rattle.btree_change.specs.Stands.{HasCause};
-ghost use Rattle.btree_change.specs.Far.{HoldsFar, IsAtNext, IsReadyFar, StandsFar, releases_far};
+ghost use Rattle.btree_change.specs.Far.{HoldsFar, HoldsMoved, IsAtNext, IsReadyFar};
+ghost use Rattle.btree_change.specs.Far.{StandsFar, releases_far};
 
-use crate::descent::{Held, let_go_of};
+use crate::descent::Held;
 use crate::fence::{let_go_of_next, next_leaf, raise_fence, refused_next};
-use crate::leaf::put_in_leaf;
+use crate::leaf::{put_in_held, say_full};
 use crate::path::let_go_of_path;
 use crate::stand::{Beyond, Room, kept, let_go_of_all};
-use node_store::{Busy, Locking, read_held};
-use reg_model::{Inserted, Member, Update};
-use word_rule::places::updates_at;
-use word_rule::{Ask, Caller, Words};
+use node_store::{Busy, Locking, Placed, begun_in, outline_of};
+use reg_model::{Inserted, Member};
+use word_rule::{Caller, Words};
 
 /// A leaf beyond which a span ends, and the node above it and the next one.
 #[derive(Drop)]
@@ -36,29 +34,6 @@ pub(crate) struct Far {
 struct Next {
     far: Far,
     right: Held,
-}
-
-/// Tells that there is no room for a member that overlaps nothing in two leaves, which hold its
-/// span.
-fn full_next(words: &Words, me: &mut Caller, leaf: &Held, right: &Held, member: &Member) -> Inserted
-    requires table { me.old.table ≡ words.now.table }
-    requires leaves { HoldsLeafPair leaf.now.node leaf.now.content right.now.node
-        right.now.content me.old.log.holdings
-        × ((place : Frame) × IsLiveNode words.now.terms right.now.node right.now.content place) }
-    requires here { IsInFences member.now.span.first leaf.now.content }
-    requires high { member.now.span.last < right.now.content.high }
-    requires free { IsFree member.now.span (entries_of leaf.now.content) }
-    requires free_right { IsFree member.now.span (entries_of right.now.content) }
-    requires cause { HadNoRoom member.now.span.first (length me.old.log.receipts.own)
-        me.old.log.trace.loads }
-    ensures refused { RefusesMember words.now.terms member.now result me.old me.new }
-    ensures loads { KeepsLoads me.old me.new }
-{
-    let update = Update::Register { member: *member };
-    let clock = words.load_clock(me, Ask::Refused { update });
-    Inserted::Full {
-        stamp: updates_at(clock),
-    }
 }
 
 /// Tells that a member is refused where the next leaf has one that overlaps, or where no node was
@@ -95,7 +70,7 @@ fn refused_far(
     match refused_next(words, me, &far.leaf, right, member) {
         Some(answer) => Some(answer),
         None => match far.room {
-            Room::NoneFree => Some(full_next(words, me, &far.leaf, right, member)),
+            Room::NoneFree => Some(say_full(words, me, member)),
             Room::Splitting => None,
         },
     }
@@ -112,6 +87,29 @@ fn let_go_far<L: Locking>(locking: &L, words: &Words, me: &mut Caller, far: Far)
     let_go_of_next(locking, words, me, &far.beyond);
     let lowest = kept(&far.leaf);
     let_go_of_all(locking, words, me, lowest, Some(far.beyond));
+}
+
+/// Lets go of all above a leaf that was stored to, as they were, and outlines the leaf: it alone is
+/// held then.
+fn leaf_alone<L: Locking>(locking: &L, words: &Words, me: &mut Caller, far: Far) -> Held
+    requires table { me.old.table ≡ words.now.table }
+    requires moved { HoldsMoved words.now.terms far me.old.log.holdings }
+    requires surplus { length far.beyond.kept ≤ surplus me.old }
+    ensures alone { HoldsAlone words.now.terms result me.new.log.holdings }
+    ensures content { (moved : HoldsMoved words.now.terms far me.old.log.holdings)
+        → result.content ≡ moved.lock.settled }
+    ensures spends { Spends (length far.beyond.kept) me.old me.new }
+{
+    let node = far.leaf.node;
+    let mut kept = far.beyond.kept;
+    kept.change_all();
+    let_go_of_path(locking, words, me, kept);
+    let content = outline_of(words, me, node);
+    Held {
+        node,
+        content,
+        changed: true,
+    }
 }
 
 /// Moves the fence behind a leaf, lets go of all above the leaf, puts a member there, and lets go
@@ -131,14 +129,13 @@ fn put_far<L: Locking>(
     ensures never_full { IfFull result ⊥ }
 {
     raise_fence(locking, words, me, &far.beyond, member.span.last());
-    let node = far.leaf.node;
-    let mut kept = far.beyond.kept;
-    kept.change_all();
-    let_go_of_path(locking, words, me, kept);
-    let content = read_held(words, me, node);
-    let number = put_in_leaf(words, me, node, &content, member);
-    let_go_of(locking, words, me, node, true);
-    Inserted::Done { number }
+    let leaf = leaf_alone(locking, words, me, far);
+    let place = begun_in(words, me, leaf.node, &leaf.content, member.span.first());
+    let placed = Placed {
+        place,
+        member: *member,
+    };
+    put_in_held(locking, words, me, &leaf, &placed)
 }
 
 /// Answers an insertion whose next leaf is held.

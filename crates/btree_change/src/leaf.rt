@@ -1,72 +1,41 @@
 //! The answers of an insertion at its leaf, and the change of it.
-ghost use Rattle.std.specs.Prelude.{◌≡◌, ◌<◌, ◌≤◌, Bool, IfNone, IfSome, None, Some};
+ghost use Rattle.std.specs.Prelude.{◌≡◌, ◌<◌, ◌≤◌, IfNone, IfSome, None, Some};
 ghost use Rattle.std.specs.Prelude.{length, slice_get};
-ghost use Rattle.btree_change.specs.Below.{HadNoRoom, InOrder, IsFree, IsInFences, IsLeaf, IsSpan};
-ghost use Rattle.btree_change.specs.Below.{OnlyLoads, SpellsHeld, entries_of, place_for};
+ghost use Rattle.btree_change.specs.Below.{InOrder, IsFree, IsInFences, IsLeaf, IsSpan};
+ghost use Rattle.btree_change.specs.Below.{OnlyLoads, ShowsFull, SpellsHeld, entries_of, place_for};
 ghost use Rattle.reg_model.specs.SpanData.{Overlaps};
 ghost use Rattle.reg_model.specs.State.{IsLowestOverlap};
 ghost use Rattle.reg_model.specs.declared.span.Member.{Member};
-ghost use Rattle.btree_change.specs.Insertion.{IfFull, MayPut, PutsMember, RefusesMember};
+ghost use Rattle.btree_change.specs.Insertion.{FitsLeaf, IfFull, MayPut, RefusesMember};
 ghost use Rattle.btree_change.specs.Loads.{KeepsLoads};
-ghost use Rattle.btree_change.specs.Removing.{HoldsAlone};
+ghost use Rattle.btree_change.specs.Roots.{EndsInsertion};
 ghost use Rattle.btree_change.specs.Stands.{StandsAt};
 
-use crate::descent::Held;
-use node_store::{Placed, entry_of, put_in_place, write_held};
+use crate::descent::{Held, let_go_of};
+use node_store::{Locking, Placed, entry_of, put_in_place};
 use reg_model::{Inserted, Member, Span, Update};
-use tree_shape::{ENTRIES, Node, laws, put_entry};
+use tree_shape::laws;
 use word_rule::exchange::exchange_decided;
 use word_rule::places::{COUNT, updates_at};
 use word_rule::{Ask, Caller, Words};
 
-/// Writes a member into a leaf that is held and was read, in which it has room and overlaps
-/// nothing, and commits it: its number.
-pub(crate) fn put_in_leaf(
+/// Puts a member into a leaf that alone is held and in which it fits, commits it, and lets go of
+/// the leaf. Its words are loaded and stored from the member's place on alone.
+pub(crate) fn put_in_held<L: Locking>(
+    locking: &L,
     words: &Words,
     me: &mut Caller,
-    node: u32,
-    leaf: &Node,
-    member: &Member,
-) -> u32
-    requires call { MayPut words.now member.now 0 me.old }
-    requires leaf { (changed : Bool) × HoldsAlone words.now.terms (record {
-      node = node;
-      content = leaf.now;
-      changed = changed;
-    }) me.old.log.holdings }
-    requires level { leaf.now.level ≡ 0 }
-    requires span { IsSpan member.now.span }
-    requires low { leaf.now.low ≤ member.now.span.first }
-    requires high { member.now.span.last ≤ leaf.now.high }
-    requires room { length (entries_of leaf.now) < ENTRIES }
-    requires free { IsFree member.now.span (entries_of leaf.now) }
-    ensures { PutsMember words.now.terms member.now node result me.old me.new }
-{
-    laws::put();
-    laws::transfer();
-    exchange_decided();
-    // By this load it is known of which tree the leaf is.
-    words.load_node(me, node, COUNT);
-    write_held(words, me, node, &put_entry(leaf, member));
-    words.commit(me, Update::Register { member: *member })
-}
-
-/// Puts a member into a leaf that is held, in which it has room and overlaps nothing, and commits
-/// it: its number. The leaf's words are loaded and stored from the member's place on alone.
-pub(crate) fn put_in_held(words: &Words, me: &mut Caller, leaf: &Held, placed: &Placed) -> u32
-    requires call { MayPut words.now placed.now.member 0 me.old }
-    requires leaf { HoldsAlone words.now.terms leaf.now me.old.log.holdings }
-    requires level { leaf.now.content.level ≡ 0 }
+    leaf: &Held,
+    placed: &Placed,
+) -> Inserted
+    requires call { MayPut words.now placed.now.member 1 me.old }
+    requires fits { FitsLeaf words.now.terms placed.now.member leaf.now me.old.log.holdings }
     requires span { IsSpan placed.now.member.span }
-    requires low { leaf.now.content.low ≤ placed.now.member.span.first }
-    requires high { placed.now.member.span.last ≤ leaf.now.content.high }
-    requires room { length (entries_of leaf.now.content) < ENTRIES }
-    requires free { IsFree placed.now.member.span (entries_of leaf.now.content) }
     requires place { placed.now.place
         ≡ place_for placed.now.member.span.first (entries_of leaf.now.content) }
     requires few { placed.now.place ≤ length (entries_of leaf.now.content) }
-    ensures { PutsMember words.now.terms placed.now.member leaf.now.node result me.old
-        me.new }
+    ensures answer { EndsInsertion words.now.terms placed.now.member result 1 me.old me.new }
+    ensures never_full { IfFull result ⊥ }
 {
     laws::put();
     laws::transfer();
@@ -78,7 +47,9 @@ pub(crate) fn put_in_held(words: &Words, me: &mut Caller, leaf: &Held, placed: &
     let update = Update::Register {
         member: placed.member,
     };
-    words.commit(me, update)
+    let number = words.commit(me, update);
+    let_go_of(locking, words, me, node, true);
+    Inserted::Done { number }
 }
 
 // The entry at a place of a held leaf, where one stands there and overlaps the span.
@@ -166,17 +137,10 @@ pub(crate) fn refused(
     })
 }
 
-/// Tells that there is no room for a member that overlaps nothing in its leaf, whose fences hold
-/// its span.
-pub(crate) fn full_here(words: &Words, me: &mut Caller, leaf: &Held, member: &Member) -> Inserted
+/// Says Full to a member that overlaps nothing, where there was no room.
+pub(crate) fn say_full(words: &Words, me: &mut Caller, member: &Member) -> Inserted
     requires table { me.old.table ≡ words.now.table }
-    requires stands { StandsAt words.now.terms leaf.now me.old.log.holdings }
-    requires level { leaf.now.content.level ≡ 0 }
-    requires here { IsInFences member.now.span.first leaf.now.content }
-    requires high { member.now.span.last ≤ leaf.now.content.high }
-    requires free { IsFree member.now.span (entries_of leaf.now.content) }
-    requires cause { HadNoRoom member.now.span.first (length me.old.log.receipts.own)
-        me.old.log.trace.loads }
+    requires shows { ShowsFull member.now me.old.log }
     ensures refused { RefusesMember words.now.terms member.now result me.old me.new }
     ensures loads { KeepsLoads me.old me.new }
 {

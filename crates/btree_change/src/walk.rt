@@ -1,5 +1,5 @@
 //! The way of an insertion from where it stands down to its leaf, and its answer there.
-ghost use Rattle.std.specs.Prelude.{◌≡◌, ◌<◌, ◌≤◌, true, None, length};
+ghost use Rattle.std.specs.Prelude.{◌≡◌, ◌<◌, ◌≤◌, None, length};
 ghost use Rattle.btree_change.specs.Below.{IsFree, IsSpan, entries_of, place_for};
 ghost use Rattle.btree_change.specs.Insertion.{IfFull, MayPut};
 ghost use Rattle.btree_change.specs.Roots.{EndsInsertion, EndsPart};
@@ -7,7 +7,7 @@ ghost use Rattle.btree_change.specs.Stands.{HasCause, StandsOnWay, releases_from
 
 use crate::beyond::{Far, beyond_leaf};
 use crate::descent::{Held, let_go_of};
-use crate::leaf::{full_here, put_in_held, refused};
+use crate::leaf::{put_in_held, refused, say_full};
 use crate::stand::{Room, Stand, go_below, kept, let_go_of_all};
 use node_store::{Busy, Locking, Placed, begun_in};
 use reg_model::{Inserted, Member};
@@ -37,15 +37,11 @@ fn in_place<L: Locking>(
 {
     match room {
         Room::NoneFree => {
-            let answer = full_here(words, me, leaf, &placed.member);
+            let answer = say_full(words, me, &placed.member);
             let_go_of(locking, words, me, leaf.node, leaf.changed);
             answer
         }
-        Room::Splitting => {
-            let number = put_in_held(words, me, leaf, placed);
-            let_go_of(locking, words, me, leaf.node, true);
-            Inserted::Done { number }
-        }
+        Room::Splitting => put_in_held(locking, words, me, leaf, placed),
     }
 }
 

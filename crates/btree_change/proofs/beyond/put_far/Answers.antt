@@ -1,139 +1,64 @@
-use Rattle.std.proofs.Common.{true, ◌∙◌}
-use Rattle.btree_change.proofs.FarLeaves.{leaf_held, left_path, left_table, may_move, may_put_far, may_read_leaf, moved_over, moved_surplus, moves_so, put_ends, put_may, put_surplus, shape_free, shape_high, shape_level, shape_low, shape_room, table4}
+use Rattle.std.proofs.Common.{◌∙◌, ap}
+use Rattle.tree_shape.specs.NodeData.{entries_of, place_for}
+use Rattle.btree_change.proofs.FarLeaves.{LeavesLeaf, leaves_leaf, left_leaf, left_spells, left_still, may_move, may_put_far, moved_all, moved_enough, moves_so, put_ends}
+use Rattle.btree_change.proofs.beyond.put_far.Goals.{After-leaf_alone-leaf}
 use Rattle.btree_change.proofs.beyond.put_far.Goals as goal
 
 pub raise_fence-requires-clause-next : goal.raise_fence-requires-clause-next
 raise_fence-requires-clause-next g c =
     may_move c.args.words.now.terms c.args.member.now c.args.far c.args.me.now c.requires.ready c.last.result c.last.ensures.value
 
-pub let_go_of_path-requires-clause-table : goal.let_go_of_path-requires-clause-table
-let_go_of_path-requires-clause-table g c =
+pub leaf_alone-leaf-requires-clause-table : goal.leaf_alone-leaf-requires-clause-table
+leaf_alone-leaf-requires-clause-table g c =
     let t = c.args.words.now.terms in let m = c.args.member.now in let far = c.args.far in let k = c.args.me.now in let ready = c.requires.ready in let k1 = c.raise_fence.new.me in
-    let moves = moves_so t m far k ready k1 c.last.result c.last.ensures.value c.raise_fence.ensures.moves in let told = c.raise_fence.ensures.loads in
+    let moves = moves_so t m far k ready k1 c.last.result c.last.ensures.value c.raise_fence.ensures.moves in
     moves.calls.caller.table ∙ c.requires.call.table
 
-pub let_go_of_path-requires-clause-path : goal.let_go_of_path-requires-clause-path
-let_go_of_path-requires-clause-path g c =
+pub leaf_alone-leaf-requires-clause-moved : goal.leaf_alone-leaf-requires-clause-moved
+leaf_alone-leaf-requires-clause-moved g c =
     let t = c.args.words.now.terms in let m = c.args.member.now in let far = c.args.far in let k = c.args.me.now in let ready = c.requires.ready in let k1 = c.raise_fence.new.me in
-    let moves = moves_so t m far k ready k1 c.last.result c.last.ensures.value c.raise_fence.ensures.moves in let told = c.raise_fence.ensures.loads in
-    moved_over t m far k ready k1 moves told c.change_all.new.self c.change_all.ensures
+    let moves = moves_so t m far k ready k1 c.last.result c.last.ensures.value c.raise_fence.ensures.moves in
+    moved_all t m far k ready k1 moves c.raise_fence.ensures.loads
 
-pub let_go_of_path-requires-clause-surplus : goal.let_go_of_path-requires-clause-surplus
-let_go_of_path-requires-clause-surplus g c =
+pub leaf_alone-leaf-requires-clause-surplus : goal.leaf_alone-leaf-requires-clause-surplus
+leaf_alone-leaf-requires-clause-surplus g c =
     let t = c.args.words.now.terms in let m = c.args.member.now in let far = c.args.far in let k = c.args.me.now in let ready = c.requires.ready in let k1 = c.raise_fence.new.me in
-    let moves = moves_so t m far k ready k1 c.last.result c.last.ensures.value c.raise_fence.ensures.moves in let told = c.raise_fence.ensures.loads in
-    moved_surplus t m far k ready k1 moves told c.change_all.new.self c.change_all.ensures c.requires.call.spare
+    let moves = moves_so t m far k ready k1 c.last.result c.last.ensures.value c.raise_fence.ensures.moves in
+    moved_enough t m far k ready k1 moves c.raise_fence.ensures.loads c.requires.call.spare
 
-pub read_held-content-requires-clause-table : goal.read_held-content-requires-clause-table
-read_held-content-requires-clause-table g c =
+-- the leaf alone is held
+left : (g : _) (c : After-leaf_alone-leaf g) → LeavesLeaf c.args.words.now.terms c.args.member.now c.args.far c.leaf_alone-leaf.result c.args.me.now c.leaf_alone-leaf.new.me
+left g c =
     let t = c.args.words.now.terms in let m = c.args.member.now in let far = c.args.far in let k = c.args.me.now in let ready = c.requires.ready in let k1 = c.raise_fence.new.me in
-    let moves = moves_so t m far k ready k1 c.last.result c.last.ensures.value c.raise_fence.ensures.moves in let told = c.raise_fence.ensures.loads in
-    let k2 = c.let_go_of_path.new.me in let leaves = left_path t m far k ready k1 moves told c.change_all.new.self c.change_all.ensures k2 c.let_go_of_path.ensures in
-    left_table t m far k ready k1 moves told k2 leaves ∙ c.requires.call.table
+    let moves = moves_so t m far k ready k1 c.last.result c.last.ensures.value c.raise_fence.ensures.moves in
+    let alone = c.leaf_alone-leaf in leaves_leaf t m far k ready k1 moves c.raise_fence.ensures.loads alone.result alone.new.me alone.ensures.alone alone.ensures.content alone.ensures.spends
 
-pub read_held-content-requires-clause-inside : goal.read_held-content-requires-clause-inside
-read_held-content-requires-clause-inside g c =
-    c.requires.ready.holds.leaf.within
+pub begun_in-place-requires-clause-table : goal.begun_in-place-requires-clause-table
+begun_in-place-requires-clause-table g c = (left g (goal.at.begun_in-place-requires-clause-table g c).After-leaf_alone-leaf).spends.calls.caller.table ∙ c.requires.call.table
 
-pub read_held-content-requires-clause-held : goal.read_held-content-requires-clause-held
-read_held-content-requires-clause-held g c =
-    let t = c.args.words.now.terms in let m = c.args.member.now in let far = c.args.far in let k = c.args.me.now in let ready = c.requires.ready in let k1 = c.raise_fence.new.me in
-    let moves = moves_so t m far k ready k1 c.last.result c.last.ensures.value c.raise_fence.ensures.moves in let told = c.raise_fence.ensures.loads in
-    let k2 = c.let_go_of_path.new.me in let leaves = left_path t m far k ready k1 moves told c.change_all.new.self c.change_all.ensures k2 c.let_go_of_path.ensures in
-    may_read_leaf t m far k ready k1 moves told k2 leaves
+pub begun_in-place-requires-clause-inside : goal.begun_in-place-requires-clause-inside
+begun_in-place-requires-clause-inside g c = c.leaf_alone-leaf.ensures.alone.within
 
-pub put_in_leaf-number-requires-clause-leaf : goal.put_in_leaf-number-requires-clause-leaf
-put_in_leaf-number-requires-clause-leaf g c =
-    let t = c.args.words.now.terms in let m = c.args.member.now in let far = c.args.far in let k = c.args.me.now in let ready = c.requires.ready in let k1 = c.raise_fence.new.me in
-    let moves = moves_so t m far k ready k1 c.last.result c.last.ensures.value c.raise_fence.ensures.moves in let told = c.raise_fence.ensures.loads in
-    let k2 = c.let_go_of_path.new.me in let leaves = left_path t m far k ready k1 moves told c.change_all.new.self c.change_all.ensures k2 c.let_go_of_path.ensures in
-    let k3 = c.read_held-content.new.me in let shape = c.read_held-content.result in let reads = c.read_held-content.ensures.reads in let same = c.read_held-content.ensures.holdings in
-    (true, leaf_held t m far k ready k1 moves told k2 leaves k3 shape reads same)
+pub begun_in-place-requires-clause-spells : goal.begun_in-place-requires-clause-spells
+begun_in-place-requires-clause-spells g c = left_spells c.args.words.now.terms c.args.member.now c.args.far c.leaf_alone-leaf.result c.args.me.now c.leaf_alone-leaf.new.me (left g (goal.at.begun_in-place-requires-clause-spells g c).After-leaf_alone-leaf)
 
-pub put_in_leaf-number-requires-clause-level : goal.put_in_leaf-number-requires-clause-level
-put_in_leaf-number-requires-clause-level g c =
-    let t = c.args.words.now.terms in let m = c.args.member.now in let far = c.args.far in let k = c.args.me.now in let ready = c.requires.ready in let k1 = c.raise_fence.new.me in
-    let moves = moves_so t m far k ready k1 c.last.result c.last.ensures.value c.raise_fence.ensures.moves in let told = c.raise_fence.ensures.loads in
-    let k2 = c.let_go_of_path.new.me in let leaves = left_path t m far k ready k1 moves told c.change_all.new.self c.change_all.ensures k2 c.let_go_of_path.ensures in
-    let k3 = c.read_held-content.new.me in let shape = c.read_held-content.result in let reads = c.read_held-content.ensures.reads in let same = c.read_held-content.ensures.holdings in
-    shape_level t m far k ready k1 moves told k2 leaves k3 shape reads same
+pub begun_in-place-requires-clause-leaf : goal.begun_in-place-requires-clause-leaf
+begun_in-place-requires-clause-leaf g c = left_leaf c.args.words.now.terms c.args.member.now c.args.far c.leaf_alone-leaf.result c.args.me.now c.leaf_alone-leaf.new.me (left g (goal.at.begun_in-place-requires-clause-leaf g c).After-leaf_alone-leaf)
 
-pub put_in_leaf-number-requires-clause-low : goal.put_in_leaf-number-requires-clause-low
-put_in_leaf-number-requires-clause-low g c =
-    let t = c.args.words.now.terms in let m = c.args.member.now in let far = c.args.far in let k = c.args.me.now in let ready = c.requires.ready in let k1 = c.raise_fence.new.me in
-    let moves = moves_so t m far k ready k1 c.last.result c.last.ensures.value c.raise_fence.ensures.moves in let told = c.raise_fence.ensures.loads in
-    let k2 = c.let_go_of_path.new.me in let leaves = left_path t m far k ready k1 moves told c.change_all.new.self c.change_all.ensures k2 c.let_go_of_path.ensures in
-    let k3 = c.read_held-content.new.me in let shape = c.read_held-content.result in let reads = c.read_held-content.ensures.reads in let same = c.read_held-content.ensures.holdings in
-    shape_low t m far k ready k1 moves told k2 leaves k3 shape reads same
+pub put_in_held-requires-clause-call : goal.put_in_held-requires-clause-call
+put_in_held-requires-clause-call g c =
+    let at = goal.at.put_in_held-requires-clause-call g c in let still = left_still c.args.words.now.terms c.args.member.now c.args.far c.leaf_alone-leaf.result c.args.me.now c.leaf_alone-leaf.new.me (left g at.After-leaf_alone-leaf) c.begun_in-place.new.me c.begun_in-place.ensures.loads in
+    may_put_far c.args.words.now.terms c.args.member.now c.args.far c.leaf_alone-leaf.result c.args.me.now c.begun_in-place.new.me still c.args.words.now c.requires.call
 
-pub put_in_leaf-number-requires-clause-high : goal.put_in_leaf-number-requires-clause-high
-put_in_leaf-number-requires-clause-high g c =
-    let t = c.args.words.now.terms in let m = c.args.member.now in let far = c.args.far in let k = c.args.me.now in let ready = c.requires.ready in let k1 = c.raise_fence.new.me in
-    let moves = moves_so t m far k ready k1 c.last.result c.last.ensures.value c.raise_fence.ensures.moves in let told = c.raise_fence.ensures.loads in
-    let k2 = c.let_go_of_path.new.me in let leaves = left_path t m far k ready k1 moves told c.change_all.new.self c.change_all.ensures k2 c.let_go_of_path.ensures in
-    let k3 = c.read_held-content.new.me in let shape = c.read_held-content.result in let reads = c.read_held-content.ensures.reads in let same = c.read_held-content.ensures.holdings in
-    shape_high t m far k ready k1 moves told k2 leaves k3 shape reads same
+pub put_in_held-requires-clause-fits : goal.put_in_held-requires-clause-fits
+put_in_held-requires-clause-fits g c =
+    let at = goal.at.put_in_held-requires-clause-fits g c in let still = left_still c.args.words.now.terms c.args.member.now c.args.far c.leaf_alone-leaf.result c.args.me.now c.leaf_alone-leaf.new.me (left g at.After-leaf_alone-leaf) c.begun_in-place.new.me c.begun_in-place.ensures.loads in
+    still.fits
 
-pub put_in_leaf-number-requires-clause-room : goal.put_in_leaf-number-requires-clause-room
-put_in_leaf-number-requires-clause-room g c =
-    let t = c.args.words.now.terms in let m = c.args.member.now in let far = c.args.far in let k = c.args.me.now in let ready = c.requires.ready in let k1 = c.raise_fence.new.me in
-    let moves = moves_so t m far k ready k1 c.last.result c.last.ensures.value c.raise_fence.ensures.moves in let told = c.raise_fence.ensures.loads in
-    let k2 = c.let_go_of_path.new.me in let leaves = left_path t m far k ready k1 moves told c.change_all.new.self c.change_all.ensures k2 c.let_go_of_path.ensures in
-    let k3 = c.read_held-content.new.me in let shape = c.read_held-content.result in let reads = c.read_held-content.ensures.reads in let same = c.read_held-content.ensures.holdings in
-    shape_room t m far k ready k1 moves told k2 leaves k3 shape reads same
-
-pub put_in_leaf-number-requires-clause-free : goal.put_in_leaf-number-requires-clause-free
-put_in_leaf-number-requires-clause-free g c =
-    let t = c.args.words.now.terms in let m = c.args.member.now in let far = c.args.far in let k = c.args.me.now in let ready = c.requires.ready in let k1 = c.raise_fence.new.me in
-    let moves = moves_so t m far k ready k1 c.last.result c.last.ensures.value c.raise_fence.ensures.moves in let told = c.raise_fence.ensures.loads in
-    let k2 = c.let_go_of_path.new.me in let leaves = left_path t m far k ready k1 moves told c.change_all.new.self c.change_all.ensures k2 c.let_go_of_path.ensures in
-    let k3 = c.read_held-content.new.me in let shape = c.read_held-content.result in let reads = c.read_held-content.ensures.reads in let same = c.read_held-content.ensures.holdings in
-    shape_free t m far k ready k1 moves told k2 leaves k3 shape reads same
-
-pub let_go_of-requires-clause-table : goal.let_go_of-requires-clause-table
-let_go_of-requires-clause-table g c =
-    let t = c.args.words.now.terms in let m = c.args.member.now in let far = c.args.far in let k = c.args.me.now in let ready = c.requires.ready in let k1 = c.raise_fence.new.me in
-    let moves = moves_so t m far k ready k1 c.last.result c.last.ensures.value c.raise_fence.ensures.moves in let told = c.raise_fence.ensures.loads in
-    let k2 = c.let_go_of_path.new.me in let leaves = left_path t m far k ready k1 moves told c.change_all.new.self c.change_all.ensures k2 c.let_go_of_path.ensures in
-    let k3 = c.read_held-content.new.me in let shape = c.read_held-content.result in let reads = c.read_held-content.ensures.reads in let same = c.read_held-content.ensures.holdings in
-    let k4 = c.put_in_leaf-number.new.me in let number = c.put_in_leaf-number.result in let puts = c.put_in_leaf-number.ensures in
-    table4 t m far k ready k1 moves told k2 leaves k3 shape reads same number k4 puts ∙ c.requires.call.table
-
-pub let_go_of-requires-clause-inside : goal.let_go_of-requires-clause-inside
-let_go_of-requires-clause-inside g c =
-    c.requires.ready.holds.leaf.within
-
-pub let_go_of-requires-clause-may : goal.let_go_of-requires-clause-may
-let_go_of-requires-clause-may g c =
-    let t = c.args.words.now.terms in let m = c.args.member.now in let far = c.args.far in let k = c.args.me.now in let ready = c.requires.ready in let k1 = c.raise_fence.new.me in
-    let moves = moves_so t m far k ready k1 c.last.result c.last.ensures.value c.raise_fence.ensures.moves in let told = c.raise_fence.ensures.loads in
-    let k2 = c.let_go_of_path.new.me in let leaves = left_path t m far k ready k1 moves told c.change_all.new.self c.change_all.ensures k2 c.let_go_of_path.ensures in
-    let k3 = c.read_held-content.new.me in let shape = c.read_held-content.result in let reads = c.read_held-content.ensures.reads in let same = c.read_held-content.ensures.holdings in
-    let k4 = c.put_in_leaf-number.new.me in let number = c.put_in_leaf-number.result in let puts = c.put_in_leaf-number.ensures in
-    put_may t m far k ready k1 moves told k2 leaves k3 shape reads same number k4 puts
-
-pub let_go_of-requires-clause-surplus : goal.let_go_of-requires-clause-surplus
-let_go_of-requires-clause-surplus g c =
-    let t = c.args.words.now.terms in let m = c.args.member.now in let far = c.args.far in let k = c.args.me.now in let ready = c.requires.ready in let k1 = c.raise_fence.new.me in
-    let moves = moves_so t m far k ready k1 c.last.result c.last.ensures.value c.raise_fence.ensures.moves in let told = c.raise_fence.ensures.loads in
-    let k2 = c.let_go_of_path.new.me in let leaves = left_path t m far k ready k1 moves told c.change_all.new.self c.change_all.ensures k2 c.let_go_of_path.ensures in
-    let k3 = c.read_held-content.new.me in let shape = c.read_held-content.result in let reads = c.read_held-content.ensures.reads in let same = c.read_held-content.ensures.holdings in
-    let k4 = c.put_in_leaf-number.new.me in let number = c.put_in_leaf-number.result in let puts = c.put_in_leaf-number.ensures in
-    put_surplus t m far k ready k1 moves told k2 leaves k3 shape reads same number k4 puts c.requires.call.spare
+pub put_in_held-requires-clause-place : goal.put_in_held-requires-clause-place
+put_in_held-requires-clause-place g c = c.begun_in-place.ensures.begun ∙ ap (λ pc. place_for pc (entries_of c.leaf_alone-leaf.result.content)) c.first.ensures.value
 
 pub returns-clause-answer : goal.returns-clause-answer
 returns-clause-answer g c =
-    let t = c.args.words.now.terms in let m = c.args.member.now in let far = c.args.far in let k = c.args.me.now in let ready = c.requires.ready in let k1 = c.raise_fence.new.me in
-    let moves = moves_so t m far k ready k1 c.last.result c.last.ensures.value c.raise_fence.ensures.moves in let told = c.raise_fence.ensures.loads in
-    let k2 = c.let_go_of_path.new.me in let leaves = left_path t m far k ready k1 moves told c.change_all.new.self c.change_all.ensures k2 c.let_go_of_path.ensures in
-    let k3 = c.read_held-content.new.me in let shape = c.read_held-content.result in let reads = c.read_held-content.ensures.reads in let same = c.read_held-content.ensures.holdings in
-    let k4 = c.put_in_leaf-number.new.me in let number = c.put_in_leaf-number.result in let puts = c.put_in_leaf-number.ensures in
-    put_ends t m far k ready k1 moves told k2 leaves k3 shape reads same number k4 puts c.let_go_of.new.me c.let_go_of.ensures
-
-pub put_in_leaf-number-requires-clause-call : goal.put_in_leaf-number-requires-clause-call
-put_in_leaf-number-requires-clause-call g c =
-    let t = c.args.words.now.terms in let m = c.args.member.now in let far = c.args.far in let k = c.args.me.now in let ready = c.requires.ready in let k1 = c.raise_fence.new.me in
-    let moves = moves_so t m far k ready k1 c.last.result c.last.ensures.value c.raise_fence.ensures.moves in let told = c.raise_fence.ensures.loads in
-    let k2 = c.let_go_of_path.new.me in let leaves = left_path t m far k ready k1 moves told c.change_all.new.self c.change_all.ensures k2 c.let_go_of_path.ensures in
-    let k3 = c.read_held-content.new.me in let shape = c.read_held-content.result in let reads = c.read_held-content.ensures.reads in let same = c.read_held-content.ensures.holdings in
-    may_put_far t m far k ready k1 moves told k2 leaves k3 shape reads same c.args.words.now c.requires.call
+    let at = goal.at.returns-clause-answer g c in let still = left_still c.args.words.now.terms c.args.member.now c.args.far c.leaf_alone-leaf.result c.args.me.now c.leaf_alone-leaf.new.me (left g at.After-leaf_alone-leaf) c.begun_in-place.new.me c.begun_in-place.ensures.loads in
+    put_ends c.args.words.now.terms c.args.member.now c.args.far c.leaf_alone-leaf.result c.args.me.now c.begun_in-place.new.me still c.put_in_held.result c.put_in_held.new.me c.put_in_held.ensures.answer
