@@ -184,6 +184,10 @@ module _ (t : Terms) (r : Request) (seen : Seen) (k k1 : CallerData) (terms : k.
 
 -- ---- where the way begins
 
+-- an insertion asks for its span
+pub seen_for : (t : Terms) (m : Member) (first last : ℕ) (at : Held) (holdings : Holdings) → first ≡ m.span.first → last ≡ m.span.last → HoldsFor t (request.Insertion first last) at holdings → HoldsFor t (request.Insertion m.span.first m.span.last) at holdings
+seen_for t m first last at holdings first_is last_is held = subst (λ a. HoldsFor t (request.Insertion a m.span.last) at holdings) first_is (subst (λ a. HoldsFor t (request.Insertion first a) at holdings) last_is held)
+
 -- a node that is held alone is where an insertion may stand
 pub seen_stand : (t : Terms) (m : Member) (at : Held) (v : Log) → HoldsFor t (request.Insertion m.span.first m.span.last) at v.holdings → v.loader ≡ None → StandsOnWay t m (record { at = at; beyond = None; room = room.Splitting }) v
 seen_stand t m at v h loader = record {

@@ -1,14 +1,12 @@
 //! The insertion of a member.
-ghost use Rattle.std.specs.Prelude.{◌≡◌, ◌<◌, ◌≤◌, true, IfOk, IfErr, None};
-ghost use Rattle.btree_change.specs.Below.{CALL_CREDIT, IsIdle, IsSpan, due, surplus};
-ghost use Rattle.btree_change.specs.BySight.{HoldsFor};
-ghost use Rattle.btree_change.specs.Insertion.{AnswersInsertion, Inserts, MayPut};
+ghost use Rattle.std.specs.Prelude.{◌≡◌, ◌<◌, ◌≤◌, true, IfOk, IfErr};
+ghost use Rattle.btree_change.specs.Below.{CALL_CREDIT, IsIdle, due, surplus};
+ghost use Rattle.btree_change.specs.Insertion.{AnswersInsertion, Inserts};
 ghost use Rattle.btree_change.specs.Paths.{HoldsNothing};
-ghost use Rattle.btree_change.specs.Roots.{EndsPart};
 ghost use Rattle.btree_change.specs.Updates.{GivesUp};
 
 use crate::by_sight::{Request, hold_by_sight};
-use crate::descent::{Held, at_root};
+use crate::descent::at_root;
 use crate::root::at_held_root;
 use crate::stand::{Room, Stand};
 use crate::walk::below;
@@ -16,29 +14,6 @@ use node_store::{Busy, Locking, Waiting};
 use reg_model::{Inserted, Member};
 use std::sync::Wait;
 use word_rule::{Caller, Words};
-
-/// Answers an insertion that begins at a node that was locked by sight.
-fn at_seen<L: Locking>(
-    locking: &L,
-    words: &Words,
-    me: &mut Caller,
-    member: &Member,
-    at: Held,
-) -> Result<Inserted, Busy>
-    requires call { MayPut words.now member.now CALL_CREDIT me.old }
-    requires held { HoldsFor words.now.terms
-        (Request.Insertion member.now.span.first member.now.span.last) at me.old.log.holdings }
-    requires span { IsSpan member.now.span }
-    ensures { EndsPart words.now.terms member.now CALL_CREDIT Room.Splitting L.gives_up
-        me.old me.new result }
-{
-    let stand = Stand {
-        at,
-        beyond: None,
-        room: Room::Splitting,
-    };
-    below(locking, words, me, member, stand)
-}
 
 /// Registers a member, for an update call that was begun: Done with the next number; Overlap with
 /// the lowest registered member that overlaps it; or Full where a node had to be split and none was
@@ -66,7 +41,12 @@ pub fn insert_by<L: Locking>(
         last: member.span.last(),
     };
     if let Some(at) = hold_by_sight(locking, words, me, request) {
-        return at_seen(locking, words, me, &member, at);
+        let stand = Stand {
+            at,
+            beyond: None,
+            room: Room::Splitting,
+        };
+        return below(locking, words, me, &member, stand);
     }
     let root = at_root(locking, words, me)?;
     at_held_root(locking, words, me, &member, root)

@@ -1,6 +1,6 @@
 //! An insertion at the root, which is lifted where it is full.
 ghost use Rattle.std.specs.Prelude.{◌≡◌, ◌-◌, ◌^◌, ◌<◌, None};
-ghost use Rattle.btree_change.specs.Below.{CALL_CREDIT, IsFull, IsSpan};
+ghost use Rattle.btree_change.specs.Below.{CALL_CREDIT, IsSpan};
 ghost use Rattle.btree_change.specs.Insertion.{MayPut};
 ghost use Rattle.btree_change.specs.Roots.{EndsPart};
 ghost use Rattle.btree_change.specs.Splits.{HoldsFullRoot};
@@ -39,9 +39,9 @@ fn lifted<L: Locking>(
     below(locking, words, me, member, stand)
 }
 
-/// Answers an insertion whose root is full, and isn't lifted where it has the highest level or no
-/// two nodes are free.
-fn at_full_root<L: Locking>(
+/// Answers an insertion that holds the root: that is lifted where it is full, unless it has the
+/// highest level or no two nodes are free.
+pub(crate) fn at_held_root<L: Locking>(
     locking: &L,
     words: &Words,
     me: &mut Caller,
@@ -50,11 +50,18 @@ fn at_full_root<L: Locking>(
 ) -> Result<Inserted, Busy>
     requires call { MayPut words.now member.now CALL_CREDIT me.old }
     requires root { HoldsRoot words.now.terms root me.old.log.holdings }
-    requires full { IsFull root.content.body }
     requires span { IsSpan member.now.span }
     ensures { EndsPart words.now.terms member.now CALL_CREDIT Room.Splitting L.gives_up
         me.old me.new result }
 {
+    if !is_full(&root) {
+        let stand = Stand {
+            at: root,
+            beyond: None,
+            room: Room::Splitting,
+        };
+        return below(locking, words, me, member, stand);
+    }
     match room_for_root(locking, words, me, &root, member.span.first()) {
         Ok(Some(two)) => {
             let full = FullRoot {
@@ -77,29 +84,4 @@ fn at_full_root<L: Locking>(
             Err(busy)
         }
     }
-}
-
-/// Answers an insertion that holds the root.
-pub(crate) fn at_held_root<L: Locking>(
-    locking: &L,
-    words: &Words,
-    me: &mut Caller,
-    member: &Member,
-    root: Held,
-) -> Result<Inserted, Busy>
-    requires call { MayPut words.now member.now CALL_CREDIT me.old }
-    requires root { HoldsRoot words.now.terms root me.old.log.holdings }
-    requires span { IsSpan member.now.span }
-    ensures { EndsPart words.now.terms member.now CALL_CREDIT Room.Splitting L.gives_up
-        me.old me.new result }
-{
-    if is_full(&root) {
-        return at_full_root(locking, words, me, member, root);
-    }
-    let stand = Stand {
-        at: root,
-        beyond: None,
-        room: Room::Splitting,
-    };
-    below(locking, words, me, member, stand)
 }

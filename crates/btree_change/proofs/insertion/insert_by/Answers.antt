@@ -1,18 +1,24 @@
-use Rattle.std.proofs.Common.{arith, ◌∙◌, subst}
+use Rattle.std.proofs.Common.{◌+◌, ◌*◌, ◌≤◌, arith, ◌∙◌}
 use Rattle.std.proofs.lemmas.Result.{err_from_is_err_and}
 use Rattle.btree_change.specs.BySight.{HoldsFor}
+use Rattle.btree_change.specs.Roots.{EndsPart}
 use Rattle.btree_change.specs.declared.by_sight.Request.TheVariants as request
-use Rattle.btree_change.proofs.AtRoot.{answered_so, given_up_so, root_busy}
+use Rattle.btree_change.specs.declared.stand.Room.TheVariants as room
+use Rattle.btree_change.proofs.AtRoot.{answered_so, ends_part, given_up_so, root_busy}
+use Rattle.btree_change.proofs.BySights.{seen_for, seen_stand}
 use Rattle.btree_change.proofs.Loading.{found_after}
-use Rattle.btree_change.proofs.Spending.{may_still, spends_same}
+use Rattle.btree_change.proofs.Spending.{may_still, spends_all, spends_same}
 use Rattle.btree_change.proofs.NodeSteps.{steps_then}
 use Rattle.word_rule.specs.Places.{CALL_CREDIT}
+use Rattle.btree_change.proofs.insertion.insert_by.Goals.{After-below, In-Some}
 use Rattle.btree_change.proofs.insertion.insert_by.Goals as goal
 
-pub at_seen-requires-clause-held : goal.at_seen-requires-clause-held
-at_seen-requires-clause-held g c =
-    let t = c.args.words.now.terms in let at = c.in-Some.at in let held = c.hold_by_sight.new.me.log.holdings in
-    subst (λ first. HoldsFor t (request.Insertion first c.args.member.span.last) at held) c.first.ensures.value (subst (λ last. HoldsFor t (request.Insertion c.first.result last) at held) c.last.ensures.value c.in-Some.ensures.holds)
+-- the node that was locked by sight is held for the span
+held : (g : _) (c : In-Some g) → HoldsFor c.args.words.now.terms (request.Insertion c.args.member.span.first c.args.member.span.last) c.in-Some.at c.hold_by_sight.new.me.log.holdings
+held g c = seen_for c.args.words.now.terms c.args.member c.first.result c.last.result c.in-Some.at c.hold_by_sight.new.me.log.holdings c.first.ensures.value c.last.ensures.value c.in-Some.ensures.holds
+
+pub below-requires-clause-stands : goal.below-requires-clause-stands
+below-requires-clause-stands g c = seen_stand c.args.words.now.terms c.args.member c.in-Some.at c.hold_by_sight.new.me.log (held g (goal.at.below-requires-clause-stands g c).In-Some) (c.hold_by_sight.ensures.same.calls.caller.loader ∙ c.requires.idle.loader)
 
 pub at_root-requires-clause-idle : goal.at_root-requires-clause-idle
 at_root-requires-clause-idle g c =
@@ -28,21 +34,28 @@ returns-in_err-root-clause-busy g c =
     let k = c.args.me.now in let k1 = c.hold_by_sight.new.me in let k2 = c.at_root.new.me in let same = c.hold_by_sight.ensures.same in let err = c.in_err-root.ensures in let why = c.in_err-root.field-0.0 in
     rw (p.1, p.2) (root_busy why k k2 (steps_then k k1 k2 same err.same) (found_after why k k1 k2 same.loads err.cause) err.busy.0, err.busy.1)
 
-pub at_seen-requires-clause-call : goal.at_seen-requires-clause-call
-at_seen-requires-clause-call g c =
-    let k = c.args.me.now in let k1 = c.hold_by_sight.new.me in
-    may_still c.args.words.now c.args.member 0 CALL_CREDIT CALL_CREDIT k k1 (omega arith) (spends_same k k1 c.hold_by_sight.ensures.same) (record { table = c.requires.table; terms = c.hold_by_sight.ensures.terms; loader = c.requires.idle.loader; payload = c.requires.payload; begun = c.requires.begun; spare = c.requires.surplus })
+pub below-requires-clause-call : goal.below-requires-clause-call
+below-requires-clause-call g c =
+    let low = (held g (goal.at.below-requires-clause-call g c).In-Some).low in
+    may_still c.args.words.now c.args.member 0 CALL_CREDIT (2 * c.in-Some.at.content.level + 0 + 13) c.args.me.now c.hold_by_sight.new.me (omega (arith, low)) (spends_same c.args.me.now c.hold_by_sight.new.me c.hold_by_sight.ensures.same) (record { table = c.requires.table; terms = c.hold_by_sight.ensures.terms; loader = c.requires.idle.loader; payload = c.requires.payload; begun = c.requires.begun; spare = c.requires.surplus })
 
 pub at_held_root-requires-clause-call : goal.at_held_root-requires-clause-call
 at_held_root-requires-clause-call g c =
     let k = c.args.me.now in let k1 = c.hold_by_sight.new.me in let k2 = c.at_root.new.me in
     may_still c.args.words.now c.args.member 0 CALL_CREDIT CALL_CREDIT k k2 (omega arith) (spends_same k k2 (steps_then k k1 k2 c.hold_by_sight.ensures.same c.in_ok-root.ensures.same)) (record { table = c.requires.table; terms = c.hold_by_sight.ensures.terms; loader = c.requires.idle.loader; payload = c.requires.payload; begun = c.requires.begun; spare = c.requires.surplus })
 
+ends : (g : _) (c : After-below g) → c.in-Some.at.content.level ≤ 12 → EndsPart c.args.words.now.terms c.args.member CALL_CREDIT room.Splitting g.L.Locking.gives_up c.hold_by_sight.new.me c.below.new.me c.below.result
+ends g c low = let k = c.hold_by_sight.new.me in ends_part c.args.words.now.terms c.args.member 0 (2 * c.in-Some.at.content.level + 0 + 13) CALL_CREDIT room.Splitting room.Splitting g.L.Locking.gives_up k k c.below.new.me c.below.result (omega (arith, low)) (spends_all 0 k) (λ h. h) c.below.ensures
+
 pub returns-in-Some-clause-answer : goal.returns-in-Some-clause-answer
-returns-in-Some-clause-answer g c = answered_so c.args.words.now.terms c.args.member g.L.Locking.gives_up c.args.me.now c.hold_by_sight.new.me c.at_seen.new.me c.at_seen.result c.hold_by_sight.ensures.same c.at_seen.ensures
+returns-in-Some-clause-answer g c =
+    let at = goal.at.returns-in-Some-clause-answer g c in
+    answered_so c.args.words.now.terms c.args.member g.L.Locking.gives_up c.args.me.now c.hold_by_sight.new.me c.below.new.me c.below.result c.hold_by_sight.ensures.same (ends g at.After-below (held g at.In-Some).low)
 
 pub returns-in-Some-clause-busy : goal.returns-in-Some-clause-busy
-returns-in-Some-clause-busy g c = given_up_so c.args.words.now.terms c.args.member g.L.Locking.gives_up c.args.me.now c.hold_by_sight.new.me c.at_seen.new.me c.at_seen.result c.hold_by_sight.ensures.same c.at_seen.ensures
+returns-in-Some-clause-busy g c =
+    let at = goal.at.returns-in-Some-clause-busy g c in
+    given_up_so c.args.words.now.terms c.args.member g.L.Locking.gives_up c.args.me.now c.hold_by_sight.new.me c.below.new.me c.below.result c.hold_by_sight.ensures.same (ends g at.After-below (held g at.In-Some).low)
 
 pub returns-clause-answer : goal.returns-clause-answer
 returns-clause-answer g c =
