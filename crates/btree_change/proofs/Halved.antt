@@ -1,6 +1,6 @@
 -- A full node was halved under a node above, and settles when the half that isn't on the way is let
 -- go of: what is held then.
-use Rattle.std.proofs.Common.{◌≡◌, ◌≢◌, ℕ, ◌<◌, List, [], ◌∷◌, drop, sym, refl, ap, ◌∙◌, subst, arith, Bool, true, false, nat_le, Some, IsSome, IsSomeAnd, if◌then◌else◌}
+use Rattle.std.proofs.Common.{◌≡◌, ◌≢◌, ℕ, ◌<◌, List, [], ◌∷◌, drop, sym, refl, ap, ◌∙◌, subst, Bool, true, false, nat_le, Some, IsSome, IsSomeAnd, if◌then◌else◌}
 use Rattle.tree_shape.specs.NodeData.{NodeData, IsInFences, frame_of}
 use Rattle.tree_shape.specs.Changes.{first_half, last_half}
 use Rattle.tree_shape.specs.Steps.{middle, middle_fence}
@@ -46,14 +46,7 @@ written_settled at s h is = record { node = is.node; settled = refl; spells = is
 
 -- with what is told of its place it is held so
 held_as : (t : Terms) (at : Held) (h : Holding) (k : CallerData) → IsSettledAs at h → k.log.terms ≡ t → held_of at.node k.log.holdings.held ≡ Some h → HolderTells at.node k.log → IsHeldAs t at h
-held_as t at h k is terms found told = record {
-  node = is.node;
-  settled = is.settled;
-  spells = is.spells;
-  stored = is.stored;
-  marked = is.marked;
-  live = told_place t at.node at.content h k.log terms found is.node is.settled told;
-}
+held_as t at h k is terms found told = record { node = is.node; settled = is.settled; spells = is.spells; stored = is.stored; marked = is.marked; live = told_place t at.node at.content h k.log terms found is.node is.settled told }
 
 -- What is left of the halves once the other one is let go of: the lock of the one on the way.
 pub record Ends (t : Terms) (over : Held) (held : List Holding) (upper : Holding) (rest : List Holding) (way : Held) (other : ℕ) (k : CallerData) : Type 0 where

@@ -27,12 +27,6 @@ use Rattle.btree_change.proofs.Storing.{found_at}
 use Rattle.btree_change.proofs.NodeSteps.{steps_so}
 
 module _ (laws : SettlingLaws) (law : LiftLaw) (t : Terms) (full : FullRoot) (pc : ℕ) (k k' : CallerData) (h : HoldsFullRoot t full pc k.log.holdings) (w : WritesRootParts full k k') where
-  abbrev f : Contents
-  f = w.tree.contents
-
-  abbrev live : ℕ → Bool
-  live = w.tree.live
-
   abbrev become : Contents
   become = g t full pc k h w.tree
 
@@ -71,7 +65,7 @@ module _ (laws : SettlingLaws) (law : LiftLaw) (t : Terms) (full : FullRoot) (pc
       ∷ [])
 
   may_go : (n : ℕ) (a : Holding) (s : NodeData) → held_of n (w.right ∷ w.left ∷ w.upper ∷ []) ≡ Some a → SpellsNode a.words s → MayRelease n k'.log
-  may_go n a s found spells = subst (MayRelease n) v_is (may_release laws v f live 0 (0 ∷ []) (full.left ∷ full.right ∷ []) become reached (lift_change t full pc k h w.tree law k' w) n a found (subst IsSome (sym spells) refl))
+  may_go n a s found spells = subst (MayRelease n) v_is (may_release laws v w.tree.contents w.tree.live 0 (0 ∷ []) (full.left ∷ full.right ∷ []) become reached (lift_change t full pc k h w.tree law k' w) n a found (subst IsSome (sym spells) refl))
 
   right_left : w.right.node ≢ full.left
   right_left e = h.different (sym e ∙ w.right_new.node)
@@ -141,7 +135,7 @@ module _ (laws : SettlingLaws) (law : LiftLaw) (t : Terms) (full : FullRoot) (pc
   is_released : (k5 : CallerData) → k5 ≡ record k' { log = after_node_release (other_half full.left full.right pc full.root.content) k'.log } → IsReleased ends.0.lock upper' [] k' k5
   is_released k5 is =
       let other = other_half full.left full.right pc full.root.content in
-      let log = ap (after_node_release other) (sym v_is) ∙ released laws v f live 0 (0 ∷ []) (full.left ∷ full.right ∷ []) become reached (lift_change t full pc k h w.tree law k' w) other in
+      let log = ap (after_node_release other) (sym v_is) ∙ released laws v w.tree.contents w.tree.live 0 (0 ∷ []) (full.left ∷ full.right ∷ []) become reached (lift_change t full pc k h w.tree law k' w) other in
       let whole = is ∙ ap (λ (z : Log). record k' { log = z }) log in record {
         held = ap (λ (z : CallerData). z.log.holdings.held) whole ∙ (ap (without_lock other) settles ∙ ends.0.left);
         out = ap (λ (z : CallerData). z.log.holdings.out) whole ∙ nothing_out t full pc k h w.tree law k' w;

@@ -60,12 +60,6 @@ half_is t full pc k h tree =
     go false e = (((let z = leb-false pc (middle_fence full.child.content) e in omega (arith, z)), (inside t full pc k h tree).1), level t full pc k h tree, (are_halves full.child.content.body h.is_full).right_room)
 
 module _ (laws : SettlingLaws) (law : SplitLaw) (t : Terms) (full : FullChild) (pc : ℕ) (k k' : CallerData) (h : HoldsFullChild t full pc k.log.holdings) (w : WritesParts full pc k k') where
-  abbrev f : Contents
-  f = w.tree.contents
-
-  abbrev live : ℕ → Bool
-  live = w.tree.live
-
   abbrev become : Contents
   become = g t full pc k h w.tree
 
@@ -107,10 +101,10 @@ module _ (laws : SettlingLaws) (law : SplitLaw) (t : Terms) (full : FullChild) (
       settled_new group reached w.new (parts_for full pc).right w.right_new.mark (ap (is_among reached) w.right_new.node ∙ is_third full.parent.node full.child.node full.fresh []) w.right_new.spells i
       ∷ settled_group group reached w.lower (parts_for full pc).left (ap (is_among group) w.child_written.node ∙ is_second full.parent.node full.child.node []) (ap (is_among reached) w.child_written.node ∙ is_second full.parent.node full.child.node (full.fresh ∷ [])) w.child_written.spells i
       ∷ settled_group group reached w.upper (parts_for full pc).above (ap (is_among group) w.parent_written.node ∙ is_first full.parent.node (full.child.node ∷ [])) (ap (is_among reached) w.parent_written.node ∙ is_first full.parent.node (full.child.node ∷ full.fresh ∷ [])) w.parent_written.spells i
-      ∷ stay_settled f live group reached rest (stays t full pc k h w.tree law k' w) i)
+      ∷ stay_settled w.tree.contents w.tree.live group reached rest (stays t full pc k h w.tree law k' w) i)
 
   may_go : (n : ℕ) (a : Holding) (s : NodeData) → held_of n (w.new ∷ w.lower ∷ w.upper ∷ rest) ≡ Some a → SpellsNode a.words s → MayRelease n k'.log
-  may_go n a s found spells = subst (MayRelease n) v_is (may_release laws v f live full.parent.node group (full.fresh ∷ []) become reached (split_change t full pc k h w.tree law k' w) n a found (subst IsSome (sym spells) refl))
+  may_go n a s found spells = subst (MayRelease n) v_is (may_release laws v w.tree.contents w.tree.live full.parent.node group (full.fresh ∷ []) become reached (split_change t full pc k h w.tree law k' w) n a found (subst IsSome (sym spells) refl))
 
   lower_new : w.new.node ≢ full.child.node
   lower_new e = fresh_child (sym w.right_new.node ∙ e)
@@ -148,7 +142,7 @@ module _ (laws : SettlingLaws) (law : SplitLaw) (t : Terms) (full : FullChild) (
   is_released : (k5 : CallerData) → k5 ≡ record k' { log = after_node_release (other_half full.child.node full.fresh pc full.child.content) k'.log } → IsReleased ends.lock upper' rest k' k5
   is_released k5 is =
       let other = other_half full.child.node full.fresh pc full.child.content in
-      let log = ap (after_node_release other) (sym v_is) ∙ released laws v f live full.parent.node group (full.fresh ∷ []) become reached (split_change t full pc k h w.tree law k' w) other in
+      let log = ap (after_node_release other) (sym v_is) ∙ released laws v w.tree.contents w.tree.live full.parent.node group (full.fresh ∷ []) become reached (split_change t full pc k h w.tree law k' w) other in
       let whole = is ∙ ap (λ (z : Log). record k' { log = z }) log in record {
         held = ap (λ (z : CallerData). z.log.holdings.held) whole ∙ (ap (without_lock other) settles ∙ ends.left);
         out = ap (λ (z : CallerData). z.log.holdings.out) whole ∙ nothing_out t full pc k h w.tree law k' w;

@@ -6,7 +6,7 @@ use Rattle.node_store.specs.Outlines.{OnlyLoads}
 use Rattle.btree_change.proofs.Outlining.{loads_then}
 use Rattle.btree_change.proofs.Overlapping.{NoneLast, found_before, found_behind, none_behind}
 use Rattle.btree_change.proofs.leaf.overlap_in.Goals as goal
-use Rattle.btree_change.proofs.leaf.overlap_in.Goals.{then-begun-gt0+in_default, else-begun-gt0}
+use Rattle.btree_change.proofs.leaf.overlap_in.Goals.{After-overlap_at-2, then-begun-gt0+in_default, else-begun-gt0}
 
 pub returns-in-Some-clause-found : goal.returns-in-Some-clause-found
 returns-in-Some-clause-found c =
@@ -14,32 +14,22 @@ returns-in-Some-clause-found c =
     let some = c.if-begun-gt0.true in
     found_before s.low s.high (entries_of s) c.args.span.now (leaf_order s c.requires.leaf c.requires.ordered) c.args.begun c.in-Some.entry c.requires.begun (λ e. omega (arith, e, some)) c.in-Some.ensures.found
 
+-- the last that begins at or below the first address was looked at, if there is one
+so_far : (c : After-overlap_at-2) → NoneLast c.args.leaf.now.content.low c.args.leaf.now.content.high (entries_of c.args.leaf.now.content) c.args.span.now (leaf_order c.args.leaf.now.content c.requires.leaf c.requires.ordered) c.args.begun × OnlyLoads c.args.me.now c.if-begun-gt0.me
+so_far c = elim c.if-begun-gt0.branch [
+  | then-begun-gt0+in_default w ↦ (λ _. w.in_default.ensures.none, subst (OnlyLoads c.args.me.now) (sym w.me-is) w.overlap_at.ensures.loads)
+  | else-begun-gt0 w ↦ (λ some. absurd (let least = w.if-begun-gt0.false in omega (arith, some, least)), subst (OnlyLoads c.args.me.now) (sym w.me-is) (no_loads c.args.me.now))
+]
+
 pub returns-clause-found : goal.returns-clause-found
 returns-clause-found c =
-    let within = leaf_order c.args.leaf.now.content c.requires.leaf c.requires.ordered in
-    let low = c.args.leaf.now.content.low in let high = c.args.leaf.now.content.high in let es = entries_of c.args.leaf.now.content in let span = c.args.span.now in
-    let so_far : NoneLast low high es span within c.args.begun × OnlyLoads c.args.me.now c.if-begun-gt0.me = elim c.if-begun-gt0.branch [
-      | then-begun-gt0+in_default w ↦ (λ _. w.in_default.ensures.none, subst (OnlyLoads c.args.me.now) (sym w.me-is) w.overlap_at.ensures.loads)
-      | else-begun-gt0 w ↦ (λ some. absurd (let least = w.if-begun-gt0.false in omega (arith, some, least)), subst (OnlyLoads c.args.me.now) (sym w.me-is) (no_loads c.args.me.now))
-    ] in
-    found_behind low high es span within c.args.begun c.overlap_at-2.result c.requires.begun so_far.0 c.overlap_at-2.ensures.found
+    let s = c.args.leaf.now.content in
+    found_behind s.low s.high (entries_of s) c.args.span.now (leaf_order s c.requires.leaf c.requires.ordered) c.args.begun c.overlap_at-2.result c.requires.begun (so_far (goal.at.returns-clause-found c).After-overlap_at-2).0 c.overlap_at-2.ensures.found
 
 pub returns-clause-none : goal.returns-clause-none
 returns-clause-none c =
-    let within = leaf_order c.args.leaf.now.content c.requires.leaf c.requires.ordered in
-    let low = c.args.leaf.now.content.low in let high = c.args.leaf.now.content.high in let es = entries_of c.args.leaf.now.content in let span = c.args.span.now in
-    let so_far : NoneLast low high es span within c.args.begun × OnlyLoads c.args.me.now c.if-begun-gt0.me = elim c.if-begun-gt0.branch [
-      | then-begun-gt0+in_default w ↦ (λ _. w.in_default.ensures.none, subst (OnlyLoads c.args.me.now) (sym w.me-is) w.overlap_at.ensures.loads)
-      | else-begun-gt0 w ↦ (λ some. absurd (let least = w.if-begun-gt0.false in omega (arith, some, least)), subst (OnlyLoads c.args.me.now) (sym w.me-is) (no_loads c.args.me.now))
-    ] in
-    none_behind low high es span within c.args.begun c.overlap_at-2.result c.requires.begun so_far.0 c.overlap_at-2.ensures.none
+    let s = c.args.leaf.now.content in
+    none_behind s.low s.high (entries_of s) c.args.span.now (leaf_order s c.requires.leaf c.requires.ordered) c.args.begun c.overlap_at-2.result c.requires.begun (so_far (goal.at.returns-clause-none c).After-overlap_at-2).0 c.overlap_at-2.ensures.none
 
 pub returns-clause-loads : goal.returns-clause-loads
-returns-clause-loads c =
-    let within = leaf_order c.args.leaf.now.content c.requires.leaf c.requires.ordered in
-    let low = c.args.leaf.now.content.low in let high = c.args.leaf.now.content.high in let es = entries_of c.args.leaf.now.content in let span = c.args.span.now in
-    let so_far : NoneLast low high es span within c.args.begun × OnlyLoads c.args.me.now c.if-begun-gt0.me = elim c.if-begun-gt0.branch [
-      | then-begun-gt0+in_default w ↦ (λ _. w.in_default.ensures.none, subst (OnlyLoads c.args.me.now) (sym w.me-is) w.overlap_at.ensures.loads)
-      | else-begun-gt0 w ↦ (λ some. absurd (let least = w.if-begun-gt0.false in omega (arith, some, least)), subst (OnlyLoads c.args.me.now) (sym w.me-is) (no_loads c.args.me.now))
-    ] in
-    loads_then c.args.me.now c.if-begun-gt0.me c.overlap_at-2.new.me so_far.1 c.overlap_at-2.ensures.loads
+returns-clause-loads c = loads_then c.args.me.now c.if-begun-gt0.me c.overlap_at-2.new.me (so_far (goal.at.returns-clause-loads c).After-overlap_at-2).1 c.overlap_at-2.ensures.loads
