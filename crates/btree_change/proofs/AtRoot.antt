@@ -17,7 +17,7 @@ use Rattle.word_rule.specs.declared.log.Terms.{Terms}
 use Rattle.btree_change.specs.declared.descent.Held.{Held}
 use Rattle.btree_change.specs.declared.lift.FullRoot.{FullRoot}
 use Rattle.btree_change.specs.declared.lift.TwoNodes.{TwoNodes}
-use Rattle.btree_change.specs.declared.split.Split.{Split}
+use Rattle.btree_change.specs.declared.stand.Step.{Step}
 use Rattle.btree_change.specs.declared.stand.Room.{Room}
 use Rattle.btree_change.specs.declared.stand.Room.TheVariants as room
 use Rattle.reg_model.specs.declared.answer.Inserted.TheVariants as inserted
@@ -86,26 +86,29 @@ full_alone t root m holdings h span full = record {
 }
 
 -- The root was lifted.
-module _ (t : Terms) (m : Member) (full : FullRoot) (k : CallerData) (held : HoldsFullRoot t full m.span.first k.log.holdings) (high : full.root.content.high ≡ 18446744073709551615) (span : IsSpan m.span) (split : Split) (k1 : CallerData) (lifts : LiftsRoot t full m.span.first split k k1) where
+module _ (t : Terms) (m : Member) (full : FullRoot) (k : CallerData) (held : HoldsFullRoot t full m.span.first k.log.holdings) (high : full.root.content.high ≡ 18446744073709551615) (span : IsSpan m.span) (step : Step) (k1 : CallerData) (lifts : LiftsRoot t full m.span.first step k k1) where
   rest_is : drop 2 k1.log.holdings.held ≡ []
   rest_is = ap (drop 2) lifts.held ∙ ap (drop 3) held.held
 
-  abbrev pair_for : (hs : List Holding) → [] ≡ hs → HoldsPair t m.span.first split.parent split.way hs k1.log.holdings
-  pair_for hs e = split_pair t m.span.first _ _ split k k1 hs lifts (ap (drop 3) held.held ∙ e) held.root_within (omega arith) (subst (AreHigher t (root_for full).content.level) e tt)
+  abbrev pair_for : (hs : List Holding) → [] ≡ hs → HoldsPair t m.span.first step.parent step.child hs k1.log.holdings
+  pair_for hs e = split_pair t m.span.first _ _ step k k1 hs lifts (ap (drop 3) held.held ∙ e) held.root_within (omega arith) (subst (AreHigher t (root_for full).content.level) e tt)
 
-  pub lifted_reach : (pair : HoldsPair t m.span.first split.parent split.way (drop 2 k1.log.holdings.held) k1.log.holdings) × Reaches t m.span.last split.parent.content None pair.upper (drop 2 k1.log.holdings.held)
+  pub lifted_reach : (pair : HoldsPair t m.span.first step.parent step.child (drop 2 k1.log.holdings.held) k1.log.holdings) × Reaches t m.span.last step.parent.content None pair.upper (drop 2 k1.log.holdings.held)
   lifted_reach = (pair_for (drop 2 k1.log.holdings.held) (sym rest_is), ((let h = ap (λ (h : Held). h.content.high) lifts.parent in let b = span.below_top in omega (arith, h, high, b)), rest_is))
 
-  pub lifted_here : IsInFences m.span.first split.parent.content
+  pub lifted_here : IsInFences m.span.first step.parent.content
   lifted_here =
       let h = ap (λ (h : Held). h.content.high) lifts.parent in let l = ap (λ (h : Held). h.content.low) lifts.parent in
       let a = held.here.0 in let b = held.here.1 in (omega (arith, l, a), omega (arith, h, b))
 
-  pub lifted_height : split.parent.content.level ≤ 12
+  pub lifted_height : step.parent.content.level ≤ 12
   lifted_height = let l = ap (λ (h : Held). h.content.level) lifts.parent in let t' = held.height in omega (arith, l, t')
 
-  pub lifted_level : split.way.content.level ≤ 11
+  pub lifted_level : step.child.content.level ≤ 11
   lifted_level = let a = lifts.lower_level in let l = lifted_height in omega (arith, a, l)
+
+  pub lifted_way : HasWayOn step.room m.span.first step.child.content k1.log
+  lifted_way = subst (λ w. HasWayOn w m.span.first step.child.content k1.log) (sym lifts.splitting) lifts.room
 
   pub lifted_steps : Spends 1 k k1
   lifted_steps = spends_one k k1 lifts.same

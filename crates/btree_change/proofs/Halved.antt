@@ -15,7 +15,8 @@ use Rattle.word_rule.specs.Steps.{MayRelease, after_node_release}
 use Rattle.node_store.specs.Holding.{SpellsHeld}
 use Rattle.btree_change.specs.declared.descent.Held.{Held}
 use Rattle.btree_change.specs.declared.split.Parts.{Parts}
-use Rattle.btree_change.specs.declared.split.Split.{Split}
+use Rattle.btree_change.specs.declared.stand.Room.TheVariants as room
+use Rattle.btree_change.specs.declared.stand.Step.{Step}
 use Rattle.btree_change.specs.declared.split.Ways.{Ways}
 use Rattle.btree_change.specs.Halves.{IsNewLock, IsWrittenLock}
 use Rattle.btree_change.specs.Paths.{AreHigher, HasChildFor, StepsOnNodes}
@@ -139,16 +140,16 @@ module _ {t : Terms} {left right pc : ℕ} {s : NodeData} {over : Held} {k k' : 
       may_read_way = subst (λ n. IsSomeAnd (held_of n k5.log.holdings.held) (λ x. IsSome (spelled x.words))) (sym way_node) (may_read way.node way.content k5.log (spells_way k5 is5))
 
       -- and after loads of both
-      pub splits_so : k.log.terms ≡ t → over.changed ≡ true → (k7 : CallerData) (split : Split)
-          → (split.parent.node ≡ over.node) × (split.parent.changed ≡ true) → (split.way.node ≡ ways.way) × (split.way.changed ≡ true)
-          → SpellsHeld over.node split.parent.content k5.log → SpellsHeld ways.way split.way.content k5.log
+      pub splits_so : k.log.terms ≡ t → over.changed ≡ true → (k7 : CallerData) (step : Step)
+          → (step.parent.node ≡ over.node) × (step.parent.changed ≡ true) → (step.child.node ≡ ways.way) × (step.child.changed ≡ true) → step.room ≡ room.Splitting
+          → SpellsHeld over.node step.parent.content k5.log → SpellsHeld ways.way step.child.content k5.log
           → HolderTells over.node k5.log → HolderTells ways.way k5.log
           → StepsOnNodes k5 k7 → k7.log.holdings ≡ k5.log.holdings
-          → SplitsUnder t pc way over split k k7
-      splits_so terms changed k7 split parent_as way_as spells_parent spells_half told_parent told_way same kept =
+          → SplitsUnder t pc way over step k k7
+      splits_so terms changed k7 step parent_as way_as splitting spells_parent spells_half told_parent told_way same kept =
           let r = h.released k5 is5 in
-          let way_is : split.way ≡ way = same_held split.way way (way_as.0 ∙ way_node) (sym (spell_one way.node way.content split.way.content k5.log (spells_way k5 is5) (subst (λ n. SpellsHeld n split.way.content k5.log) way_node spells_half))) (way_as.1 ∙ sym (half_changed left right pc s)) in
-          let parent_is : split.parent ≡ over = same_held split.parent over parent_as.0 (sym (spell_one over.node over.content split.parent.content k5.log (spells_over k5 is5) spells_parent)) (parent_as.1 ∙ sym changed) in
+          let way_is : step.child ≡ way = same_held step.child way (way_as.0 ∙ way_node) (sym (spell_one way.node way.content step.child.content k5.log (spells_way k5 is5) (subst (λ n. SpellsHeld n step.child.content k5.log) way_node spells_half))) (way_as.1 ∙ sym (half_changed left right pc s)) in
+          let parent_is : step.parent ≡ over = same_held step.parent over parent_as.0 (sym (spell_one over.node over.content step.parent.content k5.log (spells_over k5 is5) spells_parent)) (parent_as.1 ∙ sym changed) in
           let steps5 : StepsOnNodes (with_release_less k) k5 = steps_then (with_release_less k) (with_release_less k') k5 (less_release_then k k' h.same) r.same in
           let terms5 = steps5.calls.caller.terms ∙ terms in record {
             lower = h.ends.lock;
@@ -159,17 +160,18 @@ module _ {t : Terms} {left right pc : ℕ} {s : NodeData} {over : Held} {k k' : 
             parent_held = subst (λ z. IsHeldAs t z h.upper) (sym parent_is) (held_as t over h.upper k5 h.above terms5 (found_over k5 is5) told_parent);
             way = way_is;
             parent = parent_is;
+            splitting = splitting;
             within = subst (λ (z : Held). z.node < t.nodes) (sym way_is) h.ends.within;
             here = subst (λ (z : Held). IsInFences pc z.content) (sym way_is) h.half.here;
-            leads = subst (λ (z : Held). HasChildFor split.parent.content pc z.node) (sym way_is) (subst (λ (z : Held). HasChildFor z.content pc way.node) (sym parent_is) h.half.leads);
-            lower_level = subst (λ (z : Held). z.content.level < split.parent.content.level) (sym way_is) (subst (λ (z : Held). way.content.level < z.content.level) (sym parent_is) h.half.level);
+            leads = subst (λ (z : Held). HasChildFor step.parent.content pc z.node) (sym way_is) (subst (λ (z : Held). HasChildFor z.content pc way.node) (sym parent_is) h.half.leads);
+            lower_level = subst (λ (z : Held). z.content.level < step.parent.content.level) (sym way_is) (subst (λ (z : Held). way.content.level < z.content.level) (sym parent_is) h.half.level);
             room = subst (λ (z : Held). HasSpace z.content.body) (sym way_is) h.half.room;
             same = steps_then (with_release_less k) k5 k7 steps5 same;
           }
 
 -- What a split left is held as a node and its child.
-pub split_pair : (t : Terms) (pc : ℕ) (half over : Held) (split : Split) (k k' : CallerData) (rest : List Holding) → SplitsUnder t pc half over split k k' → drop 3 k.log.holdings.held ≡ rest → over.node < t.nodes → 0 < over.content.level → AreHigher t over.content.level rest → HoldsPair t pc split.parent split.way rest k'.log.holdings
-split_pair t pc half over split k k' rest s is within inner higher = record {
+pub split_pair : (t : Terms) (pc : ℕ) (half over : Held) (step : Step) (k k' : CallerData) (rest : List Holding) → SplitsUnder t pc half over step k k' → drop 3 k.log.holdings.held ≡ rest → over.node < t.nodes → 0 < over.content.level → AreHigher t over.content.level rest → HoldsPair t pc step.parent step.child rest k'.log.holdings
+split_pair t pc half over step k k' rest s is within inner higher = record {
   parent_within = subst (λ (h : Held). h.node < t.nodes) (sym s.parent) within;
   child_within = s.within;
   lower = s.lower;

@@ -11,7 +11,6 @@ use Rattle.word_rule.specs.declared.log.Receipts.{Receipts}
 use Rattle.word_rule.specs.Held.{held_of}
 use Rattle.word_rule.specs.TreeRefusals.{HadNoRoom}
 use Rattle.btree_change.specs.declared.descent.Held.{Held}
-use Rattle.btree_change.specs.declared.split.Split.{Split}
 use Rattle.btree_change.specs.declared.stand.Room.{Room}
 use Rattle.btree_change.specs.declared.stand.Room.TheVariants as room
 use Rattle.btree_change.specs.declared.stand.Step.{Step}
@@ -21,7 +20,7 @@ use Rattle.btree_change.specs.Releases.{LetsGo, Spends}
 use Rattle.btree_change.specs.Splits.{HasSpace, HoldsFull, HoldsFullChild, SplitsChild, StaysHeld, TakesRoom}
 use Rattle.word_rule.specs.NodeTells.{KnowsTree}
 use Rattle.word_rule.specs.Sights.{after_node_load}
-use Rattle.btree_change.specs.Stands.{HasSplit, HasWayOn, HoldsPair}
+use Rattle.btree_change.specs.Stands.{HasCause, HasSplit, HasWayOn, HoldsPair, IfNoneFree}
 use Rattle.btree_change.proofs.Halved.{split_pair}
 use Rattle.btree_change.proofs.Descents.{steps_of_load}
 use Rattle.btree_change.proofs.NoRoom.{found_cause, no_room_now, same_cause}
@@ -160,13 +159,13 @@ module _ (t : Terms) (pc : ℕ) (step : Step) (above : List Holding) (k : Caller
       }
 
   -- it was split
-  pub was_split : (fresh : ℕ) (split : Split) (k1 k2 : CallerData) → above ≡ drop 2 k.log.holdings.held → TakesRoom fresh k k1 → (s : SplitsChild t (record { parent = step.parent; child = step.child; fresh = fresh }) pc split k1 k2) → HasSplit t pc step (record { parent = split.parent; child = split.way; room = room.Splitting }) k k2
-  was_split fresh split k1 k2 is takes s =
+  pub was_split : (fresh : ℕ) (after : Step) (k1 k2 : CallerData) → above ≡ drop 2 k.log.holdings.held → TakesRoom fresh k k1 → (s : SplitsChild t (record { parent = step.parent; child = step.child; fresh = fresh }) pc after k1 k2) → HasSplit t pc step after k k2
+  was_split fresh after k1 k2 is takes s =
       let rest : drop 3 k1.log.holdings.held ≡ drop 2 k.log.holdings.held = ap (drop 3) (takes.held ∙ ap (λ hs. takes.new ∷ hs) pair.held) ∙ is in
-      let level : split.parent.content.level ≡ step.parent.content.level = ap (λ (h : Held). h.content.level) s.parent in record {
-        pair = split_pair t pc _ _ split k1 k2 (drop 2 k.log.holdings.held) s rest pair.parent_within pair.inner (subst (AreHigher t step.parent.content.level) is pair.higher);
-        way = s.room;
-        cause = tt;
+      let level : after.parent.content.level ≡ step.parent.content.level = ap (λ (h : Held). h.content.level) s.parent in record {
+        pair = split_pair t pc _ _ after k1 k2 (drop 2 k.log.holdings.held) s rest pair.parent_within pair.inner (subst (AreHigher t step.parent.content.level) is pair.higher);
+        way = subst (λ w. HasWayOn w pc after.child.content k2.log) (sym s.splitting) s.room;
+        cause = subst (λ w. IfNoneFree w (HasCause step.room pc k k2)) (sym s.splitting) tt;
         node = ap (λ (h : Held). h.node) s.parent;
         frame = ap (λ (h : Held). frame_of h.content) s.parent;
         less = let l = s.lower_level in omega (arith, l, level);

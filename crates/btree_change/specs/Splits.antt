@@ -20,7 +20,8 @@ use Rattle.node_store.specs.declared.locking.Busy.TheVariants as busy
 use Rattle.btree_change.specs.declared.descent.Held.{Held}
 use Rattle.btree_change.specs.declared.split.FullChild.{FullChild}
 use Rattle.btree_change.specs.declared.split.Parts.{Parts}
-use Rattle.btree_change.specs.declared.split.Split.{Split}
+use Rattle.btree_change.specs.declared.stand.Room.TheVariants as room
+use Rattle.btree_change.specs.declared.stand.Step.{Step}
 use Rattle.btree_change.specs.declared.lift.FullRoot.{FullRoot}
 use Rattle.btree_change.specs.declared.lift.TwoNodes.{TwoNodes}
 use Rattle.btree_change.specs.Loads.{FoundNoRoom}
@@ -114,25 +115,26 @@ abbrev pub other_half : ℕ → ℕ → ℕ → NodeData → ℕ
 other_half left right pc s = if nat_le pc (middle_fence s) then right else left
 
 -- A full node was split under a node above. The half for the address is held, and the node above.
-pub record SplitsUnder (t : Terms) (pc : ℕ) (half over : Held) (split : Split) (k k' : CallerData)
+pub record SplitsUnder (t : Terms) (pc : ℕ) (half over : Held) (step : Step) (k k' : CallerData)
     : Type 0 where
   pub lower : Holding
   pub upper : Holding
   pub held : k'.log.holdings.held ≡ lower ∷ upper ∷ drop 3 k.log.holdings.held
   pub out : k'.log.holdings.out ≡ []
-  pub way_held : IsHeldAs t split.way lower
-  pub parent_held : IsHeldAs t split.parent upper
-  pub way : split.way ≡ half
-  pub parent : split.parent ≡ over
-  pub within : split.way.node < t.nodes
-  pub here : IsInFences pc split.way.content
-  pub leads : HasChildFor split.parent.content pc split.way.node
-  pub lower_level : split.way.content.level < split.parent.content.level
-  pub room : HasSpace split.way.content.body
+  pub way_held : IsHeldAs t step.child lower
+  pub parent_held : IsHeldAs t step.parent upper
+  pub way : step.child ≡ half
+  pub parent : step.parent ≡ over
+  pub splitting : step.room ≡ room.Splitting
+  pub within : step.child.node < t.nodes
+  pub here : IsInFences pc step.child.content
+  pub leads : HasChildFor step.parent.content pc step.child.node
+  pub lower_level : step.child.content.level < step.parent.content.level
+  pub room : HasSpace step.child.content.body
   pub same : StepsOnNodes (with_release_less k) k'
 
 -- a full child was split under its parent, which has a pair more
-abbrev pub SplitsChild : Terms → FullChild → ℕ → Split → CallerData → CallerData → Type 0
+abbrev pub SplitsChild : Terms → FullChild → ℕ → Step → CallerData → CallerData → Type 0
 SplitsChild t full pc =
     SplitsUnder t pc (half_for full.child.node full.fresh pc full.child.content)
     (parent_for full pc)
@@ -209,7 +211,7 @@ root_for full = record {
 }
 
 -- the full root was lifted and split: it is a level higher, and has the halves as its children
-abbrev pub LiftsRoot : Terms → FullRoot → ℕ → Split → CallerData → CallerData → Type 0
+abbrev pub LiftsRoot : Terms → FullRoot → ℕ → Step → CallerData → CallerData → Type 0
 LiftsRoot t full pc =
     SplitsUnder t pc (half_for full.left full.right pc full.root.content) (root_for full)
 

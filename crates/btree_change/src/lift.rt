@@ -9,7 +9,8 @@ ghost use Rattle.btree_change.specs.Splits.{HoldsOneFree, IsRoomForRoot, LiftsRo
 ghost use Rattle.btree_change.specs.Splits.{LosesFree, StaysHeld, root_parts_for};
 
 use crate::descent::{Held, content_of};
-use crate::split::{Parts, Split, halves, room_for, settled_split, ways_of};
+use crate::split::{Parts, halves, room_for, settled_split, ways_of};
+use crate::stand::Step;
 use node_store::{Busy, Locking, give_free, write_held};
 use tree_shape::limits::HIGHEST_LEVEL;
 use tree_shape::{laws, lift_root, put_pair};
@@ -69,7 +70,7 @@ pub(crate) fn lift<L: Locking>(
     me: &mut Caller,
     full: &FullRoot,
     pc: u64,
-) -> Split
+) -> Step
     requires table { me.old.table ≡ words.now.table }
     requires terms { me.old.log.terms ≡ words.now.terms }
     requires held { HoldsFullRoot words.now.terms full.now pc me.old.log.holdings }

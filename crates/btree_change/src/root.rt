@@ -8,7 +8,7 @@ ghost use Rattle.btree_change.specs.Stands.{HoldsRoot};
 
 use crate::descent::{Held, let_go_of};
 use crate::lift::{FullRoot, lift, room_for_root};
-use crate::stand::{Room, Stand, Step, is_full, stand_below};
+use crate::stand::{Room, Stand, is_full, stand_below};
 use crate::walk::below;
 use node_store::{Busy, Locking};
 use reg_model::{Inserted, Member};
@@ -29,12 +29,7 @@ fn lifted<L: Locking>(
     ensures { EndsPart words.now.terms member.now 39 Room.Splitting L.gives_up
         me.old me.new result }
 {
-    let split = lift(locking, words, me, &full, member.span.first());
-    let step = Step {
-        parent: split.parent,
-        child: split.way,
-        room: Room::Splitting,
-    };
+    let step = lift(locking, words, me, &full, member.span.first());
     let stand = stand_below(locking, words, me, member, step, None);
     below(locking, words, me, member, stand)
 }

@@ -10,6 +10,7 @@ ghost use Rattle.btree_change.specs.Splits.{HoldsFull, HoldsFullChild, IsRoomFor
 ghost use Rattle.btree_change.specs.Splits.{other_in, parts_for, way_in};
 
 use crate::descent::{Held, content_of};
+use crate::stand::{Room, Step};
 use node_store::{Busy, Locking, outline_of, take_free, write_held};
 use tree_shape::{Node, inner_slot, laws, put_pair, split_inner, split_leaf};
 use word_rule::exchange::exchange_decided;
@@ -22,13 +23,6 @@ pub(crate) struct FullChild {
     pub(crate) parent: Held,
     pub(crate) child: Held,
     pub(crate) fresh: u32,
-}
-
-/// What a split leaves on the way: the node above, and the half for the address.
-#[derive(Drop)]
-pub(crate) struct Split {
-    pub(crate) parent: Held,
-    pub(crate) way: Held,
 }
 
 /// The halves of a full node.
@@ -121,7 +115,7 @@ pub(crate) fn ways_of(left: u32, right: u32, parts: &Parts, pc: u64) -> Ways
 
 /// What a split left on the way, where it has settled: the node above, and the half for the
 /// address.
-pub(crate) fn settled_split(words: &Words, me: &mut Caller, above: u32, way: u32) -> Split
+pub(crate) fn settled_split(words: &Words, me: &mut Caller, above: u32, way: u32) -> Step
     requires table { me.old.table ≡ words.now.table }
     requires above { above < words.now.terms.nodes }
     requires below { way < words.now.terms.nodes }
@@ -130,9 +124,10 @@ pub(crate) fn settled_split(words: &Words, me: &mut Caller, above: u32, way: u32
     requires held_way { IsSomeAnd (held_of way me.old.log.holdings.held)
         (λ h. IsSome (spelled h.words)) }
     ensures parent { (result.parent.node ≡ above) × (result.parent.changed ≡ true) }
-    ensures way { (result.way.node ≡ way) × (result.way.changed ≡ true) }
+    ensures way { (result.child.node ≡ way) × (result.child.changed ≡ true) }
+    ensures room { result.room ≡ Room.Splitting }
     ensures spells_parent { SpellsHeld above result.parent.content me.old.log }
-    ensures spells_way { SpellsHeld way result.way.content me.old.log }
+    ensures spells_way { SpellsHeld way result.child.content me.old.log }
     ensures tells_parent { HolderTells above me.old.log }
     ensures tells_way { HolderTells way me.old.log }
     ensures same { StepsOnNodes me.old me.new }
@@ -146,12 +141,16 @@ pub(crate) fn settled_split(words: &Words, me: &mut Caller, above: u32, way: u32
         content: outline_of(words, me, above),
         changed: true,
     };
-    let way = Held {
+    let child = Held {
         node: way,
         content: outline_of(words, me, way),
         changed: true,
     };
-    Split { parent, way }
+    Step {
+        parent,
+        child,
+        room: Room::Splitting,
+    }
 }
 
 /// Splits a full child under its parent, and lets go of the half that isn't on the way to an
@@ -162,7 +161,7 @@ pub(crate) fn split_child<L: Locking>(
     me: &mut Caller,
     full: &FullChild,
     pc: u64,
-) -> Split
+) -> Step
     requires table { me.old.table ≡ words.now.table }
     requires terms { me.old.log.terms ≡ words.now.terms }
     requires held { HoldsFullChild words.now.terms full.now pc me.old.log.holdings }

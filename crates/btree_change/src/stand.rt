@@ -165,12 +165,7 @@ fn split_full<L: Locking>(
                 child,
                 fresh,
             };
-            let split = split_child(locking, words, me, &full, pc);
-            Ok(Step {
-                parent: split.parent,
-                child: split.way,
-                room: Room::Splitting,
-            })
+            Ok(split_child(locking, words, me, &full, pc))
         }
     }
 }

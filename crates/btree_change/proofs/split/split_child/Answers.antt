@@ -34,4 +34,4 @@ pub returns : goal.returns
 returns g c =
     let halves = written g (goal.at.returns g c).After-write_parts-parts in let done = c.write_parts-parts in let ways = c.ways_of-ways in let last = c.settled_split in
     splits_so halves done.result done.ensures.parts ways.result ways.ensures.way ways.ensures.other c.let_go.new.me c.let_go.ensures
-    c.requires.terms refl last.new.me last.result last.ensures.parent last.ensures.way last.ensures.spells_parent last.ensures.spells_way last.ensures.tells_parent last.ensures.tells_way last.ensures.same last.ensures.holdings
+    c.requires.terms refl last.new.me last.result last.ensures.parent last.ensures.way last.ensures.room last.ensures.spells_parent last.ensures.spells_way last.ensures.tells_parent last.ensures.tells_way last.ensures.same last.ensures.holdings

@@ -14,8 +14,8 @@ is_full-requires-clause-filled g c = child_filled c.args.words.now.terms c.args.
 pub let_go_of-requires-clause-may : goal.let_go_of-requires-clause-may
 let_go_of-requires-clause-may g c = lowest_may _ _ _ (child_lowest c.args.words.now.terms c.args.pc c.args.step (drop 2 c.args.me.now.log.holdings.held) c.args.me.now c.requires.pair c.room_for.new.me c.load_node.result c.load_node.new.me c.in-Err.ensures.0 c.load_node.ensures.tree c.load_node.ensures.log)
 
-pub split_child-split-requires-clause-held : goal.split_child-split-requires-clause-held
-split_child-split-requires-clause-held g c = full_child c.args.words.now.terms c.args.pc c.args.step (drop 2 c.args.me.now.log.holdings.held) c.args.me.now c.requires.pair c.in-Ok-Some.fresh c.room_for.new.me c.requires.terms (subst (λ o. IsRoomFor g.L.Locking.gives_up c.args.pc c.args.me.now c.room_for.new.me (Ok o)) c.in-Ok-Some.field-0-is c.in-Ok-Some.ensures) c.if-not-is_full.ensures c.requires.here c.requires.room
+pub split_child-requires-clause-held : goal.split_child-requires-clause-held
+split_child-requires-clause-held g c = full_child c.args.words.now.terms c.args.pc c.args.step (drop 2 c.args.me.now.log.holdings.held) c.args.me.now c.requires.pair c.in-Ok-Some.fresh c.room_for.new.me c.requires.terms (subst (λ o. IsRoomFor g.L.Locking.gives_up c.args.pc c.args.me.now c.room_for.new.me (Ok o)) c.in-Ok-Some.field-0-is c.in-Ok-Some.ensures) c.if-not-is_full.ensures c.requires.here c.requires.room
 
 pub returns-in-Err-clause-busy : goal.returns-in-Err-clause-busy
 returns-in-Err-clause-busy g c =
@@ -28,7 +28,7 @@ returns-in-Err-clause-cause g c =
     found_still c.in-Err.busy c.args.me.now k1 k3 c.in-Err.ensures.2 (keeps_then k1 k2 k3 (keeps_load c.args.step.child.node 2 c.load_node.result k1 k2 c.load_node.ensures.log) c.let_go_of.ensures.steps.loads)
 
 pub returns-in-Ok-Some-clause-ok : goal.returns-in-Ok-Some-clause-ok
-returns-in-Ok-Some-clause-ok g c = was_split c.args.words.now.terms c.args.pc c.args.step (drop 2 c.args.me.now.log.holdings.held) c.args.me.now c.requires.pair c.in-Ok-Some.fresh c.split_child-split.result c.room_for.new.me c.split_child-split.new.me refl (subst (λ o. IsRoomFor g.L.Locking.gives_up c.args.pc c.args.me.now c.room_for.new.me (Ok o)) c.in-Ok-Some.field-0-is c.in-Ok-Some.ensures) c.split_child-split.ensures
+returns-in-Ok-Some-clause-ok g c = was_split c.args.words.now.terms c.args.pc c.args.step (drop 2 c.args.me.now.log.holdings.held) c.args.me.now c.requires.pair c.in-Ok-Some.fresh c.split_child.result c.room_for.new.me c.split_child.new.me refl (subst (λ o. IsRoomFor g.L.Locking.gives_up c.args.pc c.args.me.now c.room_for.new.me (Ok o)) c.in-Ok-Some.field-0-is c.in-Ok-Some.ensures) c.split_child.ensures
 
 pub returns-in-Ok-None-clause-ok : goal.returns-in-Ok-None-clause-ok
 returns-in-Ok-None-clause-ok g c =
