@@ -96,7 +96,7 @@ module _ (P : Holding → Type 0) (n level : ℕ) (held locks base : List Holdin
 
 module _ (t : Terms) (n level : ℕ) (k : CallerData) (s : HoldsFresh t n level k.log.holdings) (zero_level : level ≡ 0) where
   leaf : HoldsSpineLeaf (IsFreshLock t) n k.log.holdings.held s.base
-  leaf = spine_leaf (IsFreshLock t) n level k.log.holdings.held s.locks s.base s.held s.spine s.fresh zero_level
+  leaf = spine_leaf (IsFreshLock t) n level k.log.holdings.held s.locks s.base s.held s.spine s.each zero_level
 
   leaf_apart : AreApart (leaf.lock ∷ s.base)
   leaf_apart = subst AreApart leaf.parts s.apart
@@ -112,7 +112,7 @@ module _ (t : Terms) (n level : ℕ) (k : CallerData) (s : HoldsFresh t n level 
 
 module _ (t : Terms) (n level : ℕ) (k : CallerData) (s : HoldsFresh t n level k.log.holdings) (some : level ≢ 0) where
   top : HoldsSpineTop (IsFreshLock t) n level k.log.holdings.held s.base
-  top = spine_top (IsFreshLock t) n level k.log.holdings.held s.locks s.base s.held s.spine s.fresh some
+  top = spine_top (IsFreshLock t) n level k.log.holdings.held s.locks s.base s.held s.spine s.each some
 
   apart : AreApart (top.lower ++ (top.lock ∷ s.base))
   apart = subst AreApart top.parts s.apart
@@ -143,7 +143,7 @@ module _ (t : Terms) (n level : ℕ) (k : CallerData) (s : HoldsFresh t n level 
       base = top.lock ∷ s.base;
       held = ap (λ (z : Holdings). z.held) same ∙ top.parts;
       spine = subst (λ c. IsSpine first_child (level - 1) c top.lower) (ap (λ (z : NodeData). first_child 0 (pairs_of z)) is ∙ sym e) top.spine;
-      fresh = top.each;
+      each = top.each;
       apart = subst AreApart (sym (ap (λ (z : Holdings). z.held) same)) s.apart;
     }
 

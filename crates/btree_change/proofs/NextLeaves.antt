@@ -232,7 +232,7 @@ module _ (t : Terms) (x slot : ℕ) (k k1 : CallerData) (next : HoldsNext t x sl
         base = next.base.held;
         held = ap (λ (z : Holdings). z.held) same ∙ next.held;
         spine = subst (λ m. IsSpine first_child m p.child (next.right ∷ next.more)) l (subst (λ (z : Pair). IsSpine first_child next.level z.child (next.right ∷ next.more)) e next.spine);
-        fresh = next.fresh;
+        each = next.fresh;
         apart = subst AreApart (sym (ap (λ (z : Holdings). z.held) same)) next.apart;
       }
 

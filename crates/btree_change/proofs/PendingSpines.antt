@@ -59,37 +59,37 @@ map_settled settled [] all = tt
 map_settled settled (h ∷ hs) all = (all.0, map_settled settled hs all.1)
 
 module _ (t : Terms) (n level : ℕ) (k : CallerData) (p : IsPending t n level k.log.holdings) (zero_level : level ≡ 0) where
-  leaf : HoldsSpineLeaf (IsReadable t) n k.log.holdings.held p.base
-  leaf = spine_leaf (IsReadable t) n level k.log.holdings.held p.locks p.base p.held p.spine p.each zero_level
+  leaf : HoldsSpineLeaf (IsReadable t) n k.log.holdings.held p.spine.base
+  leaf = spine_leaf (IsReadable t) n level k.log.holdings.held p.spine.locks p.spine.base p.spine.held p.spine.spine p.spine.each zero_level
 
-  leaf_far : AllByRecursion (λ (a : Holding). a.node ≢ n) p.base
-  leaf_far = subst (λ m. AllByRecursion (λ (a : Holding). a.node ≢ m) p.base) leaf.at.0 (subst AreApart leaf.parts p.apart).0
+  leaf_far : AllByRecursion (λ (a : Holding). a.node ≢ n) p.spine.base
+  leaf_far = subst (λ m. AllByRecursion (λ (a : Holding). a.node ≢ m) p.spine.base) leaf.at.0 (subst AreApart leaf.parts p.spine.apart).0
 
   pub leaf_inside : n < t.nodes
   leaf_inside = subst (λ m. m < t.nodes) leaf.at.0 leaf.is.within
 
   pub leaf_may : MayRelease n k.log
-  leaf_may = subst (λ o. IsSomeAnd o (λ (h : Holding). IsSome (spelled h.words) × (IsSome h.mark → Differs h → IsTrue (is_lawful k.log None)))) (sym (ap (held_of n) leaf.parts ∙ found_head n leaf.lock p.base leaf.at.0))
+  leaf_may = subst (λ o. IsSomeAnd o (λ (h : Holding). IsSome (spelled h.words) × (IsSome h.mark → Differs h → IsTrue (is_lawful k.log None)))) (sym (ap (held_of n) leaf.parts ∙ found_head n leaf.lock p.spine.base leaf.at.0))
       (subst IsSome (sym leaf.is.spells) refl, λ marked differs. (p.settles k.log refl).0)
 
-  pub leaf_settles : (k' : CallerData) → k' ≡ record k { log = after_node_release n k.log } → LetsGoSettled p.settled p.base level k k'
+  pub leaf_settles : (k' : CallerData) → k' ≡ record k { log = after_node_release n k.log } → LetsGoSettled p.settled p.spine.base level k k'
   leaf_settles k' is =
-      subst (LetsGoSettled p.settled p.base level k) (sym (released_so n k k' (record k.log { holdings = record k.log.holdings { held = map p.settled k.log.holdings.held; out = [] } }) (p.settles k.log refl).1 is)) (record {
+      subst (LetsGoSettled p.settled p.spine.base level k) (sym (released_so n k k' (record k.log { holdings = record k.log.holdings { held = map p.settled k.log.holdings.held; out = [] } }) (p.settles k.log refl).1 is)) (record {
         calls = calls_so k refl refl;
         budget = ap (λ x. record k.log.budget { credit = k.log.budget.credit - x }) (let e : 1 ≡ level + 1 = omega (arith, zero_level) in e);
-        held = ap (λ hs. without_lock n (map p.settled hs)) leaf.parts ∙ without_top p.settled p.keeps n leaf.lock p.base leaf.at.0 leaf_far;
+        held = ap (λ hs. without_lock n (map p.settled hs)) leaf.parts ∙ without_top p.settled p.keeps n leaf.lock p.spine.base leaf.at.0 leaf_far;
         out = refl;
       })
 
 module _ (t : Terms) (n level : ℕ) (k : CallerData) (p : IsPending t n level k.log.holdings) (some : level ≢ 0) where
-  top : HoldsSpineTop (IsReadable t) n level k.log.holdings.held p.base
-  top = spine_top (IsReadable t) n level k.log.holdings.held p.locks p.base p.held p.spine p.each some
+  top : HoldsSpineTop (IsReadable t) n level k.log.holdings.held p.spine.base
+  top = spine_top (IsReadable t) n level k.log.holdings.held p.spine.locks p.spine.base p.spine.held p.spine.spine p.spine.each some
 
-  apart : AreApart (top.lower ++ (top.lock ∷ p.base))
-  apart = subst AreApart top.parts p.apart
+  apart : AreApart (top.lower ++ (top.lock ∷ p.spine.base))
+  apart = subst AreApart top.parts p.spine.apart
 
   found : held_of n k.log.holdings.held ≡ Some top.lock
-  found = ap (held_of n) top.parts ∙ subst (λ m. held_of m (top.lower ++ (top.lock ∷ p.base)) ≡ Some top.lock) top.at.0 (in_mid top.lower top.lock p.base apart)
+  found = ap (held_of n) top.parts ∙ subst (λ m. held_of m (top.lower ++ (top.lock ∷ p.spine.base)) ≡ Some top.lock) top.at.0 (in_mid top.lower top.lock p.spine.base apart)
 
   pub top_inside : n < t.nodes
   top_inside = subst (λ m. m < t.nodes) top.at.0 top.is.within
@@ -97,11 +97,11 @@ module _ (t : Terms) (n level : ℕ) (k : CallerData) (p : IsPending t n level k
   pub may_read_pending : IsSomeAnd (held_of n k.log.holdings.held) (λ z. IsSome (spelled z.words))
   may_read_pending = may_read_found n top.is.content top.lock k found top.is.spells
 
-  far : AllByRecursion (λ (a : Holding). a.node ≢ n) p.base
-  far = subst (λ m. AllByRecursion (λ (a : Holding). a.node ≢ m) p.base) top.at.0 (apart_mid top.lower top.lock p.base apart).1
+  far : AllByRecursion (λ (a : Holding). a.node ≢ n) p.spine.base
+  far = subst (λ m. AllByRecursion (λ (a : Holding). a.node ≢ m) p.spine.base) top.at.0 (apart_mid top.lower top.lock p.spine.base apart).1
 
-  settled_all : AllByRecursion (λ (h : Holding). SpellsNode (p.settled h).words (p.settled h).settled) (top.lock ∷ p.base)
-  settled_all = (all_parts (λ (h : Holding). SpellsNode (p.settled h).words (p.settled h).settled) top.lower (top.lock ∷ p.base) (subst (AllByRecursion (λ (h : Holding). SpellsNode (p.settled h).words (p.settled h).settled)) top.parts p.all)).1
+  settled_all : AllByRecursion (λ (h : Holding). SpellsNode (p.settled h).words (p.settled h).settled) (top.lock ∷ p.spine.base)
+  settled_all = (all_parts (λ (h : Holding). SpellsNode (p.settled h).words (p.settled h).settled) top.lower (top.lock ∷ p.spine.base) (subst (AllByRecursion (λ (h : Holding). SpellsNode (p.settled h).words (p.settled h).settled)) top.parts p.all)).1
 
   module _ (k1 : CallerData) (shape : NodeData) (reads : ReadsHeld n k k1 shape) (same : k1.log.holdings ≡ k.log.holdings) where
     is : top.is.content ≡ shape
@@ -125,21 +125,23 @@ module _ (t : Terms) (n level : ℕ) (k : CallerData) (p : IsPending t n level k
       settles = λ v at. p.settles v (at ∙ same);
       keeps = p.keeps;
       all = subst (λ (z : Holdings). AllByRecursion (λ (h : Holding). SpellsNode (p.settled h).words (p.settled h).settled) z.held) (sym same) p.all;
-      locks = top.lower;
-      base = top.lock ∷ p.base;
-      held = ap (λ (z : Holdings). z.held) same ∙ top.parts;
-      spine = subst (λ c. IsSpine first_child (level - 1) c top.lower) (ap (first_child 0) pairs_is ∙ sym e) top.spine;
-      each = top.each;
-      apart = subst AreApart (sym (ap (λ (z : Holdings). z.held) same)) p.apart;
+      spine = record {
+        locks = top.lower;
+        base = top.lock ∷ p.spine.base;
+        held = ap (λ (z : Holdings). z.held) same ∙ top.parts;
+        spine = subst (λ c. IsSpine first_child (level - 1) c top.lower) (ap (first_child 0) pairs_is ∙ sym e) top.spine;
+        each = top.each;
+        apart = subst AreApart (sym (ap (λ (z : Holdings). z.held) same)) p.spine.apart;
+      };
     }
 
-    module _ (child : ℕ) (e : child ≡ first_child 0 (pairs_of shape)) (k2 : CallerData) (below : (spine : IsPending t child (level - 1) k1.log.holdings) → LetsGoSettled spine.settled spine.base (level - 1) k1 k2) where
-      gone : LetsGoSettled p.settled (top.lock ∷ p.base) (level - 1) k1 k2
+    module _ (child : ℕ) (e : child ≡ first_child 0 (pairs_of shape)) (k2 : CallerData) (below : (spine : IsPending t child (level - 1) k1.log.holdings) → LetsGoSettled spine.settled spine.spine.base (level - 1) k1 k2) where
+      gone : LetsGoSettled p.settled (top.lock ∷ p.spine.base) (level - 1) k1 k2
       unfolding pending_below
       gone = below (pending_below child e)
 
       pub top_may : MayRelease n k2.log
-      top_may = subst (λ o. IsSomeAnd o (λ (h : Holding). IsSome (spelled h.words) × (IsSome h.mark → Differs h → IsTrue (is_lawful k2.log None)))) (sym (ap (held_of n) gone.held ∙ found_head n (p.settled top.lock) (map p.settled p.base) (p.keeps top.lock ∙ top.at.0)))
+      top_may = subst (λ o. IsSomeAnd o (λ (h : Holding). IsSome (spelled h.words) × (IsSome h.mark → Differs h → IsTrue (is_lawful k2.log None)))) (sym (ap (held_of n) gone.held ∙ found_head n (p.settled top.lock) (map p.settled p.spine.base) (p.keeps top.lock ∙ top.at.0)))
           (subst IsSome (sym settled_all.0) refl, λ marked differs. absurd (differs settled_all.0))
 
       top_calls : KeepsCalls k k2
@@ -151,13 +153,13 @@ module _ (t : Terms) (n level : ℕ) (k : CallerData) (p : IsPending t n level k
       pub top_table : k2.table ≡ k.table
       top_table = top_calls.caller.table
 
-      pub top_settles : ExchangeLaw → (k3 : CallerData) → k3 ≡ record k2 { log = after_node_release n k2.log } → LetsGoSettled p.settled p.base level k k3
+      pub top_settles : ExchangeLaw → (k3 : CallerData) → k3 ≡ record k2 { log = after_node_release n k2.log } → LetsGoSettled p.settled p.spine.base level k k3
       top_settles law k3 now =
-          let none : settle None k2.log ≡ k2.log = settles_nothing law k2.log (subst (AllByRecursion IsSettled) (sym gone.held) (map_settled p.settled (top.lock ∷ p.base) settled_all)) in
-          subst (LetsGoSettled p.settled p.base level k) (sym (released_so n k2 k3 k2.log none now)) (record {
+          let none : settle None k2.log ≡ k2.log = settles_nothing law k2.log (subst (AllByRecursion IsSettled) (sym gone.held) (map_settled p.settled (top.lock ∷ p.spine.base) settled_all)) in
+          subst (LetsGoSettled p.settled p.spine.base level k) (sym (released_so n k2 k3 k2.log none now)) (record {
             calls = kept_calls_on top_calls (calls_so k2 refl refl);
             budget = ap after_spending (gone.budget ∙ ap (λ (z : Budget). record z { credit = z.credit - (level - 1 + 1) }) steps1.budget)
                 ∙ ap (λ x. record k.log.budget { credit = x }) (let d : (k.log.budget.credit - (level - 1 + 1)) - 1 ≡ k.log.budget.credit - (level + 1) = omega (arith, some) in d);
-            held = ap (without_lock n) gone.held ∙ without_top p.settled p.keeps n top.lock p.base top.at.0 far;
+            held = ap (without_lock n) gone.held ∙ without_top p.settled p.keeps n top.lock p.spine.base top.at.0 far;
             out = gone.out;
           })

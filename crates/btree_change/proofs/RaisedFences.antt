@@ -277,15 +277,17 @@ module _ (t : Terms) (x slot fence : ℕ) (k : CallerData) (next : HoldsNext t x
           settles = settles t x slot fence hs next tree raised lies inside law k4.log.holdings v.lefts' v.rights' w.lock v.held v.left v.right one_top out4 apart4 kept laws;
           keeps = λ h. refl;
           all = settled_all t x slot fence hs next tree raised lies inside law k4.log.holdings v.lefts' v.rights' w.lock v.held v.left v.right one_top out4 apart4 kept;
-          locks = v.rights';
-          base = v.lefts' ++ w.lock ∷ RE;
-          held = base4;
-          spine = spine_rewritten (begins_after fence) first_child l right.child RT v.rights' (subst (λ m. IsSpine first_child m right.child RT) (level_is l l_is) (subst (λ (z : Pair). IsSpine first_child (T.settled.level - 1) z.child RT) (right_is right right_at) (right_spine t x slot fence hs next tree raised lies inside))) v.right;
-          each = readable;
-          apart = apart4;
+          spine = record {
+            locks = v.rights';
+            base = v.lefts' ++ w.lock ∷ RE;
+            held = base4;
+            spine = spine_rewritten (begins_after fence) first_child l right.child RT v.rights' (subst (λ m. IsSpine first_child m right.child RT) (level_is l l_is) (subst (λ (z : Pair). IsSpine first_child (T.settled.level - 1) z.child RT) (right_is right right_at) (right_spine t x slot fence hs next tree raised lies inside))) v.right;
+            each = readable;
+            apart = apart4;
+          };
         }
 
-        pub settled_by : (laws : SettlingLaws) (right : Pair) (right_at : slice_get (pairs_of content) (slot + 1) ≡ Some right) (l : ℕ) (l_is : l ≡ content.level - 1) (k5 : CallerData) → ((spine : IsPending t right.child l k4.log.holdings) → LetsGoSettled spine.settled spine.base l k4 k5) → LetsGoSettled S (v.lefts' ++ w.lock ∷ RE) l k4 k5
+        pub settled_by : (laws : SettlingLaws) (right : Pair) (right_at : slice_get (pairs_of content) (slot + 1) ≡ Some right) (l : ℕ) (l_is : l ≡ content.level - 1) (k5 : CallerData) → ((spine : IsPending t right.child l k4.log.holdings) → LetsGoSettled spine.settled spine.spine.base l k4 k5) → LetsGoSettled S (v.lefts' ++ w.lock ∷ RE) l k4 k5
         unfolding pending
         settled_by laws right right_at l l_is k5 gone = gone (pending laws right right_at l l_is)
 

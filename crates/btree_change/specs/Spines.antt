@@ -110,14 +110,18 @@ pub record LocksSpine (t : Terms) (n level r : ℕ) (u : NodeData) (before after
     pub same : after ≡ record before { held = after.held }
     pub low : (frame : Frame) → place_by_held n before.held ≡ Some frame → u.low ≡ frame.low
 
--- a spine is held in which nothing was stored, and below it more
-pub record HoldsFresh (t : Terms) (n level : ℕ) (holdings : Holdings) : Type 0 where
+-- A spine is held, of whose locks each is such a one, and below it more.
+pub record HoldsSpine (P : Holding → Type 0) (n level : ℕ) (holdings : Holdings) : Type 0 where
   pub locks : List Holding
   pub base : List Holding
   pub held : holdings.held ≡ locks ++ base
   pub spine : IsSpine first_child level n locks
-  pub fresh : AllByRecursion (IsFreshLock t) locks
+  pub each : AllByRecursion P locks
   pub apart : AreApart holdings.held
+
+-- one in which nothing was stored
+abbrev pub HoldsFresh : Terms → ℕ → ℕ → Holdings → Type 0
+HoldsFresh t n level holdings = HoldsSpine (IsFreshLock t) n level holdings
 
 -- What it holds then: the right spine too, in which nothing was stored.
 pub record HoldsNext (t : Terms) (x slot : ℕ) (holdings : Holdings) : Type 0 where
@@ -220,12 +224,7 @@ pub record IsPending (t : Terms) (n level : ℕ) (holdings : Holdings) : Type 0 
       ≡ record v { holdings = record v.holdings { held = map settled v.holdings.held; out = [] } })
   pub keeps : (h : Holding) → (settled h).node ≡ h.node
   pub all : AllByRecursion (λ h. SpellsNode (settled h).words (settled h).settled) holdings.held
-  pub locks : List Holding
-  pub base : List Holding
-  pub held : holdings.held ≡ locks ++ base
-  pub spine : IsSpine first_child level n locks
-  pub each : AllByRecursion (IsReadable t) locks
-  pub apart : AreApart holdings.held
+  pub spine : HoldsSpine (IsReadable t) n level holdings
 
 -- So many locks were let go of with the next version, and all that is still held has settled.
 pub record LetsGoSettled (settled : Holding → Holding) (base : List Holding) (level : ℕ)

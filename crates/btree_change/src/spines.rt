@@ -168,7 +168,7 @@ pub(crate) fn settle_spine<L: Locking>(
     requires spine { IsPending words.now.terms node level me.old.log.holdings }
     requires surplus { level < surplus me.old }
     ensures settled { (spine : IsPending words.now.terms node level me.old.log.holdings)
-        → LetsGoSettled spine.settled spine.base level me.old me.new }
+        → LetsGoSettled spine.settled spine.spine.base level me.old me.new }
     ensures loads { KeepsLoads me.old me.new }
 {
     exchange_decided();
