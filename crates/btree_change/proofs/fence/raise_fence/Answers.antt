@@ -8,7 +8,7 @@ use Rattle.node_store.specs.Holding.{ReadsHeld}
 use Rattle.btree_change.specs.Paths.{StepsOnNodes}
 use Rattle.btree_change.proofs.Descending.{steps_of_read}
 use Rattle.btree_change.proofs.Descents.{steps_of_load}
-use Rattle.btree_change.proofs.Loading.{keeps_load, keeps_read, keeps_then}
+use Rattle.btree_change.proofs.Loading.{keeps_load, keeps_then}
 use Rattle.btree_change.proofs.NextLeaves.{after_inside, may_read_next, top_above, top_is}
 use Rattle.btree_change.proofs.RaisedFences.{content_inner, may_store_top, moves_fence, pending, settled_by, spines3, steps_top, top_most, wrote_so}
 use Rattle.btree_change.proofs.WrittenSpines.{loads_of_write}
@@ -77,4 +77,4 @@ returns-clause-moves g c next raised lies inside = moves_fence c.args.words.now.
     (settled_by c.args.words.now.terms c.args.above.now.node c.args.above.now.slot c.args.fence c.args.me.now next (tree_at c.args.me.now c.read_held-content.new.me c.read_held-content.ensures.holdings c.load_node.ensures.tree) raised lies inside c.read_held-content.new.me c.load_node.new.me c.read_held-content.result c.read_held-content.ensures.reads (ap (λ (z : CallerData). z.log.holdings) c.load_node.ensures.log ∙ c.read_held-content.ensures.holdings) c.write_held.new.me c.set_separator-raised.result c.set_separator-raised.ensures c.write_held.ensures.stores c.write_held.ensures.spells c.write_spines.new.me (wrote_so c.args.words.now.terms c.args.above.now.node c.args.above.now.slot c.args.fence c.args.me.now next (tree_at c.args.me.now c.read_held-content.new.me c.read_held-content.ensures.holdings c.load_node.ensures.tree) raised lies inside c.read_held-content.new.me c.load_node.new.me c.read_held-content.result c.read_held-content.ensures.reads (ap (λ (z : CallerData). z.log.holdings) c.load_node.ensures.log ∙ c.read_held-content.ensures.holdings) c.write_held.new.me c.set_separator-raised.result c.set_separator-raised.ensures c.write_held.ensures.stores c.write_held.ensures.spells c.pair_at-left.result c.pair_after-right.result c.pair_at-left.ensures c.pair_after-right.ensures c.level_below-level.result c.level_below-level.ensures c.write_spines.new.me c.write_spines.ensures.writes) c.move_fence.ensures.change (record { decided = c.exchange_decided.ensures; transfer = c.transfer.ensures.lawful; reached = c.transfer.ensures.reached; widen = c.widen.ensures.lawful; wider = c.widen.ensures.reached }) c.pair_after-right.result c.pair_after-right.ensures c.level_below-level.result c.level_below-level.ensures c.settle_spine.new.me c.settle_spine.ensures.settled)
 
 pub returns-clause-loads : goal.returns-clause-loads
-returns-clause-loads g c = keeps_then c.args.me.now c.write_spines.new.me c.settle_spine.new.me (keeps_then c.args.me.now c.write_held.new.me c.write_spines.new.me (keeps_then c.args.me.now c.load_node.new.me c.write_held.new.me (keeps_then c.args.me.now c.read_held-content.new.me c.load_node.new.me (keeps_read c.args.above.now.node c.args.me.now c.read_held-content.new.me c.read_held-content.result c.read_held-content.ensures.reads) (keeps_load c.args.above.now.node 2 c.load_node.result c.read_held-content.new.me c.load_node.new.me c.load_node.ensures.log)) (loads_of_write c.args.above.now.node c.set_separator-raised.result c.load_node.new.me c.write_held.new.me c.write_held.ensures.stores)) c.write_spines.ensures.same.loads) c.settle_spine.ensures.loads
+returns-clause-loads g c = keeps_then c.args.me.now c.write_spines.new.me c.settle_spine.new.me (keeps_then c.args.me.now c.write_held.new.me c.write_spines.new.me (keeps_then c.args.me.now c.load_node.new.me c.write_held.new.me (keeps_then c.args.me.now c.read_held-content.new.me c.load_node.new.me (steps_of_read c.args.above.now.node c.args.me.now c.read_held-content.new.me c.read_held-content.result c.read_held-content.ensures.reads).loads (keeps_load c.args.above.now.node 2 c.load_node.result c.read_held-content.new.me c.load_node.new.me c.load_node.ensures.log)) (loads_of_write c.args.above.now.node c.set_separator-raised.result c.load_node.new.me c.write_held.new.me c.write_held.ensures.stores)) c.write_spines.ensures.same.loads) c.settle_spine.ensures.loads

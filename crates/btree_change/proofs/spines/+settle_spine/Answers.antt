@@ -1,6 +1,6 @@
 use Rattle.std.proofs.Common.{arith, ◌∙◌}
 use Rattle.btree_change.proofs.Descending.{steps_of_read}
-use Rattle.btree_change.proofs.Loading.{keeps_read, keeps_then}
+use Rattle.btree_change.proofs.Loading.{keeps_then}
 use Rattle.btree_change.proofs.PendingSpines.{leaf_inside, leaf_may, leaf_settles, loads_of_release, may_read_pending, pending_below, pending_pairs, surplus_below, top_inside, top_may, top_settles, top_surplus, top_table}
 use Rattle.btree_change.proofs.spines.+settle_spine.Goals as goal
 
@@ -56,4 +56,4 @@ pub returns-clause-settled : goal.returns-clause-settled
 returns-clause-settled g t c spine = top_settles c.args.words.now.terms c.args.node c.args.level c.args.me.now spine c.if-level-eq0.false c.read_held-content.new.me c.read_held-content.result c.read_held-content.ensures.reads c.read_held-content.ensures.holdings c.child_at_start-child.result c.child_at_start-child.ensures c.settle_spine.new.me c.settle_spine.ensures.settled c.exchange_decided.ensures c.let_go-2.new.me c.let_go-2.ensures
 
 pub returns-clause-loads : goal.returns-clause-loads
-returns-clause-loads g t c = keeps_then c.args.me.now c.settle_spine.new.me c.let_go-2.new.me (keeps_then c.args.me.now c.read_held-content.new.me c.settle_spine.new.me (keeps_read c.args.node c.args.me.now c.read_held-content.new.me c.read_held-content.result c.read_held-content.ensures.reads) c.settle_spine.ensures.loads) (loads_of_release c.args.node c.settle_spine.new.me c.let_go-2.new.me c.let_go-2.ensures)
+returns-clause-loads g t c = keeps_then c.args.me.now c.settle_spine.new.me c.let_go-2.new.me (keeps_then c.args.me.now c.read_held-content.new.me c.settle_spine.new.me (steps_of_read c.args.node c.args.me.now c.read_held-content.new.me c.read_held-content.result c.read_held-content.ensures.reads).loads c.settle_spine.ensures.loads) (loads_of_release c.args.node c.settle_spine.new.me c.let_go-2.new.me c.let_go-2.ensures)
