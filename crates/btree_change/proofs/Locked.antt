@@ -1,5 +1,5 @@
 -- A child is locked under its parent, and then a neighbour beside it.
-use Rattle.std.proofs.Common.{◌≡◌, ◌≢◌, ℕ, zero, suc, ◌+◌, ◌-◌, ◌<◌, ◌≤◌, List, [], ◌∷◌, sym, refl, ap, ◌∙◌, subst, arith, Bool, true, false, nat_le, Some, None, IfSome, IsSome, IsSomeAnd, eq-eqb, ne_eqb, Contains, if◌then◌else◌, cond}
+use Rattle.std.proofs.Common.{◌≡◌, ◌≢◌, ℕ, zero, suc, ◌+◌, ◌-◌, ◌<◌, ◌≤◌, List, [], ◌∷◌, sym, refl, ap, ◌∙◌, subst, arith, Bool, true, false, nat_le, Some, None, IsSome, IsSomeAnd, eq-eqb, ne_eqb, Contains, if◌then◌else◌, cond}
 use Rattle.std.proofs.lemmas.Bool.{leb-true, leb-false}
 use Rattle.std.proofs.lemmas.Option.{none-some, same_Some}
 use Rattle.std.specs.List.{AllByRecursion, slice_get}
@@ -12,7 +12,7 @@ use Rattle.word_rule.specs.CallerData.{CallerData, surplus}
 use Rattle.word_rule.specs.Held.{held_of}
 use Rattle.word_rule.specs.NodeTells.{IsLiveNode}
 use Rattle.word_rule.specs.Spelling.{spelled, SpellsNode}
-use Rattle.word_rule.specs.Steps.{first_mark, mark_at_lock, place_by, place_by_held, place_in}
+use Rattle.word_rule.specs.Steps.{first_mark, mark_at_lock, place_by, place_in}
 use Rattle.word_rule.specs.declared.log.Holding.{Holding}
 use Rattle.word_rule.specs.declared.log.Holdings.{Holdings}
 use Rattle.word_rule.specs.declared.log.LockId.{LockId}
@@ -28,7 +28,7 @@ use Rattle.btree_change.specs.Siblings.{HoldsChild}
 use Rattle.btree_change.specs.declared.descent.Held.{Held}
 use Rattle.btree_change.proofs.Descending.{found_child, steps_of_take, weaken}
 use Rattle.btree_change.proofs.Outlining.{steps_of_loads}
-use Rattle.btree_change.proofs.Lowering.{settled_live}
+use Rattle.btree_change.proofs.Lowering.{settled_live, taken_at}
 use Rattle.word_rule.proofs.Each.{all_with}
 use Rattle.btree_change.proofs.NodeSteps.{steps_so, steps_then}
 
@@ -74,43 +74,6 @@ names t n s f c b live there is =
       no_parent = λ lower e. (let same : s.level ≡ b.frame.level = ap (λ (z : Frame). z.level) (sym live.own ∙ (ap live.places (sym e) ∙ frame)) in omega (arith, same, lower));
       place = λ other at same. sym (all_with (λ x. (x.child < t.nodes) × (x.child ≢ 0) × (live.places x.child ≡ x.frame)) (branches (s.level - 1) s) other live.children at).2 ∙ (ap live.places same ∙ frame);
     }
-
--- A node was locked, and its lock is marked with a place.
-pub record IsTakenAt (t : Terms) (c : ℕ) (f : Frame) (before : List Holding) (holdings : Holdings) : Type 0 where
-  pub new : Holding
-  pub content : NodeData
-  pub held : holdings.held ≡ new ∷ before
-  pub here : IsSettledLock t c content false new
-  pub level : content.level ≡ f.level
-  pub low : content.low ≡ f.low
-  pub high : content.high ≡ f.high
-  pub out : holdings.out ≡ []
-
-pub taken_at : (t : Terms) (c : ℕ) (f : Frame) (before : List Holding) (k k' : CallerData) → k.log.terms ≡ t → k.log.holdings.held ≡ before → k.log.holdings.out ≡ [] → c ≢ 0 → place_by_held c before ≡ Some f → Locks (lock.Node c) k k' → IsTakenAt t c f before k'.log.holdings
-taken_at t c f before k k' terms held out some placed (more, marks, nodes, version, settled, words, (tries, taken, is)) =
-    subst (λ (z : CallerData). IsTakenAt t c f before z.log.holdings) (sym is) (record {
-      new = record { node = c; version = version; settled = settled; words = words; stored = false; mark = mark_at_lock c settled k.log.holdings.held };
-      content = settled;
-      held = ap (λ hs. record { node = c; version = version; settled = settled; words = words; stored = false; mark = mark_at_lock c settled k.log.holdings.held } ∷ hs) held;
-      here = record {
-        node = refl;
-        settled = refl;
-        spells = taken.spells;
-        stored = refl;
-        marked = subst IsSome (sym mark_is) refl;
-        live = subst (λ o. IfSome o (IsLiveNode t c settled)) (sym mark_is) live;
-      };
-      level = live.placed.0;
-      low = live.placed.1;
-      high = live.placed.2;
-      out = out;
-    })
-  where
-    mark_is : mark_at_lock c settled k.log.holdings.held ≡ Some f
-    mark_is = rw (ne_eqb c 0 some) (ap (place_by_held c) held ∙ placed)
-
-    live : IsLiveNode t c settled f
-    live = subst (λ z. IsLiveNode z c settled f) terms (subst (λ o. IfSome o (IsLiveNode k.log.terms c settled)) mark_is taken.live)
 
 pub by_parent : (t : Terms) (n c : ℕ) (s : NodeData) (changed : Bool) (h : Holding) (b : Branch) → IsSettledLock t n s changed h → Names t n s c b → place_by c h.mark h ≡ Some b.frame
 by_parent t n c s changed h b lock named =

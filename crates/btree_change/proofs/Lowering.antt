@@ -1,5 +1,5 @@
 -- From a node that is held down to its child for an address.
-use Rattle.std.proofs.Common.{◌≡◌, ℕ, ◌-◌, ◌<◌, [], ◌∷◌, drop, sym, refl, ap, ◌∙◌, subst, arith, Bool, false, true≢false, Option, Some, None, IfSome, IsSome, IsSomeAnd, eq-eqb, ne_eqb, cond, if◌then◌else◌}
+use Rattle.std.proofs.Common.{◌≡◌, ◌≢◌, ℕ, ◌-◌, ◌<◌, List, [], ◌∷◌, drop, sym, refl, ap, ◌∙◌, subst, arith, Bool, false, true≢false, Option, Some, None, IfSome, IsSome, IsSomeAnd, eq-eqb, ne_eqb, cond}
 use Rattle.tree_shape.specs.declared.node.Frame.{Frame}
 use Rattle.tree_shape.specs.NodeData.{NodeData, InOrder, IsInFences, IsInner}
 use Rattle.tree_shape.specs.Trees.{branches}
@@ -37,6 +37,46 @@ settled_order t n s changed h c = let own = settled_live t n s changed h c in in
 pub settled_inner : (t : Terms) (n : ℕ) (s : NodeData) (changed : Bool) (h : Holding) → IsSettledLock t n s changed h → 0 < s.level → IsInner s
 settled_inner t n s changed h c above = let own = settled_live t n s changed h c in (is_inner s own.1.1.ordered above).0
 
+pub pair_inner : (t : Terms) (pc : ℕ) (parent child : Held) (above : List Holding) (holdings : Holdings) → HoldsPair t pc parent child above holdings → IsInner parent.content
+pair_inner t pc parent child above holdings pair = settled_inner t parent.node parent.content parent.changed pair.upper pair.parent_is pair.inner
+
+-- A node was locked, and its lock is marked with a place.
+pub record IsTakenAt (t : Terms) (c : ℕ) (f : Frame) (before : List Holding) (holdings : Holdings) : Type 0 where
+  pub new : Holding
+  pub content : NodeData
+  pub held : holdings.held ≡ new ∷ before
+  pub here : IsSettledLock t c content false new
+  pub level : content.level ≡ f.level
+  pub low : content.low ≡ f.low
+  pub high : content.high ≡ f.high
+  pub out : holdings.out ≡ []
+
+pub taken_at : (t : Terms) (c : ℕ) (f : Frame) (before : List Holding) (k k' : CallerData) → k.log.terms ≡ t → k.log.holdings.held ≡ before → k.log.holdings.out ≡ [] → c ≢ 0 → place_by_held c before ≡ Some f → Locks (lock.Node c) k k' → IsTakenAt t c f before k'.log.holdings
+taken_at t c f before k k' terms held out some placed (more, marks, nodes, version, settled, words, (tries, taken, is)) =
+    subst (λ (z : CallerData). IsTakenAt t c f before z.log.holdings) (sym is) (record {
+      new = record { node = c; version = version; settled = settled; words = words; stored = false; mark = mark_at_lock c settled k.log.holdings.held };
+      content = settled;
+      held = ap (λ hs. record { node = c; version = version; settled = settled; words = words; stored = false; mark = mark_at_lock c settled k.log.holdings.held } ∷ hs) held;
+      here = record {
+        node = refl;
+        settled = refl;
+        spells = taken.spells;
+        stored = refl;
+        marked = subst IsSome (sym mark_is) refl;
+        live = subst (λ o. IfSome o (IsLiveNode t c settled)) (sym mark_is) live;
+      };
+      level = live.placed.0;
+      low = live.placed.1;
+      high = live.placed.2;
+      out = out;
+    })
+  where
+    mark_is : mark_at_lock c settled k.log.holdings.held ≡ Some f
+    mark_is = rw (ne_eqb c 0 some) (ap (place_by_held c) held ∙ placed)
+
+    live : IsLiveNode t c settled f
+    live = subst (λ z. IsLiveNode z c settled f) terms (subst (λ o. IfSome o (IsLiveNode k.log.terms c settled)) mark_is taken.live)
+
 -- A child was locked.
 module _ (t : Terms) (at : Held) (pc c : ℕ) (k k1 : CallerData) (terms : k.log.terms ≡ t) (stands : StandsAt t at k.log.holdings) (inner : 0 < at.content.level) (leads : HasChildFor at.content pc c) (locks : Locks (lock.Node c) k k1) where
   own : (f : Frame) × ((stands.lock.mark ≡ Some f) × IsLiveNode t at.node at.content f)
@@ -45,43 +85,19 @@ module _ (t : Terms) (at : Held) (pc c : ℕ) (k k1 : CallerData) (terms : k.log
   child : IsChildOf t at.node at.content pc c
   child = child_of t at.node at.content own.0 pc c own.1.1 inner leads
 
-  pub record IsTaken : Type 0 where
-    pub new : Holding
-    pub content : NodeData
-    pub held : k1.log.holdings.held ≡ new ∷ stands.lock ∷ stands.above
-    pub here : IsSettledLock t c content false new
-    pub inside : IsInFences pc content
-    pub less : content.level < at.content.level
-    pub out : k1.log.holdings.out ≡ []
+  by_lock : place_by_held c (stands.lock ∷ stands.above) ≡ Some child.frame
+  by_lock =
+      let e : place_by c stands.lock.mark stands.lock ≡ Some child.frame = ap (λ o. place_by c o stands.lock) own.1.0 ∙ (ap (λ z. place_in c (branches (z.level - 1) z)) stands.here.settled ∙ child.placed) in
+      ap (λ o. first_mark o (place_by_held c stands.above)) e
 
-  pub taken : IsTaken
-  taken = go locks
-    where
-      by_lock : place_by_held c (stands.lock ∷ stands.above) ≡ Some child.frame
-      by_lock =
-          let e : place_by c stands.lock.mark stands.lock ≡ Some child.frame = ap (λ o. place_by c o stands.lock) own.1.0 ∙ (ap (λ z. place_in c (branches (z.level - 1) z)) stands.here.settled ∙ child.placed) in
-          ap (λ o. first_mark o (place_by_held c stands.above)) e
+  taken : IsTakenAt t c child.frame (stands.lock ∷ stands.above) k1.log.holdings
+  taken = taken_at t c child.frame (stands.lock ∷ stands.above) k k1 terms stands.held stands.out child.never_root by_lock locks
 
-      go : Locks (lock.Node c) k k1 → IsTaken
-      go (more, marks, nodes, version, settled, words, (tries, taken, is)) =
-          let mark_is : mark_at_lock c settled k.log.holdings.held ≡ Some child.frame = ap (λ b. if b then Some (record { level = settled.level; low = settled.low; high = settled.high }) else place_by_held c k.log.holdings.held) (ne_eqb c 0 child.never_root) ∙ (ap (place_by_held c) stands.held ∙ by_lock) in
-          let live : IsLiveNode t c settled child.frame = subst (λ z. IsLiveNode z c settled child.frame) terms (subst (λ o. IfSome o (IsLiveNode k.log.terms c settled)) mark_is taken.live) in
-          let new : Holding = record { node = c; version = version; settled = settled; words = words; stored = false; mark = mark_at_lock c settled k.log.holdings.held } in record {
-            new = new;
-            content = settled;
-            held = ap (λ (z : CallerData). z.log.holdings.held) is ∙ ap (λ hs. new ∷ hs) stands.held;
-            here = record {
-              node = refl;
-              settled = refl;
-              spells = taken.spells;
-              stored = refl;
-              marked = subst IsSome (sym mark_is) refl;
-              live = subst (λ o. IfSome o (IsLiveNode t c settled)) (sym mark_is) live;
-            };
-            inside = (let a = live.placed.1 in let b = live.placed.2 in let l = child.low in let h = child.high in (omega (arith, a, l), omega (arith, b, h)));
-            less = (let a = live.placed.0 in let l = child.level in omega (arith, a, l, inner));
-            out = ap (λ (z : CallerData). z.log.holdings.out) is ∙ stands.out;
-          }
+  inside : IsInFences pc taken.content
+  inside = let a = taken.low in let b = taken.high in let l = child.low in let h = child.high in (omega (arith, a, l), omega (arith, b, h))
+
+  less : taken.content.level < at.content.level
+  less = let a = taken.level in let l = child.level in omega (arith, a, l, inner)
 
   found : held_of c k1.log.holdings.held ≡ Some taken.new
   found = ap (held_of c) taken.held ∙ ap (λ b. cond b (Some taken.new) (held_of c (stands.lock ∷ stands.above))) (eq-eqb taken.new.node c taken.here.node)
@@ -101,12 +117,12 @@ module _ (t : Terms) (at : Held) (pc c : ℕ) (k k1 : CallerData) (terms : k.log
           child_is = subst (λ s. IsSettledLock t c s false taken.new) is taken.here;
           parent_is = stands.here;
           leads = leads;
-          here = subst (IsInFences pc) is taken.inside;
+          here = subst (IsInFences pc) is inside;
           inner = inner;
           higher = subst (AreHigher t at.content.level) (sym (ap (drop 1) stands.held)) stands.higher;
           out = ap (λ (hs : Holdings). hs.out) same ∙ taken.out;
         },
-        subst (λ (z : NodeData). z.level < at.content.level) is taken.less,
+        subst (λ (z : NodeData). z.level < at.content.level) is less,
       )
 
   pub steps_lowered : (k2 : CallerData) → OnlyLoads k1 k2 → StepsOnNodes k k2

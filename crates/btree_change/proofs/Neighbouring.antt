@@ -27,10 +27,10 @@ use Rattle.btree_change.specs.declared.sibling.Child.{Child}
 use Rattle.btree_change.specs.declared.sibling.Siblings.{Siblings}
 use Rattle.btree_change.specs.declared.descent.Held.{Held}
 use Rattle.btree_change.proofs.Joining.{inside_of}
-use Rattle.btree_change.proofs.Locked.{IsTakenAt, branch_at, by_parent, names, none_named, read_first, taken_at}
+use Rattle.btree_change.proofs.Locked.{branch_at, by_parent, names, none_named, read_first}
 use Rattle.btree_change.proofs.Mended.{without_low}
 use Rattle.word_rule.proofs.Each.{all_with}
-use Rattle.btree_change.proofs.Lowering.{settled_live}
+use Rattle.btree_change.proofs.Lowering.{IsTakenAt, settled_live, taken_at}
 
 pub siblings_are : (x : Siblings) (above left right : Held) (slot : ℕ) → x.above ≡ above → x.left ≡ left → x.right ≡ right → x.slot ≡ slot → record { above = above; left = left; right = right; slot = slot } ≡ x
 siblings_are x above left right slot a l r e = (λ i. record { above = sym a i; left = sym l i; right = sym r i; slot = sym e i })

@@ -25,7 +25,7 @@ use Rattle.btree_change.proofs.Halved.{split_pair}
 use Rattle.btree_change.proofs.Descents.{steps_of_load}
 use Rattle.btree_change.proofs.NoRoom.{found_cause, no_room_now, same_cause}
 use Rattle.btree_change.proofs.Standing.{lowest_of, stands_below}
-use Rattle.btree_change.proofs.Lowering.{settled_inner, settled_live}
+use Rattle.btree_change.proofs.Lowering.{pair_inner, settled_live}
 use Rattle.btree_change.proofs.Releasing.{IsLowest, left_above}
 use Rattle.btree_change.proofs.Spending.{more_spent, spends_all, spends_one, spends_same, steps_after}
 use Rattle.btree_change.proofs.Settling.{found_first}
@@ -136,27 +136,26 @@ module _ (t : Terms) (pc : ℕ) (step : Step) (above : List Holding) (k : Caller
 
   -- a node is out for the child's last half
   pub full_child : (fresh : ℕ) (k1 : CallerData) → k.log.terms ≡ t → TakesRoom fresh k k1 → IsFull step.child.content.body → IsInFences pc step.parent.content → HasSpace step.parent.content.body → HoldsFullChild t (record { parent = step.parent; child = step.child; fresh = fresh }) pc k1.log.holdings
-  full_child fresh k1 terms takes full here room =
-      let is_inner = settled_inner t step.parent.node step.parent.content step.parent.changed pair.upper pair.parent_is pair.inner in record {
-        parent_within = pair.parent_within;
-        child_within = pair.child_within;
-        fresh_within = subst (λ (z : Terms). fresh < z.nodes) terms takes.within;
-        new = takes.new;
-        lower = pair.lower;
-        upper = pair.upper;
-        rest = above;
-        held = takes.held ∙ ap (λ hs. takes.new ∷ hs) pair.held;
-        out = takes.out ∙ ap (λ ns. fresh ∷ ns) pair.out;
-        free = takes.free;
-        child = pair.child_is;
-        parent = pair.parent_is;
-        higher = pair.higher;
-        leads = pair.leads;
-        here = here;
-        inner = is_inner;
-        room = pairs_room step.parent.content is_inner room;
-        is_full = full;
-      }
+  full_child fresh k1 terms takes full here room = record {
+    parent_within = pair.parent_within;
+    child_within = pair.child_within;
+    fresh_within = subst (λ (z : Terms). fresh < z.nodes) terms takes.within;
+    new = takes.new;
+    lower = pair.lower;
+    upper = pair.upper;
+    rest = above;
+    held = takes.held ∙ ap (λ hs. takes.new ∷ hs) pair.held;
+    out = takes.out ∙ ap (λ ns. fresh ∷ ns) pair.out;
+    free = takes.free;
+    child = pair.child_is;
+    parent = pair.parent_is;
+    higher = pair.higher;
+    leads = pair.leads;
+    here = here;
+    inner = pair_inner t pc step.parent step.child above k.log.holdings pair;
+    room = pairs_room step.parent.content (pair_inner t pc step.parent step.child above k.log.holdings pair) room;
+    is_full = full;
+  }
 
   -- it was split
   pub was_split : (fresh : ℕ) (after : Step) (k1 k2 : CallerData) → above ≡ drop 2 k.log.holdings.held → TakesRoom fresh k k1 → (s : SplitsChild t (record { parent = step.parent; child = step.child; fresh = fresh }) pc after k1 k2) → HasSplit t pc step after k k2
