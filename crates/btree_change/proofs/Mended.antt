@@ -1,10 +1,11 @@
 -- What is held once a change of two children has settled, and all but one of them was let go of or
 -- given back.
-use Rattle.std.proofs.Common.{◌≡◌, ◌≢◌, ℕ, ◌-◌, ◌*◌, ◌<◌, ◌≤◌, true≢false, length, List, [], ◌∷◌, sym, refl, ap, ◌∙◌, subst, arith, Bool, true, false, not, IsTrue, IfSome, IsSome, eq-eqb, ne_eqb, cond}
+use Rattle.std.proofs.Common.{◌≡◌, ◌≢◌, ℕ, ◌-◌, ◌*◌, ◌<◌, ◌≤◌, true≢false, length, List, [], ◌∷◌, sym, refl, ap, ◌∙◌, subst, arith, Bool, true, false, not, IsTrue, Some, IfSome, IsSome, eq-eqb, ne_eqb, cond}
 use Rattle.std.specs.List.{AllByRecursion}
 use Rattle.tree_shape.specs.Changes.{joined}
-use Rattle.tree_shape.specs.NodeData.{NodeData}
+use Rattle.tree_shape.specs.NodeData.{NodeData, frame_of}
 use Rattle.tree_shape.specs.Numbers.{is_among}
+use Rattle.tree_shape.specs.Trees.{Contents}
 use Rattle.word_rule.specs.CallerData.{CallerData, surplus}
 use Rattle.word_rule.specs.Held.{all_but, held_of, without_lock}
 use Rattle.word_rule.specs.NodeTells.{HolderTells, IsHeldNode, IsLiveNode}
@@ -13,12 +14,12 @@ use Rattle.word_rule.specs.Spelling.{SpellsNode}
 use Rattle.word_rule.specs.declared.log.Holding.{Holding}
 use Rattle.word_rule.specs.declared.log.Holdings.{Holdings}
 use Rattle.word_rule.specs.declared.log.Terms.{Terms}
-use Rattle.btree_change.specs.Paths.{StepsOnNodes}
+use Rattle.btree_change.specs.Paths.{IsSettledLock, StepsOnNodes}
 use Rattle.btree_change.specs.Releases.{HaveSettled, LetsGo, MayGo, Spends}
 use Rattle.btree_change.specs.Siblings.{ReturnsNode, HoldsGone, HoldsSiblings, HoldsUnder, IsGoneOrSettled, KeepsOut, LeavesParent, MendsSiblings, both_of}
 use Rattle.node_store.specs.declared.locking.Busy.{Busy}
 use Rattle.btree_change.specs.declared.sibling.Siblings.{Siblings}
-use Rattle.btree_change.proofs.Pairings.{both_all, both_high, here}
+use Rattle.btree_change.proofs.Pairings.{IsNow, both_all, both_high, here}
 use Rattle.btree_change.proofs.Loading.{found_between, none_more}
 use Rattle.btree_change.proofs.Spending.{spends_same, steps_after, surplus_steps}
 use Rattle.btree_change.proofs.HeldLists.{found_head}
@@ -58,6 +59,33 @@ pub record AreSettled (n l : ℕ) (s : NodeData) (holdings : Holdings) : Type 0 
   pub parent_stored : upper.stored ≡ true
   pub out : holdings.out ≡ []
 
+pub settled_as : (n l : ℕ) (s : NodeData) (g : Contents) (h u low upper : Holding) (holdings : Holdings) → IsNow h (g l) low → IsNow u (g n) upper → low.node ≡ l → upper.node ≡ n → g l ≡ s → holdings.held ≡ record low { settled = g l; mark = Some (frame_of (g l)) } ∷ record upper { settled = g n; mark = Some (frame_of (g n)) } ∷ [] → holdings.out ≡ [] → AreSettled n l s holdings
+settled_as n l s g h u low upper holdings now above node parent is held out = record {
+  lower = record low { settled = g l; mark = Some (frame_of (g l)) };
+  upper = record upper { settled = g n; mark = Some (frame_of (g n)) };
+  held = held;
+  node = node;
+  settled = is;
+  spells = now.spells;
+  stored = now.stored;
+  marked = refl;
+  parent = parent;
+  parent_spells = above.spells;
+  parent_stored = above.stored;
+  out = out;
+}
+
+-- by what is told of it a lock that has settled is a live node's
+pub live_lock : (t told : Terms) (n : ℕ) (s : NodeData) (h : Holding) → told ≡ t → h.node ≡ n → h.settled ≡ s → SpellsNode h.words h.settled → h.stored ≡ true → IsSome h.mark → IsHeldNode told h → IsSettledLock t n s true h
+live_lock t told n s h terms node settled spells stored marked tells = record {
+  node = node;
+  settled = settled;
+  spells = subst (SpellsNode h.words) settled spells;
+  stored = stored;
+  marked = marked;
+  live = subst (λ m. IfSome h.mark (IsLiveNode t m s)) node (subst (λ z. IfSome h.mark (IsLiveNode t h.node z)) settled (subst (λ z. IfSome h.mark (IsLiveNode z h.node h.settled)) terms tells.live));
+}
+
 -- by a load it is known that it has its place
 pub under_so : (t : Terms) (n l : ℕ) (s : NodeData) (k k' : CallerData) (found : ℕ) → l < t.nodes → l ≢ n → k.log.terms ≡ t → AreSettled n l s k.log.holdings → HolderTells l k.log → k' ≡ record k { log = after_node_load l 2 found k.log } → HoldsUnder t n true (record { node = l; content = s; changed = true }) k'.log.holdings
 under_so t n l s k k' found within no_parent terms a tells loads =
@@ -67,14 +95,7 @@ under_so t n l s k k' found within no_parent terms a tells loads =
       lower = a.lower;
       upper = a.upper;
       held = a.held;
-      here = record {
-        node = a.node;
-        settled = a.settled;
-        spells = subst (SpellsNode a.lower.words) a.settled a.spells;
-        stored = a.stored;
-        marked = a.marked;
-        live = subst (λ m. IfSome a.lower.mark (IsLiveNode t m s)) a.node (subst (λ z. IfSome a.lower.mark (IsLiveNode t a.lower.node z)) a.settled (subst (λ z. IfSome a.lower.mark (IsLiveNode z a.lower.node a.lower.settled)) terms own.live));
-      };
+      here = live_lock t k.log.terms l s a.lower terms a.node a.settled a.spells a.stored a.marked own;
       node = a.parent;
       spells = a.parent_spells;
       stored = a.parent_stored;

@@ -14,6 +14,7 @@ use Rattle.tree_shape.proofs.Joins.{Neighbours, neighbours}
 use Rattle.word_rule.specs.CallerData.{CallerData}
 use Rattle.word_rule.specs.Exchange.{exchange, node_of, settle}
 use Rattle.word_rule.specs.Held.{held_of, marked_in, is_marked}
+use Rattle.word_rule.specs.Memory.{updated}
 use Rattle.word_rule.specs.NodeTells.{KnowsTree}
 use Rattle.word_rule.specs.Spelling.{SpellsNode}
 use Rattle.word_rule.specs.declared.log.Holding.{Holding}
@@ -99,15 +100,23 @@ pub record AreThree (l r n : ℕ) : Type 0 where
   pub left_above : l ≢ n
   pub right_above : r ≢ n
 
+-- two children and the node above them
+abbrev pub group_of : Siblings → List ℕ
+group_of x = x.above.node ∷ x.left.node ∷ x.right.node ∷ []
+
+-- What the three nodes held and what they hold once they are written; all others are as they were.
+pub record AreWritten (x : Siblings) (f g : Contents) (low upper high : NodeData) : Type 0 where
+  pub was_left : f x.left.node ≡ x.left.content
+  pub was_above : f x.above.node ≡ x.above.content
+  pub was_right : f x.right.node ≡ x.right.content
+  pub left : g x.left.node ≡ low
+  pub above : g x.above.node ≡ upper
+  pub right : g x.right.node ≡ high
+  pub others : (m : ℕ) → m ≢ x.above.node → m ≢ x.left.node → m ≢ x.right.node → g m ≡ f m
+
 module _ (t : Terms) (x : Siblings) (k : CallerData) (hs : HoldsSiblings t x k.log.holdings) (tree : KnowsTree k.log.holdings) where
-  abbrev n : ℕ
-  n = x.above.node
-
-  abbrev l : ℕ
-  l = x.left.node
-
-  abbrev r : ℕ
-  r = x.right.node
+  abbrev f : Contents
+  f = tree.contents
 
   abbrev p : Pair
   p = pair x.left.node x.left.content.high
@@ -122,125 +131,133 @@ module _ (t : Terms) (x : Siblings) (k : CallerData) (hs : HoldsSiblings t x k.l
   told = both_each (λ (h : Holding). IsSome h.mark → IsTrue (tree.live h.node) × (tree.contents h.node ≡ h.settled)) hs.left_first hs.low hs.high (hs.upper ∷ [])
       (subst (AllByRecursion (λ (h : Holding). IsSome h.mark → IsTrue (tree.live h.node) × (tree.contents h.node ≡ h.settled))) hs.held tree.marked)
 
-  pub left_told : IsTrue (tree.live l) × (tree.contents l ≡ x.left.content)
+  pub left_told : IsTrue (tree.live x.left.node) × (tree.contents x.left.node ≡ x.left.content)
   left_told = let e = told.0 hs.left.marked in (subst (λ m. IsTrue (tree.live m)) hs.left.node e.0, subst (λ m. tree.contents m ≡ hs.low.settled) hs.left.node e.1 ∙ hs.left.settled)
 
-  pub right_told : IsTrue (tree.live r) × (tree.contents r ≡ x.right.content)
+  pub right_told : IsTrue (tree.live x.right.node) × (tree.contents x.right.node ≡ x.right.content)
   right_told = let e = told.1 hs.right.marked in (subst (λ m. IsTrue (tree.live m)) hs.right.node e.0, subst (λ m. tree.contents m ≡ hs.high.settled) hs.right.node e.1 ∙ hs.right.settled)
 
-  pub parent_told : IsTrue (tree.live n) × (tree.contents n ≡ x.above.content)
+  pub parent_told : IsTrue (tree.live x.above.node) × (tree.contents x.above.node ≡ x.above.content)
   parent_told = let e = told.2.0 hs.parent.marked in (subst (λ m. IsTrue (tree.live m)) hs.parent.node e.0, subst (λ m. tree.contents m ≡ hs.upper.settled) hs.parent.node e.1 ∙ hs.parent.settled)
 
-  pub at_slot_is : slice_get (pairs_of (tree.contents n)) x.slot ≡ Some p
+  pub at_slot_is : slice_get (pairs_of (tree.contents x.above.node)) x.slot ≡ Some p
   at_slot_is = ap (λ (s : NodeData). slice_get (pairs_of s) x.slot) parent_told.1 ∙ hs.at
 
-  pub next_slot_is : slice_get (pairs_of (tree.contents n)) (x.slot + 1) ≡ Some q
+  pub next_slot_is : slice_get (pairs_of (tree.contents x.above.node)) (x.slot + 1) ≡ Some q
   next_slot_is = ap (λ (s : NodeData). slice_get (pairs_of s) (x.slot + 1)) parent_told.1 ∙ hs.next
 
-  pub family : Neighbours tree.contents tree.live n x.slot p q
-  family = neighbours tree.contents tree.live tree.lawful.tree n x.slot p q parent_told.0 at_slot_is next_slot_is
+  pub family : Neighbours tree.contents tree.live x.above.node x.slot p q
+  family = neighbours tree.contents tree.live tree.lawful.tree x.above.node x.slot p q parent_told.0 at_slot_is next_slot_is
 
-  abbrev group : List ℕ
-  group = n ∷ l ∷ r ∷ []
+  pub in_n : is_among (group_of x) x.above.node ≡ true
+  in_n = here x.above.node (x.left.node ∷ x.right.node ∷ [])
 
-  pub in_n : is_among group n ≡ true
-  in_n = here n (l ∷ r ∷ [])
+  pub in_l : is_among (group_of x) x.left.node ≡ true
+  in_l = later x.left.node x.above.node (x.left.node ∷ x.right.node ∷ []) (here x.left.node (x.right.node ∷ []))
 
-  pub in_l : is_among group l ≡ true
-  in_l = later l n (l ∷ r ∷ []) (here l (r ∷ []))
+  pub in_r : is_among (group_of x) x.right.node ≡ true
+  in_r = later x.right.node x.above.node (x.left.node ∷ x.right.node ∷ []) (later x.right.node x.left.node (x.right.node ∷ []) (here x.right.node []))
 
-  pub in_r : is_among group r ≡ true
-  in_r = later r n (l ∷ r ∷ []) (later r l (r ∷ []) (here r []))
-
-  pub three : AreThree l r n
+  pub three : AreThree x.left.node x.right.node x.above.node
   three = record {
     left_right = family.different;
     left_above = family.left.no_parent;
     right_above = family.no_parent;
   }
 
+  pub are_written : (low upper high : NodeData) → AreWritten x tree.contents (updated (updated (updated tree.contents x.right.node high) x.above.node upper) x.left.node low) low upper high
+  are_written low upper high = record {
+    was_left = left_told.1;
+    was_above = parent_told.1;
+    was_right = right_told.1;
+    left = rw (eq-eqb x.left.node x.left.node refl) refl;
+    above = rw (ne_eqb x.above.node x.left.node (λ e. three.left_above (sym e)), eq-eqb x.above.node x.above.node refl) refl;
+    right = rw (ne_eqb x.right.node x.left.node (λ e. three.left_right (sym e)), ne_eqb x.right.node x.above.node three.right_above, eq-eqb x.right.node x.right.node refl) refl;
+    others = λ m a b c. rw (ne_eqb m x.left.node b, ne_eqb m x.above.node a, ne_eqb m x.right.node c) refl;
+  }
+
   -- The three locks with other words, where these make a lawful change of the tree.
-  module _ (laws : SettlingLaws) (g : Contents) (reached : List ℕ) (change : IsChangeOf tree.contents tree.live n (n ∷ l ∷ r ∷ []) [] g None reached) (differ : (g n ≢ tree.contents n) × (g l ≢ tree.contents l) × (g r ≢ tree.contents r))
-      (v : Log) (low high upper : Holding) (held : v.holdings.held ≡ both_of hs.left_first low high (upper ∷ [])) (out : v.holdings.out ≡ []) (is_low : IsNow hs.low (g l) low) (is_high : IsNow hs.high (g r) high) (is_upper : IsNow hs.upper (g n) upper)
-      (on : IsTrue (is_among reached n)) where
-    low_node : low.node ≡ l
+  module _ (laws : SettlingLaws) (g : Contents) (reached : List ℕ) (change : IsChangeOf tree.contents tree.live x.above.node (group_of x) [] g None reached) (differ : (g x.above.node ≢ tree.contents x.above.node) × (g x.left.node ≢ tree.contents x.left.node) × (g x.right.node ≢ tree.contents x.right.node))
+      (v : Log) (low high upper : Holding) (held : v.holdings.held ≡ both_of hs.left_first low high (upper ∷ [])) (out : v.holdings.out ≡ []) (is_low : IsNow hs.low (g x.left.node) low) (is_high : IsNow hs.high (g x.right.node) high) (is_upper : IsNow hs.upper (g x.above.node) upper)
+      (on : IsTrue (is_among reached x.above.node)) where
+    low_node : low.node ≡ x.left.node
     low_node = is_low.node ∙ hs.left.node
 
-    high_node : high.node ≡ r
+    high_node : high.node ≡ x.right.node
     high_node = is_high.node ∙ hs.right.node
 
-    upper_node : upper.node ≡ n
+    upper_node : upper.node ≡ x.above.node
     upper_node = is_upper.node ∙ hs.parent.node
 
-    fits : (h' h : Holding) (m : ℕ) → h'.node ≡ m → IsNow h (g m) h' → IsTrue (tree.live m) × (tree.contents m ≡ h.settled) → FitsChange tree.contents tree.live (n ∷ l ∷ r ∷ []) [] g h'
+    fits : (h' h : Holding) (m : ℕ) → h'.node ≡ m → IsNow h (g m) h' → IsTrue (tree.live m) × (tree.contents m ≡ h.settled) → FitsChange tree.contents tree.live (group_of x) [] g h'
     fits h' h m node now tells = record {
       marked = λ _. (subst (λ j. IsTrue (tree.live j)) (sym node) tells.0, ap tree.contents node ∙ (tells.1 ∙ sym now.settled), now.spells ∙ ap (λ j. Some (g j)) (sym node));
       leaves = λ _. now.stored;
       enters = λ e. absurd (true≢false (sym e));
     }
 
-    found_low : held_of l v.holdings.held ≡ Some low
-    found_low = ap (held_of l) held ∙ both_low hs.left_first low high (upper ∷ []) l low_node (λ e. family.different (sym (sym high_node ∙ e)))
+    found_low : held_of x.left.node v.holdings.held ≡ Some low
+    found_low = ap (held_of x.left.node) held ∙ both_low hs.left_first low high (upper ∷ []) x.left.node low_node (λ e. family.different (sym (sym high_node ∙ e)))
 
-    found_high : held_of r v.holdings.held ≡ Some high
-    found_high = ap (held_of r) held ∙ both_high hs.left_first low high (upper ∷ []) r high_node (λ e. family.different (sym low_node ∙ e))
+    found_high : held_of x.right.node v.holdings.held ≡ Some high
+    found_high = ap (held_of x.right.node) held ∙ both_high hs.left_first low high (upper ∷ []) x.right.node high_node (λ e. family.different (sym low_node ∙ e))
 
-    found_upper : held_of n v.holdings.held ≡ Some upper
-    found_upper = ap (held_of n) held ∙ (both_more hs.left_first low high (upper ∷ []) n (λ e. family.left.no_parent (sym low_node ∙ e)) (λ e. family.no_parent (sym high_node ∙ e)) ∙ found_head n upper [] upper_node)
+    found_upper : held_of x.above.node v.holdings.held ≡ Some upper
+    found_upper = ap (held_of x.above.node) held ∙ (both_more hs.left_first low high (upper ∷ []) x.above.node (λ e. family.left.no_parent (sym low_node ∙ e)) (λ e. family.no_parent (sym high_node ∙ e)) ∙ found_head x.above.node upper [] upper_node)
 
     marks : (m : ℕ) (h' h : Holding) (s : NodeData) → held_of m v.holdings.held ≡ Some h' → IsNow h s h' → IsSome h.mark → IsTrue (marked_in v.holdings.held m)
     marks m h' h s found now marked = ap is_marked found ∙ (ap is_some now.mark ∙ marked)
 
     abbrev test : ℕ → Bool
-    test m = is_among (n ∷ l ∷ r ∷ []) m && not (is_among reached m)
+    test m = is_among (group_of x) m && not (is_among reached m)
 
-    low_test : test low.node ≡ not (is_among reached l)
-    low_test = ap test low_node ∙ ap (λ b. b && not (is_among reached l)) in_l
+    low_test : test low.node ≡ not (is_among reached x.left.node)
+    low_test = ap test low_node ∙ ap (λ b. b && not (is_among reached x.left.node)) in_l
 
-    high_test : test high.node ≡ not (is_among reached r)
-    high_test = ap test high_node ∙ ap (λ b. b && not (is_among reached r)) in_r
+    high_test : test high.node ≡ not (is_among reached x.right.node)
+    high_test = ap test high_node ∙ ap (λ b. b && not (is_among reached x.right.node)) in_r
 
     tail : filter test (upper.node ∷ []) ≡ []
-    tail = ap (λ b. cond b (upper.node ∷ []) []) (ap test upper_node ∙ (ap (λ b. is_among (n ∷ l ∷ r ∷ []) n && not b) on ∙ and_no (is_among (n ∷ l ∷ r ∷ []) n)))
+    tail = ap (λ b. cond b (upper.node ∷ []) []) (ap test upper_node ∙ (ap (λ b. is_among (group_of x) x.above.node && not b) on ∙ and_no (is_among (group_of x) x.above.node)))
 
-    filtered : (o : Bool) → filter (λ m. is_among (n ∷ l ∷ r ∷ []) m && not (is_among reached m)) (map node_of (both_of o low high (upper ∷ []))) ≡ both_left o (not (is_among reached l)) (not (is_among reached r)) l r
-    filtered true = two test low.node high.node (not (is_among reached l)) (not (is_among reached r)) l r low_node high_node low_test high_test (upper.node ∷ []) tail
-    filtered false = two test high.node low.node (not (is_among reached r)) (not (is_among reached l)) r l high_node low_node high_test low_test (upper.node ∷ []) tail
+    filtered : (o : Bool) → filter (λ m. is_among (group_of x) m && not (is_among reached m)) (map node_of (both_of o low high (upper ∷ []))) ≡ both_left o (not (is_among reached x.left.node)) (not (is_among reached x.right.node)) x.left.node x.right.node
+    filtered true = two test low.node high.node (not (is_among reached x.left.node)) (not (is_among reached x.right.node)) x.left.node x.right.node low_node high_node low_test high_test (upper.node ∷ []) tail
+    filtered false = two test high.node low.node (not (is_among reached x.right.node)) (not (is_among reached x.left.node)) x.right.node x.left.node high_node low_node high_test low_test (upper.node ∷ []) tail
 
-    pub left_is : left_out (n ∷ l ∷ r ∷ []) reached v.holdings ≡ both_left hs.left_first (not (is_among reached l)) (not (is_among reached r)) l r
-    left_is = (λ i. left_out (n ∷ l ∷ r ∷ []) reached (record v.holdings { held = held i; out = out i })) ∙ filtered hs.left_first
+    pub left_is : left_out (group_of x) reached v.holdings ≡ both_left hs.left_first (not (is_among reached x.left.node)) (not (is_among reached x.right.node)) x.left.node x.right.node
+    left_is = (λ i. left_out (group_of x) reached (record v.holdings { held = held i; out = out i })) ∙ filtered hs.left_first
 
-    few : length (left_out (n ∷ l ∷ r ∷ []) reached v.holdings) ≤ 4
-    few = subst (λ (ms : List ℕ). length ms ≤ 4) (sym left_is) (both_few hs.left_first (not (is_among reached l)) (not (is_among reached r)) l r)
+    few : length (left_out (group_of x) reached v.holdings) ≤ 4
+    few = subst (λ (ms : List ℕ). length ms ≤ 4) (sym left_is) (both_few hs.left_first (not (is_among reached x.left.node)) (not (is_among reached x.right.node)) x.left.node x.right.node)
 
-    pub held_change : IsHeldChange v.holdings tree.contents tree.live n (n ∷ l ∷ r ∷ []) [] g reached
+    pub held_change : IsHeldChange v.holdings tree.contents tree.live x.above.node (group_of x) [] g reached
     held_change = record {
       lawful = tree.lawful;
       dead = λ m e. absurd (true≢false (sym (subst (λ xs. is_among xs m ≡ true) out e)));
       change = change;
-      each = subst (AllByRecursion (FitsChange tree.contents tree.live (n ∷ l ∷ r ∷ []) [] g)) (sym held)
-          (both_all (FitsChange tree.contents tree.live (n ∷ l ∷ r ∷ []) [] g) hs.left_first low high (upper ∷ [])
-          (fits low hs.low l low_node is_low (left_told.0, left_told.1 ∙ sym hs.left.settled))
-          (fits high hs.high r high_node is_high (right_told.0, right_told.1 ∙ sym hs.right.settled))
-          (fits upper hs.upper n upper_node is_upper (parent_told.0, parent_told.1 ∙ sym hs.parent.settled), tt));
+      each = subst (AllByRecursion (FitsChange tree.contents tree.live (group_of x) [] g)) (sym held)
+          (both_all (FitsChange tree.contents tree.live (group_of x) [] g) hs.left_first low high (upper ∷ [])
+          (fits low hs.low x.left.node low_node is_low (left_told.0, left_told.1 ∙ sym hs.left.settled))
+          (fits high hs.high x.right.node high_node is_high (right_told.0, right_told.1 ∙ sym hs.right.settled))
+          (fits upper hs.upper x.above.node upper_node is_upper (parent_told.0, parent_told.1 ∙ sym hs.parent.settled), tt));
       once = subst HeldOnce (sym held) (both_once hs.left_first low high (upper ∷ []) (λ e. family.different (sym low_node ∙ (e ∙ high_node)))
           ((λ e. family.left.no_parent (sym low_node ∙ (sym e ∙ upper_node))), tt)
           ((λ e. family.no_parent (sym high_node ∙ (sym e ∙ upper_node))), tt)
           (tt, tt));
-      group_held = (marks n upper hs.upper (g n) found_upper is_upper hs.parent.marked, (marks l low hs.low (g l) found_low is_low hs.left.marked, (marks r high hs.high (g r) found_high is_high hs.right.marked, tt)));
+      group_held = (marks x.above.node upper hs.upper (g x.above.node) found_upper is_upper hs.parent.marked, (marks x.left.node low hs.low (g x.left.node) found_low is_low hs.left.marked, (marks x.right.node high hs.high (g x.right.node) found_high is_high hs.right.marked, tt)));
       fresh_held = tt;
       differ = (differ.0, (differ.1, (differ.2, tt)));
       lower = ((λ e. absurd (e refl)), ((λ _. (let a = family.left.fits.level in let b = family.left.at in omega (arith, a, b))), ((λ _. (let a = family.fits.level in let b = family.left.at in omega (arith, a, b))), tt)));
       room = few;
     }
 
-    pub settles : settle None v ≡ record v { holdings = record v.holdings { held = both_of hs.left_first (exchange (is_among (n ∷ l ∷ r ∷ [])) (is_among reached) low) (exchange (is_among (n ∷ l ∷ r ∷ [])) (is_among reached) high) (record upper { settled = g n; mark = Some (frame_of (g n)) } ∷ []); out = both_left hs.left_first (not (is_among reached l)) (not (is_among reached r)) l r } }
+    pub settles : settle None v ≡ record v { holdings = record v.holdings { held = both_of hs.left_first (exchange (is_among (group_of x)) (is_among reached) low) (exchange (is_among (group_of x)) (is_among reached) high) (record upper { settled = g x.above.node; mark = Some (frame_of (g x.above.node)) } ∷ []); out = both_left hs.left_first (not (is_among reached x.left.node)) (not (is_among reached x.right.node)) x.left.node x.right.node } }
     settles =
-        settled_after laws v tree.contents tree.live n (n ∷ l ∷ r ∷ []) [] g reached held_change
+        settled_after laws v tree.contents tree.live x.above.node (group_of x) [] g reached held_change
         ∙ (λ i. record v { holdings = record v.holdings { held = lists i; out = left_is i } })
       where
-        lists : map (exchange (is_among (n ∷ l ∷ r ∷ [])) (is_among reached)) v.holdings.held ≡ both_of hs.left_first (exchange (is_among (n ∷ l ∷ r ∷ [])) (is_among reached) low) (exchange (is_among (n ∷ l ∷ r ∷ [])) (is_among reached) high) (record upper { settled = g n; mark = Some (frame_of (g n)) } ∷ [])
-        lists = ap (map (exchange (is_among (n ∷ l ∷ r ∷ [])) (is_among reached))) held
-            ∙ (both_map (exchange (is_among (n ∷ l ∷ r ∷ [])) (is_among reached)) hs.left_first low high (upper ∷ [])
-            ∙ (λ i. both_of hs.left_first (exchange (is_among (n ∷ l ∷ r ∷ [])) (is_among reached) low) (exchange (is_among (n ∷ l ∷ r ∷ [])) (is_among reached) high)
-            (settled_group (n ∷ l ∷ r ∷ []) reached upper (g n) (subst (λ m. is_among (n ∷ l ∷ r ∷ []) m ≡ true) (sym upper_node) in_n) (subst (λ m. is_among reached m ≡ true) (sym upper_node) on) is_upper.spells i ∷ [])))
+        lists : map (exchange (is_among (group_of x)) (is_among reached)) v.holdings.held ≡ both_of hs.left_first (exchange (is_among (group_of x)) (is_among reached) low) (exchange (is_among (group_of x)) (is_among reached) high) (record upper { settled = g x.above.node; mark = Some (frame_of (g x.above.node)) } ∷ [])
+        lists = ap (map (exchange (is_among (group_of x)) (is_among reached))) held
+            ∙ (both_map (exchange (is_among (group_of x)) (is_among reached)) hs.left_first low high (upper ∷ [])
+            ∙ (λ i. both_of hs.left_first (exchange (is_among (group_of x)) (is_among reached) low) (exchange (is_among (group_of x)) (is_among reached) high)
+            (settled_group (group_of x) reached upper (g x.above.node) (subst (λ m. is_among (group_of x) m ≡ true) (sym upper_node) in_n) (subst (λ m. is_among reached m ≡ true) (sym upper_node) on) is_upper.spells i ∷ [])))

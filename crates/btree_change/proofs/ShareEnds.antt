@@ -1,7 +1,8 @@
 -- Even shares of two neighbours of which one is small: how much each gets, and that the fence between
 -- them is another.
-use Rattle.std.proofs.Common.{◌≡◌, ◌≢◌, ℕ, zero, suc, ◌+◌, ◌/◌, ◌<◌, ◌⊎◌, inl, inr, List, [], ◌∷◌, ◌++◌, length, length-append, length-take-le, length-drop, take, sym, refl, subst, arith, Bool, true, false, ◌||◌, IsTrue}
+use Rattle.std.proofs.Common.{◌≡◌, ◌≢◌, ℕ, zero, suc, ◌+◌, ◌/◌, ◌<◌, ◌⊎◌, inl, inr, List, [], ◌∷◌, ◌++◌, length, length-append, length-take-le, length-drop, take, drop, sym, refl, subst, arith, Bool, true, false, ◌||◌, IsTrue}
 use Rattle.std.proofs.lemmas.Bool.{ltb-true}
+use Rattle.std.specs.Prelude.{nat_lt}
 use Rattle.reg_model.specs.declared.span.Member.{Member}
 use Rattle.tree_shape.specs.Changes.{OverfillAs, body_end, both, entries_end, first_part, last_part, pairs_end, size}
 use Rattle.tree_shape.specs.Lawful.{IsOrderedAs}
@@ -19,43 +20,38 @@ one_of : (a b : Bool) → (a || b) ≡ true → (a ≡ true) ⊎ (b ≡ true)
 one_of true b e = inl refl
 one_of false b e = inr e
 
+one_less : (a b least : ℕ) → (nat_lt a least ≡ true) ⊎ (nat_lt b least ≡ true) → (a < least) ⊎ (b < least)
+one_less a b least (inl e) = inl (ltb-true a least e)
+one_less a b least (inr e) = inr (ltb-true b least e)
+
 -- where one of two is small, the left one's half is more or less than it has
 moves : (la lb most least : ℕ) → most < la + lb → least + least < most + 2 → (la < least) ⊎ (lb < least) → ((la + lb) / 2 < la) ⊎ (la < (la + lb) / 2)
 moves la lb most least over few (inl small) = inr (omega (arith, over, few, small))
 moves la lb most least over few (inr small) = inl (omega (arith, over, few, small))
 
 pub share_moves : (a b : Body) → OverfillAs a b → IsTrue (is_small_body a || is_small_body b) → (half_of a b < size a) ⊎ (size a < half_of a b)
-share_moves (Pairs left) (Pairs right) over small = moves (length left) (length right) 15 7 over (omega arith) (by_test (one_of _ _ small))
-  where
-    by_test : (is_small_body (Pairs left) ≡ true) ⊎ (is_small_body (Pairs right) ≡ true) → (length left < 7) ⊎ (length right < 7)
-    by_test (inl e) = inl (ltb-true (length left) 7 e)
-    by_test (inr e) = inr (ltb-true (length right) 7 e)
+share_moves (Pairs left) (Pairs right) over small = moves (length left) (length right) 15 7 over (omega arith) (one_less (length left) (length right) 7 (one_of _ _ small))
 share_moves (Pairs left) (Entries right) over small = absurd over
 share_moves (Pairs left) (Link next) over small = absurd over
 share_moves (Entries left) (Pairs right) over small = absurd over
-share_moves (Entries left) (Entries right) over small = moves (length left) (length right) 10 5 over (omega arith) (by_test (one_of _ _ small))
-  where
-    by_test : (is_small_body (Entries left) ≡ true) ⊎ (is_small_body (Entries right) ≡ true) → (length left < 5) ⊎ (length right < 5)
-    by_test (inl e) = inl (ltb-true (length left) 5 e)
-    by_test (inr e) = inr (ltb-true (length right) 5 e)
+share_moves (Entries left) (Entries right) over small = moves (length left) (length right) 10 5 over (omega arith) (one_less (length left) (length right) 5 (one_of _ _ small))
 share_moves (Entries left) (Link next) over small = absurd over
 share_moves (Link next) b over small = absurd over
 
--- the sizes of the shares
-pub share_sizes : (a b : Body) → OverfillAs a b → (size (first_part (half_of a b) (both a b)) ≡ half_of a b) × (size (last_part (half_of a b) (both a b)) + half_of a b ≡ size a + size b)
-share_sizes (Pairs left) (Pairs right) over =
+half_sizes : {A : Type 0} (left right : List A) → (length (take ((length left + length right) / 2) (left ++ right)) ≡ (length left + length right) / 2) × (length (drop ((length left + length right) / 2) (left ++ right)) + (length left + length right) / 2 ≡ length left + length right)
+half_sizes left right =
     let len = length-append left right in
     let first = length-take-le ((length left + length right) / 2) (left ++ right) (omega (arith, len)) in
     let last = length-drop ((length left + length right) / 2) (left ++ right) in
     (first, omega (arith, last, len))
+
+-- the sizes of the shares
+pub share_sizes : (a b : Body) → OverfillAs a b → (size (first_part (half_of a b) (both a b)) ≡ half_of a b) × (size (last_part (half_of a b) (both a b)) + half_of a b ≡ size a + size b)
+share_sizes (Pairs left) (Pairs right) over = half_sizes left right
 share_sizes (Pairs left) (Entries right) over = absurd over
 share_sizes (Pairs left) (Link next) over = absurd over
 share_sizes (Entries left) (Pairs right) over = absurd over
-share_sizes (Entries left) (Entries right) over =
-    let len = length-append left right in
-    let first = length-take-le ((length left + length right) / 2) (left ++ right) (omega (arith, len)) in
-    let last = length-drop ((length left + length right) / 2) (left ++ right) in
-    (first, omega (arith, last, len))
+share_sizes (Entries left) (Entries right) over = half_sizes left right
 share_sizes (Entries left) (Link next) over = absurd over
 share_sizes (Link next) b over = absurd over
 

@@ -5,9 +5,8 @@ use Rattle.tree_shape.specs.NodeData.{NodeData}
 use Rattle.tree_shape.specs.Numbers.{is_among}
 use Rattle.word_rule.specs.CallerData.{CallerData, surplus}
 use Rattle.word_rule.specs.Held.{all_but, held_of, without_lock}
-use Rattle.word_rule.specs.NodeTells.{HolderTells, IsHeldNode, IsLiveNode}
+use Rattle.word_rule.specs.NodeTells.{HolderTells, IsHeldNode}
 use Rattle.word_rule.specs.Sights.{after_node_load}
-use Rattle.word_rule.specs.Spelling.{SpellsNode}
 use Rattle.word_rule.specs.declared.log.Holdings.{Holdings}
 use Rattle.word_rule.specs.declared.log.Terms.{Terms}
 use Rattle.btree_change.specs.Paths.{StepsOnNodes}
@@ -17,7 +16,7 @@ use Rattle.node_store.specs.declared.locking.Busy.{Busy}
 use Rattle.word_rule.proofs.HeadPlays.{all_but_shorter}
 use Rattle.btree_change.specs.declared.sibling.Siblings.{Siblings}
 use Rattle.btree_change.proofs.Loading.{found_after, found_between, keeps_then}
-use Rattle.btree_change.proofs.Mended.{as_given, as_returned, loaded_none, without_low}
+use Rattle.btree_change.proofs.Mended.{as_given, as_returned, live_lock, loaded_none, without_low}
 use Rattle.btree_change.proofs.Pairings.{both_all, both_low}
 use Rattle.btree_change.proofs.Spending.{spends_same, steps_after, surplus_steps}
 use Rattle.btree_change.proofs.HeldLists.{found_head}
@@ -70,14 +69,7 @@ module _ (x : Siblings) (k : CallerData) (gone : HoldsSunk x k.log.holdings) whe
               within = (omega (arith, within));
               lock = gone.upper;
               held = ap (λ (z : Holdings). z.held) kept ∙ held2;
-              here = record {
-                node = gone.root;
-                settled = gone.content;
-                spells = subst (SpellsNode gone.upper.words) gone.content gone.spells;
-                stored = gone.stored;
-                marked = gone.marked;
-                live = subst (λ m. IfSome gone.upper.mark (IsLiveNode t m (sunk_root x))) gone.root (subst (λ z. IfSome gone.upper.mark (IsLiveNode t gone.upper.node z)) gone.content (subst (λ z. IfSome gone.upper.mark (IsLiveNode z gone.upper.node gone.upper.settled)) terms2 own.live));
-              };
+              here = live_lock t k2.log.terms 0 (sunk_root x) gone.upper terms2 gone.root gone.content gone.spells gone.stored gone.marked own;
               out = ap (λ (z : Holdings). z.out) kept ∙ out2;
             };
             level = hs.level;

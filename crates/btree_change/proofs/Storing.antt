@@ -100,11 +100,11 @@ stored_keeps s n (x ∷ xs) h before above v kind wanted is none far held =
           (steps_so (record k { log = v }) refl refl (none_more v.trace.loads)) (rest.same k);
     })
 
--- A held node was written, and isn't free: its lock, wherever it stands, spells it, and all else is
--- as it was. A word was stored where it spelled something else before.
-pub record IsRewritten (s : NodeData) (h : Holding) (before above : List Holding) (k k' : CallerData) : Type 0 where
+-- A held node was written, and isn't free: its lock, which has this place among those that are held,
+-- spells it, and all else is as it was. A word was stored where it spelled something else before.
+pub record IsWrittenAs (s : NodeData) (h : Holding) (place : Holding → List Holding) (k k' : CallerData) : Type 0 where
   pub lock : Holding
-  pub held : k'.log.holdings.held ≡ before ++ lock ∷ above
+  pub held : k'.log.holdings.held ≡ place lock
   pub node : lock.node ≡ h.node
   pub mark : lock.mark ≡ h.mark
   pub settled : lock.settled ≡ h.settled
@@ -112,6 +112,10 @@ pub record IsRewritten (s : NodeData) (h : Holding) (before above : List Holding
   pub stored : (old : NodeData) → SpellsNode h.words old → old ≢ s → lock.stored ≡ true
   pub out : k'.log.holdings.out ≡ k.log.holdings.out
   pub same : StepsOnNodes k k'
+
+-- its lock stands between others
+abbrev pub IsRewritten : NodeData → Holding → List Holding → List Holding → CallerData → CallerData → Type 0
+IsRewritten s h before above k k' = IsWrittenAs s h (λ lock. before ++ lock ∷ above) k k'
 
 pub rewritten_so : (s : NodeData) (n : ℕ) (h : Holding) (before above : List Holding) (k k' : CallerData) → kind_of_body s.body ≢ 2 → h.node ≡ n → AllByRecursion (λ a. a.node ≢ n) before → AllByRecursion (λ a. a.node ≢ n) above → k.log.holdings.held ≡ before ++ h ∷ above → StoresHeld n s k k' → SpellsHeld n s k'.log
     → IsRewritten s h before above k k'

@@ -1,5 +1,5 @@
 -- Two neighbouring children and their parent are written, whichever of the two was locked first.
-use Rattle.std.proofs.Common.{◌≡◌, ◌≢◌, ℕ, List, [], ◌∷◌, ◌++◌, length, sym, refl, ap, ◌∙◌, arith, Bool, true, false, Some, None, if◌then◌else◌, set, option_map, get_or-set_same, get_or-set_other, length-set}
+use Rattle.std.proofs.Common.{◌≡◌, ◌≢◌, ℕ, List, [], ◌∷◌, length, sym, ap, ◌∙◌, arith, Bool, true, false, Some, None, if◌then◌else◌, set, option_map, get_or-set_same, get_or-set_other, length-set}
 use Rattle.word_rule.proofs.Spells.{reads}
 use Rattle.std.specs.List.{AllByRecursion}
 use Rattle.tree_shape.specs.NodeData.{NodeData, Link}
@@ -10,36 +10,20 @@ use Rattle.word_rule.specs.declared.log.Holding.{Holding}
 use Rattle.node_store.specs.Holding.{SpellsHeld, StoresHeld}
 use Rattle.node_store.specs.Writing.{kind_of_body}
 use Rattle.node_store.proofs.LeafWords.{short_level}
-use Rattle.btree_change.specs.Paths.{StepsOnNodes}
 use Rattle.btree_change.specs.Siblings.{both_of}
-use Rattle.btree_change.proofs.Storing.{IsRewritten, edited_at, rewritten_so}
-
--- A lock in which a node was written, and what is held now.
-pub record IsWrittenAs (s : NodeData) (h : Holding) (place : Holding → List Holding) (k k' : CallerData) : Type 0 where
-  pub lock : Holding
-  pub held : k'.log.holdings.held ≡ place lock
-  pub node : lock.node ≡ h.node
-  pub mark : lock.mark ≡ h.mark
-  pub settled : lock.settled ≡ h.settled
-  pub spells : SpellsNode lock.words s
-  pub stored : (old : NodeData) → SpellsNode h.words old → old ≢ s → lock.stored ≡ true
-  pub out : k'.log.holdings.out ≡ k.log.holdings.out
-  pub same : StepsOnNodes k k'
-
-written_as : (s : NodeData) (h : Holding) (place : Holding → List Holding) (before above : List Holding) (k k' : CallerData) → ((z : Holding) → before ++ z ∷ above ≡ place z) → IsRewritten s h before above k k' → IsWrittenAs s h place k k'
-written_as s h place before above k k' is r = record { lock = r.lock; held = r.held ∙ is r.lock; node = r.node; mark = r.mark; settled = r.settled; spells = r.spells; stored = r.stored; out = r.out; same = r.same }
+use Rattle.btree_change.proofs.Storing.{IsWrittenAs, edited_at, rewritten_so}
 
 pub write_low : (o : Bool) (s : NodeData) (n : ℕ) (low high : Holding) (more : List Holding) (k k' : CallerData) → kind_of_body s.body ≢ 2 → low.node ≡ n → high.node ≢ n → AllByRecursion (λ a. a.node ≢ n) more → k.log.holdings.held ≡ both_of o low high more → StoresHeld n s k k' → SpellsHeld n s k'.log → IsWrittenAs s low (λ z. both_of o z high more) k k'
-write_low true s n low high more k k' kind is far rest held writes spells = written_as s low (λ z. both_of true z high more) [] (high ∷ more) k k' (λ z. refl) (rewritten_so s n low [] (high ∷ more) k k' kind is tt (far, rest) held writes spells)
-write_low false s n low high more k k' kind is far rest held writes spells = written_as s low (λ z. both_of false z high more) (high ∷ []) more k k' (λ z. refl) (rewritten_so s n low (high ∷ []) more k k' kind is (far, tt) rest held writes spells)
+write_low true s n low high more k k' kind is far rest held writes spells = rewritten_so s n low [] (high ∷ more) k k' kind is tt (far, rest) held writes spells
+write_low false s n low high more k k' kind is far rest held writes spells = rewritten_so s n low (high ∷ []) more k k' kind is (far, tt) rest held writes spells
 
 pub write_high : (o : Bool) (s : NodeData) (n : ℕ) (low high : Holding) (more : List Holding) (k k' : CallerData) → kind_of_body s.body ≢ 2 → high.node ≡ n → low.node ≢ n → AllByRecursion (λ a. a.node ≢ n) more → k.log.holdings.held ≡ both_of o low high more → StoresHeld n s k k' → SpellsHeld n s k'.log → IsWrittenAs s high (λ z. both_of o low z more) k k'
-write_high true s n low high more k k' kind is far rest held writes spells = written_as s high (λ z. both_of true low z more) (low ∷ []) more k k' (λ z. refl) (rewritten_so s n high (low ∷ []) more k k' kind is (far, tt) rest held writes spells)
-write_high false s n low high more k k' kind is far rest held writes spells = written_as s high (λ z. both_of false low z more) [] (low ∷ more) k k' (λ z. refl) (rewritten_so s n high [] (low ∷ more) k k' kind is tt (far, rest) held writes spells)
+write_high true s n low high more k k' kind is far rest held writes spells = rewritten_so s n high (low ∷ []) more k k' kind is (far, tt) rest held writes spells
+write_high false s n low high more k k' kind is far rest held writes spells = rewritten_so s n high [] (low ∷ more) k k' kind is tt (far, rest) held writes spells
 
 pub write_upper : (o : Bool) (s : NodeData) (n : ℕ) (low high upper : Holding) (k k' : CallerData) → kind_of_body s.body ≢ 2 → upper.node ≡ n → low.node ≢ n → high.node ≢ n → k.log.holdings.held ≡ both_of o low high (upper ∷ []) → StoresHeld n s k k' → SpellsHeld n s k'.log → IsWrittenAs s upper (λ z. both_of o low high (z ∷ [])) k k'
-write_upper true s n low high upper k k' kind is a b held writes spells = written_as s upper (λ z. both_of true low high (z ∷ [])) (low ∷ high ∷ []) [] k k' (λ z. refl) (rewritten_so s n upper (low ∷ high ∷ []) [] k k' kind is (a, (b, tt)) tt held writes spells)
-write_upper false s n low high upper k k' kind is a b held writes spells = written_as s upper (λ z. both_of false low high (z ∷ [])) (high ∷ low ∷ []) [] k k' (λ z. refl) (rewritten_so s n upper (high ∷ low ∷ []) [] k k' kind is (b, (a, tt)) tt held writes spells)
+write_upper true s n low high upper k k' kind is a b held writes spells = rewritten_so s n upper (low ∷ high ∷ []) [] k k' kind is (a, (b, tt)) tt held writes spells
+write_upper false s n low high upper k k' kind is a b held writes spells = rewritten_so s n upper (high ∷ low ∷ []) [] k k' kind is (b, (a, tt)) tt held writes spells
 
 pub edit_high : (o : Bool) (n : ℕ) (f : Holding → Holding) (low high : Holding) (more : List Holding) → high.node ≡ n → low.node ≢ n → AllByRecursion (λ a. a.node ≢ n) more → edited n f (both_of o low high more) ≡ both_of o low (f high) more
 edit_high true n f low high more is far rest = edited_at n f (low ∷ []) high more is (far, tt) rest
