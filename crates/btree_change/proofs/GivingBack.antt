@@ -1,8 +1,8 @@
 -- The one free node that was taken for the full root is given back; or the root has the highest level.
-use Rattle.std.proofs.Common.{◌≡◌, ◌≢◌, ℕ, ◌+◌, ◌<◌, ◌≤◌, [], ◌∷◌, length, Err, drop, sym, refl, ap, ◌∙◌, subst, arith, Bool, true, not, IsTrue, None, IfSome, inl, inr, append_assoc, append-nil, eq-eqb, if◌then◌else◌}
+use Rattle.std.proofs.Common.{◌≡◌, ◌≢◌, ℕ, ◌+◌, ◌<◌, ◌≤◌, [], ◌∷◌, length, Err, drop, sym, refl, ap, ◌∙◌, subst, arith, Bool, true, not, IsTrue, None, IfSome, inl, inr, append_assoc, eq-eqb, if◌then◌else◌}
 use Rattle.std.proofs.lemmas.Option.{none-some}
 use Rattle.std.specs.List.{AllByRecursion}
-use Rattle.tree_shape.specs.NodeData.{NodeData, IsInFences}
+use Rattle.tree_shape.specs.NodeData.{NodeData}
 use Rattle.tree_shape.specs.Numbers.{is_among}
 use Rattle.word_rule.specs.CallerData.{CallerData}
 use Rattle.word_rule.specs.Held.{all_but, held_of, without_lock}
@@ -28,7 +28,7 @@ use Rattle.btree_change.proofs.Descents.{steps_of_load}
 use Rattle.btree_change.proofs.HeldParts.{AreFar, dropped, place_of_lock}
 use Rattle.btree_change.proofs.Loading.{found_after, found_between, keeps_load, keeps_then, none_left_out}
 use Rattle.btree_change.proofs.NoRoom.{no_room_after, no_room_still}
-use Rattle.btree_change.proofs.Rooms.{found_there, is_full_count}
+use Rattle.btree_change.proofs.Rooms.{found_there, no_room_at}
 use Rattle.btree_change.proofs.Storing.{found_at}
 use Rattle.btree_change.proofs.NodeSteps.{less_release_then, steps_so, steps_then}
 use Rattle.btree_change.proofs.GivenBack.{given_steps, lost_steps}
@@ -101,29 +101,11 @@ highest t root pc k k1 k2 count level h top load1 tells1 load2 tells2 =
       record {
         more = count_event ∷ cause ∷ [];
         loads = ap (λ (z : CallerData). z.log.trace.loads) whole ∙ append_assoc k.log.trace.loads (count_event ∷ []) (cause ∷ []);
-        no_room = record {
-          before = [];
-          count = count_event;
-          between = [];
-          cause = cause;
-          behind = [];
-          in_order = refl;
-          since = refl;
-          node = h.lock;
-          held = found_there root.node k.log.holdings.held h.lock full.found;
-          full = is_full_count t root pc k k1 count full load1 tells1;
-          on_way = subst (IsInFences pc) (sym h.here.settled) h.on_way;
-          last = tt;
-          stores = [];
-          stored = sym (append-nil k.log.trace.stores);
-          unstored = refl;
-          still = refl;
-          shut = inr (
-            ap (λ n. node_place n + 2) h.is_root,
-            sym level_word ∙ (sym (reads h.lock.words root.content h.here.spells).level ∙ top),
-            (h.lock, (found_there root.node k.log.holdings.held h.lock full.found, h.here.node ∙ h.is_root, subst (SpellsNode h.lock.words) (sym h.here.settled) h.here.spells, ap (λ (z : NodeData). z.level) h.here.settled ∙ top)),
-          );
-        };
+        no_room = no_room_at t root pc k k1 count full load1 tells1 [] cause tt refl refl (inr (
+          ap (λ n. node_place n + 2) h.is_root,
+          sym level_word ∙ (sym (reads h.lock.words root.content h.here.spells).level ∙ top),
+          (h.lock, (found_there root.node k.log.holdings.held h.lock full.found, h.here.node ∙ h.is_root, subst (SpellsNode h.lock.words) (sym h.here.settled) h.here.spells, ap (λ (z : NodeData). z.level) h.here.settled ∙ top)),
+        ));
       },
     )
 

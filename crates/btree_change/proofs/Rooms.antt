@@ -6,17 +6,19 @@ use Rattle.reg_model.specs.declared.span.Member.{Member}
 use Rattle.tree_shape.specs.declared.pair.Pair.{Pair}
 use Rattle.tree_shape.specs.NodeData.{NodeData, Body, Pairs, Entries, Link, IsInFences}
 use Rattle.tree_shape.specs.Steps.{IsFull}
+use Rattle.std.specs.List.{AllByRecursion}
 use Rattle.word_rule.specs.CallerData.{CallerData}
 use Rattle.word_rule.specs.Held.{held_of}
 use Rattle.word_rule.specs.Logs.{load_of}
 use Rattle.word_rule.specs.NodeTells.{HeldTells}
-use Rattle.word_rule.specs.Observations.{IsFullBody, IsFullCount}
+use Rattle.word_rule.specs.Observations.{FoundHighest, IsFullBody, IsFullCount}
 use Rattle.word_rule.specs.Places.{HEAD, node_place}
-use Rattle.word_rule.specs.TreeRefusals.{IsCountAt}
+use Rattle.word_rule.specs.TreeRefusals.{FoundNoneFree, HadNoRoom, IsCountAt}
 use Rattle.word_rule.specs.Sights.{after_node_load}
 use Rattle.word_rule.specs.Spelling.{entries_at, is_short, node_word, pairs_at, SpellsNode}
 use Rattle.word_rule.specs.Steps.{mark_at_lock}
 use Rattle.word_rule.specs.declared.log.Holding.{Holding}
+use Rattle.word_rule.specs.declared.log.LoadEvent.{LoadEvent}
 use Rattle.word_rule.specs.declared.log.Terms.{Terms}
 use Rattle.word_rule.proofs.Each.{all_map}
 use Rattle.word_rule.proofs.Spells.{entries_length, pairs_length, reads, spells_free}
@@ -69,6 +71,29 @@ module _ (t : Terms) (full : Held) (pc : ℕ) (k k1 : CallerData) (found : ℕ) 
     subst (λ (z : NodeData). IsFullBody found z.body) (sym h.here.settled) (subst (λ n. IsFullBody n full.content.body) count_is (full_count h.lock.words full.content h.here.spells h.is_full)),
   )
 
+  -- the load behind it that shows that there is no room
+  pub no_room_at : (between : List LoadEvent) (cause : LoadEvent) → AllByRecursion (λ l. ¬ IsCountAt pc l) between → cause.stores ≡ k.log.trace.stores → cause.receipts ≡ length k.log.receipts.own → FoundNoneFree h.lock.node cause ⊎ FoundHighest cause
+      → HadNoRoom pc (length k.log.receipts.own) (load_of k.log (node_place full.node + 5) found ∷ (between ++ cause ∷ []))
+  no_room_at between cause last stores still shut = record {
+    before = [];
+    count = load_of k.log (node_place full.node + 5) found;
+    between = between;
+    cause = cause;
+    behind = [];
+    in_order = refl;
+    since = refl;
+    node = h.lock;
+    held = found_there full.node k.log.holdings.held h.lock h.found;
+    full = is_full_count;
+    on_way = subst (IsInFences pc) (sym h.here.settled) h.on_way;
+    last = last;
+    stores = [];
+    stored = stores ∙ sym (append-nil k.log.trace.stores);
+    unstored = refl;
+    still = still;
+    shut = shut;
+  }
+
   -- lost rounds, and then a head of 0
   pub had_no_room : (lost k' : CallerData) → LosesRounds k1 lost → k' ≡ headed 0 lost → StaysHeld k k' × FoundNoRoom pc k k'
   had_no_room lost k' (more, marks, (none, rounds)) is =
@@ -84,25 +109,7 @@ module _ (t : Terms) (full : Held) (pc : ℕ) (k k1 : CallerData) (found : ℕ) 
         record {
           more = count ∷ (more ++ cause ∷ []);
           loads = ap (λ (z : CallerData). z.log.trace.loads) whole ∙ appended;
-          no_room = record {
-            before = [];
-            count = count;
-            between = more;
-            cause = cause;
-            behind = [];
-            in_order = refl;
-            since = refl;
-            node = h.lock;
-            held = found_there full.node k.log.holdings.held h.lock h.found;
-            full = is_full_count;
-            on_way = subst (IsInFences pc) (sym h.here.settled) h.on_way;
-            last = all_map (λ l. ¬ IsOfCount l) (λ l. ¬ IsCountAt pc l) (λ l no at. no (at.0.node, at.1.1)) more none;
-            stores = [];
-            stored = sym (append-nil k.log.trace.stores);
-            unstored = refl;
-            still = refl;
-            shut = inl (refl, refl, none_or_one h.out);
-          };
+          no_room = no_room_at more cause (all_map (λ l. ¬ IsOfCount l) (λ l. ¬ IsCountAt pc l) (λ l no at. no (at.0.node, at.1.1)) more none) refl refl (inl (refl, refl, none_or_one h.out));
         },
       )
     where
