@@ -52,6 +52,10 @@ pub reaches_same : (t : Terms) (last : ℕ) (s u : NodeData) (o : Option Beyond)
 reaches_same t last s u None a c above node level frame r = ((let e = ap (λ (f : Frame). f.high) frame in let l = r.0 in omega (arith, e, l)), r.1)
 reaches_same t last s u (Some b) a c above node level frame r = ((let e = ap (λ (f : Frame). f.high) frame in let l = r.0 in omega (arith, e, l)), beyond_same t b a c above node level r.1)
 
+-- what has the same frame has the same addresses
+pub split_here : (pc : ℕ) (s after : NodeData) → frame_of after ≡ frame_of s → IsInFences pc s → IsInFences pc after
+split_here pc s after frame (low, high) = let l = ap (λ (f : Frame). f.low) frame in let h = ap (λ (f : Frame). f.high) frame in (omega (arith, l, low), omega (arith, h, high))
+
 module _ (t : Terms) (m : Member) (stand : Stand) (k : CallerData) (stands : StandsOnWay t m stand k.log) where
   abbrev above : List Holding
   above = drop 1 k.log.holdings.held
@@ -81,9 +85,6 @@ module _ (t : Terms) (m : Member) (stand : Stand) (k : CallerData) (stands : Sta
         let reach = reaches_same t m.span.last stand.at.content after.parent.content stand.beyond stands.at.lock s.pair.upper stands.at.above (s.pair.parent_is.node ∙ (s.node ∙ sym stands.at.here.node)) level s.frame stands.reach in
         subst (λ hs. (p : HoldsPair t m.span.first after.parent after.child hs k2.log.holdings) × Reaches t m.span.last after.parent.content stand.beyond p.upper hs) (sym rest)
         (s.pair, subst (λ hs. Reaches t m.span.last after.parent.content stand.beyond s.pair.upper hs) (sym (rest_is ∙ above_is)) reach)
-
-    pub split_here : (after : Step) (k2 : CallerData) → HasSplit t m.span.first step after k1 k2 → IsInFences m.span.first after.parent.content
-    split_here after k2 s = let l = ap (λ (f : Frame). f.low) s.frame in let h = ap (λ (f : Frame). f.high) s.frame in let a = stands.here.0 in let b = stands.here.1 in (omega (arith, l, a), omega (arith, h, b))
 
     -- the child was let go of again, and all else may be
     pub split_path : (k2 : CallerData) → k2.log.holdings.held ≡ drop 1 k1.log.holdings.held → HoldsPath t (kept_node stand.at ∷ kept_above stand.beyond) [] k2.log.holdings

@@ -14,23 +14,29 @@ use Rattle.word_rule.specs.Held.{held_of}
 use Rattle.word_rule.specs.Spelling.{spelled, SpellsNode}
 use Rattle.word_rule.specs.declared.log.Holding.{Holding}
 use Rattle.word_rule.specs.declared.log.Holdings.{Holdings}
+use Rattle.word_rule.specs.Sights.{after_node_load}
 use Rattle.word_rule.specs.declared.log.Log.{Log}
 use Rattle.word_rule.specs.declared.log.Terms.{Terms}
 use Rattle.node_store.specs.Holding.{ReadsHeld, SpellsHeld}
 use Rattle.node_store.specs.Outlines.{IsCountOf, OnlyLoads, loaded}
 use Rattle.node_store.specs.Sights.{after_words}
-use Rattle.node_store.proofs.Outlined.{known}
+use Rattle.node_store.proofs.Outlined.{known, loads_hold}
 use Rattle.btree_change.specs.declared.descent.Held.{Held}
 use Rattle.btree_change.specs.Paths.{StepsOnNodes}
 use Rattle.btree_change.specs.Splits.{HasSpace}
 use Rattle.btree_change.specs.Stands.{StandsAt}
 use Rattle.btree_change.proofs.HeldLists.{found_head}
-use Rattle.btree_change.proofs.NodeSteps.{steps_so}
+use Rattle.btree_change.proofs.Descents.{steps_of_load}
+use Rattle.btree_change.proofs.NodeSteps.{steps_so, steps_then}
 
 -- loads are steps on nodes
 pub steps_of_loads : (k k' : CallerData) → OnlyLoads k k' → StepsOnNodes k k'
 steps_of_loads k k' (more, is) =
     steps_so k is refl (more, refl)
+
+-- a load of a word, and more loads
+pub steps_read : (n at found : ℕ) (k k1 k2 : CallerData) → k1 ≡ record k { log = after_node_load n at found k.log } → OnlyLoads k1 k2 → StepsOnNodes k k2 × (k2.log.holdings ≡ k.log.holdings)
+steps_read n at found k k1 k2 load more = (steps_then k k1 k2 (steps_of_load n at found k k1 load) (steps_of_loads k1 k2 more), loads_hold k1 k2 more ∙ ap (λ (z : CallerData). z.log.holdings) load)
 
 pub loads_then : (k k1 k2 : CallerData) → OnlyLoads k k1 → OnlyLoads k1 k2 → OnlyLoads k k2
 loads_then k k1 k2 (first, a) (more, b) =

@@ -28,17 +28,18 @@ use Rattle.btree_change.specs.declared.stand.Room.{Room}
 use Rattle.btree_change.specs.declared.stand.Room.TheVariants as room
 use Rattle.btree_change.specs.declared.stand.Reach.TheVariants as reach
 use Rattle.btree_change.specs.declared.stand.Stand.{Stand}
-use Rattle.btree_change.specs.Kept.{AreKept, HoldsPath, IsKeptLock}
+use Rattle.btree_change.specs.Kept.{AreKept, HoldsPath, IsKeptLock, LeavesBelow}
 use Rattle.btree_change.specs.Paths.{AreHigher, IsLiveLock, IsSettledLock, StepsOnNodes}
-use Rattle.btree_change.specs.Releases.{HaveSettled, Spends}
+use Rattle.btree_change.specs.Releases.{HaveSettled, LetsGo, Spends}
 use Rattle.btree_change.specs.Spines.{AreApart}
 use Rattle.btree_change.specs.Stands.{HasWayOn, HoldsPair, IsPairFor, IsReach, Reaches, StandsOnWay, StandsAt, kept_above, kept_node, kept_too}
 use Rattle.btree_change.proofs.HeldTrees.{OnTree, apart_with, child, child_frame, inner, on_tree}
+use Rattle.btree_change.proofs.KeptPaths.{kept_gone, none_kept}
 use Rattle.btree_change.proofs.NextLeaves.{higher_marked, higher_spelled}
 use Rattle.btree_change.proofs.NoRoom.{more_loads}
 use Rattle.btree_change.proofs.Outlining.{spells_held}
 use Rattle.btree_change.proofs.Releasing.{IsLowest}
-use Rattle.btree_change.proofs.Spending.{own_same}
+use Rattle.btree_change.proofs.Spending.{own_same, spends_same, steps_after}
 use Rattle.btree_change.proofs.Storing.{found_at}
 use Rattle.node_store.specs.Holding.{SpellsHeld}
 
@@ -305,6 +306,27 @@ module _ (t : Terms) (m : Member) (parent below : Held) (way : Room) (above : Li
 
   still_on : (n : ℕ) (l : CallerData) → Spends n k l → HasWayOn way m.span.first below.content l.log
   still_on n l spent = way_kept way m.span.first below.content k.log l.log (own_same n k l spent) spent.loads.0 spent.loads.1 on
+
+  -- what was held above the two is let go of
+  pub left_with_parent : (l n : CallerData) → StepsOnNodes k l × (l.log.holdings ≡ k.log.holdings) → ((base : List Holding) → HoldsPath t (kept_above so_far) base l.log.holdings → LeavesBelow (length (kept_above so_far)) base l n) → LeavesBelow (length (kept_above so_far)) (pair.lower ∷ pair.upper ∷ []) k n
+  left_with_parent l n (steps, same) goes =
+      let path = above_path t m.span.first m.span.last parent below above k.log.holdings pair tree so_far before in
+      let left = goes (pair.lower ∷ pair.upper ∷ []) (subst (HoldsPath t (kept_above so_far) (pair.lower ∷ pair.upper ∷ [])) (sym same) path) in record {
+        steps = steps_after 0 (length (kept_above so_far)) (length (kept_above so_far)) k l n (omega arith) (spends_same k l steps) left.steps;
+        held = left.held;
+        out = left.out ∙ ap (λ (z : Holdings). z.out) same;
+      }
+
+  -- or the parent, where nothing is held above it
+  pub left_alone : IsReach parent.content m.span.first m.span.last reach.Child → (l n : CallerData) → StepsOnNodes k l × (l.log.holdings ≡ k.log.holdings) → LetsGo parent.node l n → LeavesBelow 1 (pair.lower ∷ []) k n
+  left_alone is l n (steps, same) goes =
+      let none = none_above t m.span.first m.span.last parent below above k.log.holdings pair tree so_far is before in
+      let path = parent_path t m.span.first m.span.last parent below above k.log.holdings pair tree so_far before in
+      let held = subst (HoldsPath t (kept_node parent ∷ kept_above so_far) (pair.lower ∷ [])) (sym same) path in record {
+        steps = steps_after 0 1 1 k l n (omega arith) (spends_same k l steps) goes.steps;
+        held = none_kept t (kept_above so_far) (pair.lower ∷ []) n.log.holdings (ap kept_above none.0) (kept_gone t (kept_node parent) (kept_above so_far) (pair.lower ∷ []) l.log.holdings held l n refl goes);
+        out = goes.out ∙ ap (λ (z : Holdings). z.out) same;
+      }
 
   pub stands_child : IsReach parent.content m.span.first m.span.last reach.Child → (n : ℕ) (l : CallerData) → Spends n k l → l.log.holdings.held ≡ pair.lower ∷ [] → l.log.holdings.out ≡ [] → StandsOnWay t m (record { at = below; beyond = None; room = way }) l.log
   stands_child is n l spent held out = record {

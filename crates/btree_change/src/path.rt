@@ -36,17 +36,13 @@ impl Model for Path {
 }
 
 impl Path {
-    /// No node.
-    pub(crate) fn new() -> Path
-        ensures { result ≡ [] }
+    /// One node.
+    pub(crate) fn of(kept: KeptNode) -> Path
+        ensures { result ≡ kept ∷ [] }
     {
-        let none = KeptNode {
-            node: 0,
-            changed: false,
-        };
         Path {
-            nodes: [none; 12],
-            lowest: 12,
+            nodes: [kept; 12],
+            lowest: 11,
         }
     }
 

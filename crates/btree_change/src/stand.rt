@@ -240,12 +240,10 @@ fn above_both(at: &Held, slot: usize) -> Beyond
     ensures { result
         ≡ record { node = at.now.node; slot = slot; kept = kept_node at.now ∷ [] } }
 {
-    let mut path = Path::new();
-    path.push(kept(at));
     Beyond {
         node: at.node,
         slot,
-        kept: path,
+        kept: Path::of(kept(at)),
     }
 }
 

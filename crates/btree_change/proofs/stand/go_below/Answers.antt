@@ -75,11 +75,7 @@ stand_below-requires-clause-way g c =
     (subst (λ p. HasSplit t p (record { parent = stand.at; child = c.in-Ok.child; room = stand.room }) c.in-Ok-split_if_full.step k1 c.split_if_full.new.me) c.first-pc.ensures.value c.in-Ok-split_if_full.ensures.ok).way
 
 pub stand_below-requires-clause-here : goal.stand_below-requires-clause-here
-stand_below-requires-clause-here g c =
-    let t = c.args.words.now.terms in let m = c.args.member.now in let stand = c.args.stand in let k = c.args.me.now in let k1 = c.lower.new.me in let child = c.in-Ok.child in
-    let pair = subst (λ p. HoldsPair t p stand.at child (drop 1 k.log.holdings.held) k1.log.holdings) c.first-pc.ensures.value c.in-Ok.ensures.ok.0 in
-    let split = subst (λ p. HasSplit t p (record { parent = stand.at; child = child; room = stand.room }) c.in-Ok-split_if_full.step k1 c.split_if_full.new.me) c.first-pc.ensures.value c.in-Ok-split_if_full.ensures.ok in
-    split_here t m stand k c.requires.stands child k1 pair c.in-Ok.ensures.same c.in-Ok.ensures.same.loads c.in-Ok-split_if_full.step c.split_if_full.new.me split
+stand_below-requires-clause-here g c = split_here c.args.member.now.span.first c.args.stand.at.content c.in-Ok-split_if_full.step.parent.content c.in-Ok-split_if_full.ensures.ok.frame c.requires.stands.here
 
 pub stand_below-requires-clause-height : goal.stand_below-requires-clause-height
 stand_below-requires-clause-height g c =

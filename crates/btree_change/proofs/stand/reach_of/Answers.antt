@@ -20,19 +20,16 @@ overflow_add-slot c =
 
 pub returns-then-slot-count-clause-reach : goal.returns-then-slot-count-clause-reach
 returns-then-slot-count-clause-reach c =
-    let parent = c.args.step.now.parent in let pairs = pairs_of parent.content in
-    let p = slot_pair parent.content c.args.member.now.span.first c.requires.inner c.requires.ordered c.requires.here in
+    let s = c.args.step.now.parent.content in let p = slot_pair s c.args.member.now.span.first c.requires.inner c.requires.ordered c.requires.here in
     let high = c.requires.high p.0 p.1 in
-    let slot : c.slot_of-slot.result ≡ slot_for c.args.member.now.span.first pairs = c.slot_of-slot.ensures.first ∙ ap (λ pc. slot_for pc pairs) c.first.ensures.value in
-    let count : c.count.result ≡ length pairs = subst (IsCountOf c.count.result) c.requires.inner c.count.ensures in
-    (p.0, (p.1, omega (arith, high, c.high_of.ensures.high, c.last.ensures.value, c.if-last-high_of.false), slot, omega (arith, count, c.if-slot-count.true)))
+    let count : c.count.result ≡ length (pairs_of s) = subst (IsCountOf c.count.result) c.requires.inner c.count.ensures in
+    (p.0, (p.1, omega (arith, high, c.high_of.ensures.high, c.last.ensures.value, c.if-last-high_of.false), c.slot_of-slot.ensures.first ∙ ap (λ pc. slot_for pc (pairs_of s)) c.first.ensures.value, omega (arith, count, c.if-slot-count.true)))
 
 pub returns-else-slot-count-clause-reach : goal.returns-else-slot-count-clause-reach
 returns-else-slot-count-clause-reach c =
-    let parent = c.args.step.now.parent in let pairs = pairs_of parent.content in
-    let p = slot_pair parent.content c.args.member.now.span.first c.requires.inner c.requires.ordered c.requires.here in
+    let s = c.args.step.now.parent.content in let p = slot_pair s c.args.member.now.span.first c.requires.inner c.requires.ordered c.requires.here in
     let high = c.requires.high p.0 p.1 in
-    let slot : c.slot_of-slot.result ≡ slot_for c.args.member.now.span.first pairs = c.slot_of-slot.ensures.first ∙ ap (λ pc. slot_for pc pairs) c.first.ensures.value in
-    let count : c.count.result ≡ length pairs = subst (IsCountOf c.count.result) c.requires.inner c.count.ensures in
+    let slot : c.slot_of-slot.result ≡ slot_for c.args.member.now.span.first (pairs_of s) = c.slot_of-slot.ensures.first ∙ ap (λ pc. slot_for pc (pairs_of s)) c.first.ensures.value in
+    let count : c.count.result ≡ length (pairs_of s) = subst (IsCountOf c.count.result) c.requires.inner c.count.ensures in
     let inside = c.slot_of-slot.ensures.found in
     (p.0, (p.1, omega (arith, high, c.high_of.ensures.high, c.last.ensures.value, c.if-last-high_of.false), omega (arith, slot, count, inside, c.if-slot-count.false)))
