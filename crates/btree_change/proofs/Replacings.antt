@@ -45,8 +45,9 @@ use Rattle.btree_change.proofs.LeafUpdates.{accepts_so, after_else, after_here, 
 use Rattle.btree_change.proofs.Outlining.{spell_one, spells_read}
 use Rattle.btree_change.proofs.Refusing.{leaf_alone, refuses_so, seen_so}
 use Rattle.btree_change.proofs.Spanned.{paid_same, span_of_base, span_paid, span_there}
+use Rattle.btree_change.proofs.Lowering.{settled_order}
 use Rattle.btree_change.proofs.Storing.{IsRewritten, rewritten_so}
-use Rattle.btree_change.proofs.TakingThere.{cut_alone, cut_spells, cut_steps, cut_tree}
+use Rattle.btree_change.proofs.TakingThere.{cut_alone, cut_leaf, cut_spells, cut_steps, cut_tree}
 use Rattle.btree_change.proofs.Takings.{EntriesAre}
 use Rattle.btree_change.proofs.NodeSteps.{steps_none, steps_then}
 
@@ -183,15 +184,30 @@ module _ (t : Terms) (at : Held) (m : Member) (k k1 k2 : CallerData) (found : �
   pub read_is : content ≡ at.content
   read_is = spell_one at.node content at.content k1.log (spells_read at.node k1 k2 content reads) (cut_spells t at k k1 found alone load)
 
+  pub read_leaf : at.content.level ≡ 0 → IsLeaf content
+  read_leaf level = subst IsLeaf (sym read_is) (cut_leaf t at k k1 found alone load level)
+
+  pub read_ordered : InOrder content
+  read_ordered = subst InOrder (sym read_is) (settled_order t at.node at.content at.changed alone.lock alone.here)
+
+  pub read_has : (old : Member) → at_span m.span (entries_of at.content) ≡ Some old → IsSome (at_span m.span (entries_of content))
+  read_has old has = subst (λ (z : NodeData). IsSome (at_span m.span (entries_of z))) (sym read_is) (subst IsSome (sym has) refl)
+
   pub read_written : (k3 : CallerData) (now : NodeData) → now ≡ paid_leaf m content → StoresHeld at.node now k2 k3 → SpellsHeld at.node now k3.log → IsRewritten (paid_leaf m at.content) read_alone.lock [] [] k2 k3
   read_written k3 now is stores spells =
       let e : now ≡ paid_leaf m at.content = is ∙ ap (paid_leaf m) read_is in
       rewritten_so (paid_leaf m at.content) at.node read_alone.lock [] [] k2 k3 (λ z. omega (arith, z)) read_alone.here.node tt tt read_alone.held
       (subst (λ z. StoresHeld at.node z k2 k3) e stores) (subst (λ z. SpellsHeld at.node z k3.log) e spells)
 
+  pub written_steps : (k3 : CallerData) (now : NodeData) → now ≡ paid_leaf m content → StoresHeld at.node now k2 k3 → SpellsHeld at.node now k3.log → StepsOnNodes k k3
+  written_steps k3 now is stores spells = steps_then k k2 k3 read_steps (read_written k3 now is stores spells).same
+
 -- the payload that the member has already leaves the leaf as it is
-pub paid_leaf_same : (m : Member) (s : NodeData) → IsLeaf s → InOrder s → at_span m.span (entries_of s) ≡ Some m → paid_leaf m s ≡ s
+paid_leaf_same : (m : Member) (s : NodeData) → IsLeaf s → InOrder s → at_span m.span (entries_of s) ≡ Some m → paid_leaf m s ≡ s
 paid_leaf_same m s leaf order has = ap (λ es. record s { body = Entries es }) (paid_same m s.low s.high (entries_of s) (leaf_order s leaf order) has) ∙ ap (λ b. record s { body = b }) (sym leaf)
+
+pub kept_leaf : (t : Terms) (at : Held) (k k1 : CallerData) (found : ℕ) (alone : HoldsAlone t at k.log.holdings) (load : k1 ≡ record k { log = after_node_load at.node 5 found k.log }) (m : Member) → at.content.level ≡ 0 → at_span m.span (entries_of at.content) ≡ Some m → paid_leaf m at.content ≡ at.content
+kept_leaf t at k k1 found alone load m level has = paid_leaf_same m at.content (cut_leaf t at k k1 found alone load level) (settled_order t at.node at.content at.changed alone.lock alone.here) has
 
 -- a member with this payload and this span is this one
 pub is_member : (m old : Member) (es : List Member) → at_span m.span es ≡ Some old → old.payload ≡ m.payload → at_span m.span es ≡ Some m

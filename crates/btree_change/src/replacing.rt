@@ -80,27 +80,8 @@ fn with_payload(words: &Words, me: &mut Caller, leaf: &Held, member: &Member, ol
     words.commit(me, Update::Replace { member: *member })
 }
 
-/// Commits the replacement of a member by itself, for which nothing is stored: its number.
-fn as_it_was(words: &Words, me: &mut Caller, leaf: &Held, member: &Member) -> u32
-    requires call { MayPut words.now member.now 0 me.old }
-    requires alone { HoldsAlone words.now.terms leaf.now me.old.log.holdings }
-    requires level { leaf.now.content.level ≡ 0 }
-    requires here { IsInFences member.now.span.first leaf.now.content }
-    requires held { at_span member.now.span (entries_of leaf.now.content) ≡ Some member.now }
-    requires span { IsSpan member.now.span }
-    ensures { ReplacesMember words.now.terms member.now leaf.now.node member.now.payload result
-        leaf.now.changed me.old me.new }
-{
-    laws::replace();
-    laws::transfer();
-    exchange_decided();
-    // By this load it is known of which tree the leaf is.
-    words.load_node(me, leaf.node, COUNT);
-    words.commit(me, Update::Replace { member: *member })
-}
-
 /// Gives a member the place of the one with its whole span in a held leaf, and commits that: its
-/// number, and whether a word was stored under the leaf's lock.
+/// number, and whether a word was stored under the leaf's lock. For the same payload none is.
 pub(crate) fn replace_in_leaf(
     words: &Words,
     me: &mut Caller,
@@ -118,7 +99,13 @@ pub(crate) fn replace_in_leaf(
         result.1 me.old me.new }
 {
     if old.payload == member.payload {
-        (as_it_was(words, me, leaf, member), leaf.changed)
+        laws::replace();
+        laws::transfer();
+        exchange_decided();
+        // By this load it is known of which tree the leaf is.
+        words.load_node(me, leaf.node, COUNT);
+        let number = words.commit(me, Update::Replace { member: *member });
+        (number, leaf.changed)
     } else {
         (with_payload(words, me, leaf, member, old), true)
     }
