@@ -1,13 +1,14 @@
 -- Nodes that a removal holds below another: a child of it, or two neighbouring children.
 use Rattle.std.specs.Prelude.{◌≡◌, ◌≢◌, ℕ, ◌+◌, ◌<◌, ◌≤◌, Bool, true, false, List, [], ◌∷◌, length}
 use Rattle.std.specs.Prelude.{IsSome, IsTrue, Some, None, nat_lt}
-use Rattle.std.specs.List.{slice_get}
-use Rattle.tree_shape.specs.Changes.{joined, pair}
+use Rattle.std.specs.List.{AllByRecursion, slice_get}
+use Rattle.tree_shape.specs.Changes.{at_slot, joined, pair, swallow_next}
+use Rattle.tree_shape.specs.Lawful.{fewest_pairs}
 use Rattle.tree_shape.specs.NodeData.{NodeData, AreNeighbours, Body, Pairs, Entries, Link}
 use Rattle.tree_shape.specs.NodeData.{IsInFences, pairs_of}
 use Rattle.tree_shape.specs.Numbers.{is_among}
 use Rattle.word_rule.specs.CallerData.{CallerData}
-use Rattle.word_rule.specs.Held.{all_but, without_lock}
+use Rattle.word_rule.specs.Held.{all_but, held_of, without_lock}
 use Rattle.word_rule.specs.Spelling.{SpellsNode}
 use Rattle.word_rule.specs.declared.log.Holding.{Holding}
 use Rattle.word_rule.specs.declared.log.Holdings.{Holdings}
@@ -133,6 +134,16 @@ pub record HoldsGone (t : Terms) (x : Siblings) (holdings : Holdings) : Type 0 w
   pub different : x.left.node ≢ x.right.node
   pub spare : IsSpare x.left.node (joined x.left.content x.right.content)
 
+-- the node above two children has a pair to spare, as the root or below it
+abbrev pub HasPairToSpare : Siblings → Type 0
+HasPairToSpare x = fewest_pairs x.above.node < length (pairs_of x.above.content)
+
+-- the node above two joined children
+abbrev pub joined_above : Siblings → NodeData
+joined_above x = record x.above.content {
+  body = Pairs (at_slot swallow_next x.slot (pairs_of x.above.content));
+}
+
 -- the root in place of its only two children
 abbrev pub sunk_root : Siblings → NodeData
 sunk_root x =
@@ -167,6 +178,12 @@ pub record HoldsSunk (x : Siblings) (holdings : Holdings) : Type 0 where
 abbrev pub IsGoneOrSettled : ℕ → Holding → Type 0
 IsGoneOrSettled n h =
     (h.node ≡ n → h.mark ≡ None) × (h.node ≢ n → SpellsNode h.words h.settled)
+
+-- A node that left the tree may be given back: it is held, and all else that is held has settled.
+pub record MayGiveBack (n : ℕ) (holdings : Holdings) : Type 0 where
+  pub held : IsSome (held_of n holdings.held)
+  pub out : IsTrue (is_among holdings.out n)
+  pub settled : AllByRecursion (IsGoneOrSettled n) holdings.held
 
 -- A node couldn't be put back: it was let go of and stays out, and all else that is held is as it
 -- was.

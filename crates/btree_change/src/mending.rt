@@ -1,21 +1,16 @@
 //! Two neighbouring children of a held node made into one, or given even shares; and the root that
 //! takes the place of its only two.
-ghost use Rattle.std.specs.Prelude.{◌≡◌, ◌+◌, ◌<◌, ◌||◌, true, IsSome, IsTrue, IfOk, IfErr};
+ghost use Rattle.std.specs.Prelude.{◌≡◌, ◌+◌, ◌<◌, ◌||◌, true, IsTrue, IfOk, IfErr};
 ghost use Rattle.std.specs.Prelude.{OnOk, length};
-ghost use Rattle.std.specs.List.{AllByRecursion};
-ghost use Rattle.tree_shape.specs.Changes.{Fit, Overfill, at_slot, joined, swallow_next};
-ghost use Rattle.tree_shape.specs.Lawful.{fewest_pairs};
-ghost use Rattle.tree_shape.specs.NodeData.{IsInFences, Pairs, pairs_of};
-ghost use Rattle.tree_shape.specs.Numbers.{is_among};
+ghost use Rattle.tree_shape.specs.Changes.{Fit, Overfill, joined};
+ghost use Rattle.tree_shape.specs.NodeData.{IsInFences, pairs_of};
 ghost use Rattle.word_rule.specs.CallerData.{surplus};
-ghost use Rattle.word_rule.specs.Held.{held_of};
 ghost use Rattle.btree_change.specs.Paths.{StepsOnNodes};
-ghost use Rattle.btree_change.specs.Siblings.{ReturnsNode, HoldsGone, HoldsSiblings, IsInEither};
-ghost use Rattle.btree_change.specs.Siblings.{KeepsOut, LeavesParent};
 ghost use Rattle.btree_change.specs.Shares.{IsChosen, shares_for};
-ghost use Rattle.btree_change.specs.Siblings.{HoldsSunk, sunk_root};
-ghost use Rattle.btree_change.specs.Siblings.{IsGoneOrSettled, MendsSiblings, SinksRoot};
-ghost use Rattle.btree_change.specs.Siblings.{is_small_body};
+ghost use Rattle.btree_change.specs.Siblings.{HasPairToSpare, HoldsGone, HoldsSiblings, HoldsSunk};
+ghost use Rattle.btree_change.specs.Siblings.{IsInEither, KeepsOut, LeavesParent, MayGiveBack};
+ghost use Rattle.btree_change.specs.Siblings.{MendsSiblings, ReturnsNode, SinksRoot};
+ghost use Rattle.btree_change.specs.Siblings.{is_small_body, joined_above, sunk_root};
 
 use crate::descent::{Held, content_of, let_go_of};
 use crate::sibling::Siblings;
@@ -25,13 +20,29 @@ use word_rule::exchange::exchange_decided;
 use word_rule::places::{FREE, KIND, LEVEL, LINK};
 use word_rule::{Caller, LockId, Words};
 
+/// What two children and the node above them hold.
+fn contents_of(words: &Words, me: &mut Caller, x: &Siblings) -> (Node, Node, Node)
+    requires table { me.old.table ≡ words.now.table }
+    requires held { HoldsSiblings words.now.terms x.now me.old.log.holdings }
+    ensures left { result.0 ≡ x.now.left.content }
+    ensures right { result.1 ≡ x.now.right.content }
+    ensures above { result.2 ≡ x.now.above.content }
+    ensures steps { StepsOnNodes me.old me.new }
+    ensures holdings { me.new.log.holdings ≡ me.old.log.holdings }
+{
+    // By this load it is known that they are three nodes.
+    words.load_node(me, x.right.node, LEVEL);
+    let left = content_of(words, me, &x.left);
+    let right = content_of(words, me, &x.right);
+    let above = content_of(words, me, &x.above);
+    (left, right, above)
+}
+
 /// Gives back a node that is out, where all else that is held has settled.
 fn give_back<L: Locking>(locking: &L, words: &Words, me: &mut Caller, node: u32) -> Result<(), Busy>
     requires table { me.old.table ≡ words.now.table }
     requires inside { node < words.now.terms.nodes }
-    requires held { IsSome (held_of node me.old.log.holdings.held) }
-    requires out { IsTrue (is_among me.old.log.holdings.out node) }
-    requires settled { AllByRecursion (IsGoneOrSettled node) me.old.log.holdings.held }
+    requires may { MayGiveBack node me.old.log.holdings }
     requires surplus { 0 < surplus me.old }
     ensures ok { OnOk result (ReturnsNode node me.old me.new) }
     ensures lost { IfErr result (λ e. KeepsOut node e me.old me.new × (L.gives_up ≡ true)) }
@@ -47,11 +58,9 @@ fn join_into_left(words: &Words, me: &mut Caller, x: &Siblings, content: &Node, 
     requires terms { me.old.log.terms ≡ words.now.terms }
     requires held { HoldsSiblings words.now.terms x.now me.old.log.holdings }
     requires fit { Fit x.now.left.content x.now.right.content }
-    requires spare { fewest_pairs x.now.above.node < length (pairs_of x.now.above.content) }
+    requires spare { HasPairToSpare x.now }
     requires content { content.now ≡ joined x.now.left.content x.now.right.content }
-    requires above { above.now ≡ record x.now.above.content {
-      body = Pairs (at_slot swallow_next x.now.slot (pairs_of x.now.above.content));
-    } }
+    requires above { above.now ≡ joined_above x.now }
     ensures gone { HoldsGone words.now.terms x.now me.new.log.holdings }
     ensures same { StepsOnNodes me.old me.new }
 {
@@ -80,18 +89,14 @@ pub(crate) fn join<L: Locking>(
     requires terms { me.old.log.terms ≡ words.now.terms }
     requires held { HoldsSiblings words.now.terms x.now me.old.log.holdings }
     requires fit { Fit x.now.left.content x.now.right.content }
-    requires spare { fewest_pairs x.now.above.node < length (pairs_of x.now.above.content) }
+    requires spare { HasPairToSpare x.now }
     requires surplus { 1 < surplus me.old }
     ensures mends { IfOk result
         (λ at. MendsSiblings words.now.terms x.now at me.old me.new
         × (at.content ≡ joined x.now.left.content x.now.right.content)) }
     ensures lost { IfErr result (λ e. LeavesParent x.now e me.old me.new × (L.gives_up ≡ true)) }
 {
-    // By this load it is known that they are three nodes.
-    words.load_node(me, x.right.node, LEVEL);
-    let left = content_of(words, me, &x.left);
-    let right = content_of(words, me, &x.right);
-    let parent = content_of(words, me, &x.above);
+    let (left, right, parent) = contents_of(words, me, x);
     let both = join_pair(&left, &right);
     let above = drop_pair(&parent, x.slot);
     join_into_left(words, me, x, &both, &above);
@@ -126,11 +131,7 @@ fn shares_of(words: &Words, me: &mut Caller, x: &Siblings) -> Shares
     ensures steps { StepsOnNodes me.old me.new }
     ensures holdings { me.new.log.holdings ≡ me.old.log.holdings }
 {
-    // By this load it is known that they are three nodes.
-    words.load_node(me, x.right.node, LEVEL);
-    let first = content_of(words, me, &x.left);
-    let last = content_of(words, me, &x.right);
-    let parent = content_of(words, me, &x.above);
+    let (first, last, parent) = contents_of(words, me, x);
     let (left, right) = even_pair(&first, &last);
     let above = set_separator(&parent, x.slot, left.high);
     Shares { left, right, above }
@@ -255,11 +256,7 @@ pub(crate) fn sink<L: Locking>(
         × (at.content ≡ sunk_root x.now)) }
     ensures lost { IfErr result (λ e. LeavesParent x.now e me.old me.new × (L.gives_up ≡ true)) }
 {
-    // By this load it is known that they are three nodes.
-    words.load_node(me, x.right.node, LEVEL);
-    let left = content_of(words, me, &x.left);
-    let right = content_of(words, me, &x.right);
-    let root = content_of(words, me, &x.above);
+    let (left, right, root) = contents_of(words, me, x);
     let sunk = sink_root(&root, &left, &right);
     sink_into_root(words, me, x, &sunk);
     if let Err(busy) = give_back(locking, words, me, x.left.node) {

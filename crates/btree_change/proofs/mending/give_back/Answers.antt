@@ -8,9 +8,9 @@ use Rattle.btree_change.proofs.mending.give_back.Goals as goal
 pub returns-clause-ok : goal.returns-clause-ok
 returns-clause-ok g c =
     let n = c.args.node in let k = c.args.me.now in let k1 = c.give_free.new.me in
-    on_ok (GivesFree n k k1) (ReturnsNode n k k1) c.give_free.result (given_back c.exchange_decided.ensures n k k1 c.requires.settled) c.give_free.ensures.gives
+    on_ok (GivesFree n k k1) (ReturnsNode n k k1) c.give_free.result (given_back c.exchange_decided.ensures n k k1 c.requires.may.settled) c.give_free.ensures.gives
 
 pub returns-clause-lost : goal.returns-clause-lost
 returns-clause-lost g c =
     let n = c.args.node in let k = c.args.me.now in let k1 = c.give_free.new.me in
-    if_err (λ e. LosesNode n e k k1 × (g.L.Locking.gives_up ≡ true)) (λ e. KeepsOut n e k k1 × (g.L.Locking.gives_up ≡ true)) c.give_free.result (λ e l. (kept_out c.exchange_decided.ensures n k k1 c.requires.settled e l.0, l.1)) c.give_free.ensures.lost
+    if_err (λ e. LosesNode n e k k1 × (g.L.Locking.gives_up ≡ true)) (λ e. KeepsOut n e k k1 × (g.L.Locking.gives_up ≡ true)) c.give_free.result (λ e l. (kept_out c.exchange_decided.ensures n k k1 c.requires.may.settled e l.0, l.1)) c.give_free.ensures.lost
