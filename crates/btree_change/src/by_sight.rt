@@ -43,7 +43,7 @@ struct Seen {
     count: u64,
 }
 
-/// What became of one attempt.
+/// What became of an attempt to lock a node that was seen.
 #[derive(Drop)]
 enum Attempt {
     /// This node is held.
@@ -52,8 +52,6 @@ enum Attempt {
     Beyond { level: u32 },
     /// A version was found changed or locked.
     Raced,
-    /// It is the root that has to be locked, by its own way.
-    AtRoot,
 }
 
 /// The greatest number of entries of a leaf, or of pairs of a node above the leaves.
@@ -205,27 +203,6 @@ fn hold_seen<L: Locking>(
     }
 }
 
-/// One attempt to begin, at a node no lower than a level.
-fn try_once<L: Locking>(
-    locking: &L,
-    words: &Words,
-    me: &mut Caller,
-    request: Request,
-    lowest: u64,
-) -> Attempt
-    requires table { me.old.table ≡ words.now.table }
-    requires terms { me.old.log.terms ≡ words.now.terms }
-    requires nothing { HoldsNothing me.old.log.holdings }
-    ensures ends { EndsAttempt words.now.terms request result me.new.log.holdings }
-    ensures same { StepsOnNodes me.old me.new }
-{
-    match seek(words, me, request, lowest) {
-        Ok(Some(seen)) => hold_seen(locking, words, me, seen, request),
-        Ok(None) => Attempt::AtRoot,
-        Err(_) => Attempt::Raced,
-    }
-}
-
 /// Holds the node at which an update may begin, alone. None where that is the root, or where each
 /// attempt found a version changed or locked: then nothing is held.
 pub(crate) fn hold_by_sight<L: Locking>(
@@ -247,11 +224,14 @@ pub(crate) fn hold_by_sight<L: Locking>(
     let pause = Backoff::new();
     let mut lowest = 0;
     for _ in 0..ATTEMPTS {
-        match try_once(locking, words, me, request, lowest) {
-            Attempt::Holds(at) => return Some(at),
-            Attempt::Beyond { level } => lowest = level as u64 + 1,
-            Attempt::Raced => pause.spin(),
-            Attempt::AtRoot => return None,
+        match seek(words, me, request, lowest) {
+            Ok(Some(seen)) => match hold_seen(locking, words, me, seen, request) {
+                Attempt::Holds(at) => return Some(at),
+                Attempt::Beyond { level } => lowest = level as u64 + 1,
+                Attempt::Raced => pause.spin(),
+            },
+            Ok(None) => return None,
+            Err(_) => pause.spin(),
         }
     }
     None

@@ -1,8 +1,8 @@
-use Rattle.std.proofs.Common.{◌∙◌, ap}
+use Rattle.std.proofs.Common.{◌∙◌, IfSome, ap, subst}
 use Rattle.word_rule.specs.CallerData.{CallerData}
+use Rattle.btree_change.specs.BySight.{IsSeenFor}
 use Rattle.btree_change.proofs.BySights.{nothing_still}
 use Rattle.btree_change.proofs.Descents.{steps_of_version}
-use Rattle.btree_change.proofs.NodeSteps.{steps_then}
 use Rattle.btree_change.proofs.by_sight.hold_by_sight.Goals as goal
 
 pub loop-init : goal.loop-init
@@ -12,14 +12,17 @@ loop-init g c =
       nothing = nothing_still k k1 (ap (λ (z : CallerData). z.log.holdings) log) c.requires.nothing;
     }
 
-pub try_once-requires-clause-table : goal.try_once-requires-clause-table
-try_once-requires-clause-table g c = c.loop.invariant.same.calls.caller.table ∙ c.requires.table
+pub seek-requires : goal.seek-requires
+seek-requires g c = record { table = c.loop.invariant.same.calls.caller.table ∙ c.requires.table }
 
-pub try_once-requires-clause-terms : goal.try_once-requires-clause-terms
-try_once-requires-clause-terms g c = c.loop.invariant.same.calls.caller.terms ∙ c.load_version.ensures.tells.0
+pub hold_seen-requires-clause-table : goal.hold_seen-requires-clause-table
+hold_seen-requires-clause-table g c = c.seek.ensures.sees.0.calls.caller.table ∙ (c.loop.invariant.same.calls.caller.table ∙ c.requires.table)
 
-pub returns-in-Holds-clause-same : goal.returns-in-Holds-clause-same
-returns-in-Holds-clause-same g c = steps_then c.args.me.now c.loop.me c.try_once.new.me c.loop.invariant.same c.try_once.ensures.same
+pub hold_seen-requires-clause-terms : goal.hold_seen-requires-clause-terms
+hold_seen-requires-clause-terms g c = c.seek.ensures.sees.0.calls.caller.terms ∙ (c.loop.invariant.same.calls.caller.terms ∙ c.load_version.ensures.tells.0)
 
-pub returns-in-AtRoot-clause-same : goal.returns-in-AtRoot-clause-same
-returns-in-AtRoot-clause-same g c = steps_then c.args.me.now c.loop.me c.try_once.new.me c.loop.invariant.same c.try_once.ensures.same
+pub hold_seen-requires-clause-nothing : goal.hold_seen-requires-clause-nothing
+hold_seen-requires-clause-nothing g c = nothing_still c.loop.me c.seek.new.me c.seek.ensures.sees.1 c.loop.invariant.nothing
+
+pub hold_seen-requires-clause-seen : goal.hold_seen-requires-clause-seen
+hold_seen-requires-clause-seen g c = subst (λ o. IfSome o (λ seen. IsSeenFor c.args.words.now.terms c.args.request seen c.seek.new.me)) c.in-Ok-Some.field-0-is c.in-Ok-Some.ensures.seen
