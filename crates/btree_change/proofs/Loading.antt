@@ -1,18 +1,13 @@
 -- What was loaded stays told while more is loaded, and so does why an update gave up.
-use Rattle.std.proofs.Common.{◌≡◌, ℕ, zero, suc, ◌≤◌, arith, length, List, [], ◌∷◌, ◌++◌, append_assoc, append-nil, refl, ap, sym, ◌∙◌, subst, Option, Some, None, IsSomeAnd}
-use Rattle.tree_shape.specs.NodeData.{NodeData}
+use Rattle.std.proofs.Common.{◌≡◌, ℕ, zero, suc, ◌≤◌, arith, length, List, [], ◌∷◌, ◌++◌, append_assoc, append-nil, refl, ap, sym, ◌∙◌, subst, Result, Ok, Err, IfErr}
 use Rattle.word_rule.specs.CallerData.{CallerData}
-use Rattle.word_rule.specs.Held.{held_of}
 use Rattle.word_rule.specs.Logs.{load_of}
 use Rattle.word_rule.specs.Sights.{after_node_load}
-use Rattle.word_rule.specs.Spelling.{SpellsNode}
 use Rattle.word_rule.specs.VersionLocks.{lock_place}
-use Rattle.word_rule.specs.declared.log.Holding.{Holding}
 use Rattle.word_rule.specs.declared.log.Holdings.{Holdings}
 use Rattle.word_rule.specs.declared.log.LoadEvent.{LoadEvent}
 use Rattle.word_rule.specs.declared.log.LockId.{LockId}
 use Rattle.word_rule.specs.declared.log.LockId.TheVariants as lock
-use Rattle.node_store.specs.Holding.{ReadsHeld}
 use Rattle.node_store.specs.Locking.{FoundBusy, IsBusy, Locks}
 use Rattle.node_store.specs.Sights.{after_words}
 use Rattle.node_store.specs.declared.locking.Busy.{Busy}
@@ -45,13 +40,6 @@ unfolding after_words
 keeps_words n words zero k = keeps_all k
 keeps_words n words (suc count) k = keeps_then k (record k { log = after_words n words count k.log }) (record k { log = after_words n words (suc count) k.log }) (keeps_words n words count k) (_ ∷ [], refl)
 
-pub keeps_read : (n : ℕ) (k k' : CallerData) (s : NodeData) → ReadsHeld n k k' s → KeepsLoads k k'
-keeps_read n k k' s reads = go (held_of n k.log.holdings.held) reads
-  where
-    go : (o : Option Holding) → IsSomeAnd o (λ h. SpellsNode h.words s × (k' ≡ record k { log = after_words n h.words 35 k.log })) → KeepsLoads k k'
-    go None r = absurd r
-    go (Some h) r = subst (KeepsLoads k) (sym r.1) (keeps_words n h.words 35 k)
-
 -- the load by which a lock was found taken
 pub found_busy : (id : LockId) (k k' : CallerData) (why : Busy) → why ≡ busy.Taken id → IsBusy id k k' → FoundBusy why k k'
 found_busy id k k' why named (found, (odd, is)) = subst (λ w. FoundBusy w k k') (sym named) (record {
@@ -65,6 +53,10 @@ found_busy id k k' why named (found, (odd, is)) = subst (λ w. FoundBusy w k k')
 -- steps before it, and after it
 pub found_after : (why : Busy) (k l m : CallerData) → KeepsLoads k l → FoundBusy why l m → FoundBusy why k m
 found_after why k l m (more, e) f = found_later why k l m more e f
+
+pub if_found_after : {A : Type 0} (r : Result A Busy) (k l m : CallerData) → KeepsLoads k l → IfErr r (λ e. FoundBusy e l m) → IfErr r (λ e. FoundBusy e k m)
+if_found_after (Ok a) k l m before f = tt
+if_found_after (Err e) k l m before f = found_after e k l m before f
 
 pub found_still : (why : Busy) (k l m : CallerData) → FoundBusy why k l → KeepsLoads l m → FoundBusy why k m
 found_still why k l m f (more, e) = record {

@@ -2,11 +2,12 @@
 -- its budget are others.
 use Rattle.std.proofs.Common.{◌≡◌, sym, refl, ap, ◌∙◌, subst}
 use Rattle.word_rule.specs.CallerData.{CallerData, KeepsCaller, KeepsCalls}
+use Rattle.word_rule.specs.Callers.{IsIdle}
 use Rattle.word_rule.specs.Logs.{after_spending}
 use Rattle.word_rule.specs.declared.log.Log.{Log}
 use Rattle.word_rule.proofs.CallersKept.{kept_calls, kept_calls_on}
 use Rattle.btree_change.specs.Loads.{KeepsLoads}
-use Rattle.btree_change.specs.Paths.{StepsOnNodes}
+use Rattle.btree_change.specs.Paths.{HoldsNothing, StepsOnNodes}
 use Rattle.btree_change.specs.Splits.{with_release_less}
 use Rattle.btree_change.proofs.Loading.{keeps_all, keeps_then}
 
@@ -48,6 +49,13 @@ steps_then k l m a b = record {
 
 pub steps_none : (k : CallerData) → StepsOnNodes k k
 steps_none k = record { calls = kept_calls k; budget = refl; loads = keeps_all k }
+
+pub still_idle : (k l : CallerData) → StepsOnNodes k l → HoldsNothing l.log.holdings → IsIdle k.log → IsIdle l.log
+still_idle k l steps nothing idle = record {
+  held = nothing.0;
+  out = nothing.1;
+  loader = steps.calls.caller.loader ∙ idle.loader;
+}
 
 -- a release less before steps and after them
 pub less_release_then : (a b : CallerData) → StepsOnNodes a b → StepsOnNodes (with_release_less a) (with_release_less b)

@@ -1,6 +1,6 @@
 -- The way of a removal down the tree, by what its caller holds: one node at a time.
 use Rattle.std.specs.Prelude.{◌≡◌, ℕ, zero, suc, ◌<◌, Bool, [], ◌∷◌, length}
-use Rattle.tree_shape.specs.NodeData.{NodeData, Body, Pairs, Entries, Link}
+use Rattle.tree_shape.specs.NodeData.{NodeData, Body, Pairs, Entries, Link, IsInFences}
 use Rattle.tree_shape.specs.declared.limits.TheConstants.{FEWEST_PAIRS, FEWEST_ENTRIES}
 use Rattle.word_rule.specs.Spelling.{SpellsNode}
 use Rattle.word_rule.specs.declared.log.Holding.{Holding}
@@ -36,3 +36,9 @@ IsSpareAs (Link next) = Unit {0}
 abbrev pub IsSpare : ℕ → NodeData → Type 0
 IsSpare zero s = Unit {0}
 IsSpare (suc n) s = IsSpareAs s.body
+
+-- A node is held alone on a removal's way to an address, which lies in its fences, and one of its
+-- pairs or entries may go.
+abbrev pub HoldsOnWay : Terms → ℕ → Held → Holdings → Type 0
+HoldsOnWay t pc at holdings =
+    HoldsAlone t at holdings × IsInFences pc at.content × IsSpare at.node at.content

@@ -12,7 +12,7 @@ ghost use Rattle.word_rule.specs.Places.{CALL_CREDIT};
 ghost use Rattle.btree_change.specs.Paths.{HoldsLeftOver, HoldsNothing, StepsOnNodes};
 ghost use Rattle.btree_change.specs.Releases.{Spends};
 ghost use Rattle.btree_change.specs.Removal.{AnswersRemoval, Removes};
-ghost use Rattle.btree_change.specs.Removing.{HoldsAlone, IsSpare};
+ghost use Rattle.btree_change.specs.Removing.{HoldsOnWay, IsSpare};
 ghost use Rattle.btree_change.specs.Updates.{GivesUp};
 
 use crate::by_sight::{Request, hold_by_sight};
@@ -73,8 +73,7 @@ fn mend<L: Locking>(
     requires spare { IsSpare x.above.node x.above.content }
     requires here { IsInFences pc x.above.content }
     requires surplus { 2 < surplus me.old }
-    ensures ok { IfOk result (λ below. HoldsAlone words.now.terms below me.new.log.holdings
-        × IsInFences pc below.content × IsSpare below.node below.content
+    ensures ok { IfOk result (λ below. HoldsOnWay words.now.terms pc below me.new.log.holdings
         × (below.content.level + 1 ≡ x.above.content.level)) }
     ensures busy { IfErr result (λ e. HoldsLeftOver e me.new.log.holdings × (L.gives_up ≡ true)) }
     ensures cause { IfErr result (λ e. FoundBusy e me.old me.new) }
@@ -119,13 +118,10 @@ fn step_down<L: Locking>(
 ) -> Result<Held, Busy>
     requires table { me.old.table ≡ words.now.table }
     requires terms { me.old.log.terms ≡ words.now.terms }
-    requires alone { HoldsAlone words.now.terms above me.old.log.holdings }
+    requires on_way { HoldsOnWay words.now.terms pc above me.old.log.holdings }
     requires inner { 0 < above.content.level }
-    requires here { IsInFences pc above.content }
-    requires spare { IsSpare above.node above.content }
     requires surplus { 2 < surplus me.old }
-    ensures ok { IfOk result (λ below. HoldsAlone words.now.terms below me.new.log.holdings
-        × IsInFences pc below.content × IsSpare below.node below.content
+    ensures ok { IfOk result (λ below. HoldsOnWay words.now.terms pc below me.new.log.holdings
         × (below.content.level + 1 ≡ above.content.level)) }
     ensures busy { IfErr result (λ e. HoldsLeftOver e me.new.log.holdings × (L.gives_up ≡ true)) }
     ensures cause { IfErr result (λ e. FoundBusy e me.old me.new) }
@@ -147,8 +143,8 @@ fn step_down<L: Locking>(
 fn begin<L: Locking>(locking: &L, words: &Words, me: &mut Caller, pc: u64) -> Result<Held, Busy>
     requires table { me.old.table ≡ words.now.table }
     requires idle { IsIdle me.old.log }
-    ensures ok { IfOk result (λ at. HoldsAlone words.now.terms at me.new.log.holdings
-        × IsInFences pc at.content × IsSpare at.node at.content × (at.content.level ≤ 12)) }
+    ensures ok { IfOk result (λ at. HoldsOnWay words.now.terms pc at me.new.log.holdings
+        × (at.content.level ≤ 12)) }
     ensures busy { IfErr result (λ e. HoldsNothing me.new.log.holdings × (L.gives_up ≡ true)) }
     ensures cause { IfErr result (λ e. FoundBusy e me.old me.new) }
     ensures same { StepsOnNodes me.old me.new }
@@ -166,8 +162,7 @@ fn leaf_for<L: Locking>(locking: &L, words: &Words, me: &mut Caller, pc: u64) ->
     requires table { me.old.table ≡ words.now.table }
     requires idle { IsIdle me.old.log }
     requires surplus { CALL_CREDIT ≤ surplus me.old }
-    ensures ok { IfOk result (λ leaf. HoldsAlone words.now.terms leaf me.new.log.holdings
-        × IsInFences pc leaf.content × IsSpare leaf.node leaf.content
+    ensures ok { IfOk result (λ leaf. HoldsOnWay words.now.terms pc leaf me.new.log.holdings
         × (leaf.content.level ≡ 0)) }
     ensures busy { IfErr result (λ e. HoldsLeftOver e me.new.log.holdings × (L.gives_up ≡ true)) }
     ensures cause { IfErr result (λ e. FoundBusy e me.old me.new) }

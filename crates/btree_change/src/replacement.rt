@@ -39,31 +39,6 @@ fn begin<L: Locking>(locking: &L, words: &Words, me: &mut Caller, pc: u64) -> Re
     }
 }
 
-/// From an inner node, held alone, down to its child for an address: that is held alone then.
-fn step_down<L: Locking>(
-    locking: &L,
-    words: &Words,
-    me: &mut Caller,
-    above: Held,
-    pc: u64,
-) -> Result<Held, Busy>
-    requires table { me.old.table ≡ words.now.table }
-    requires terms { me.old.log.terms ≡ words.now.terms }
-    requires alone { HoldsAlone words.now.terms above me.old.log.holdings }
-    requires inner { 0 < above.content.level }
-    requires here { IsInFences pc above.content }
-    requires surplus { 0 < surplus me.old }
-    ensures ok { IfOk result (λ below. HoldsAlone words.now.terms below me.new.log.holdings
-        × IsInFences pc below.content × (below.content.level + 1 ≡ above.content.level)) }
-    ensures busy { IfErr result (λ e. HoldsNothing me.new.log.holdings × (L.gives_up ≡ true)) }
-    ensures cause { IfErr result (λ e. FoundBusy e me.old me.new) }
-    ensures spends { Spends 1 me.old me.new }
-{
-    let child = take_child(locking, words, me, above, pc)?;
-    let_go_of(locking, words, me, child.above.node, child.above.changed);
-    Ok(child.at)
-}
-
 /// The leaf for an address, held alone.
 fn leaf_for<L: Locking>(locking: &L, words: &Words, me: &mut Caller, pc: u64) -> Result<Held, Busy>
     requires table { me.old.table ≡ words.now.table }
@@ -78,10 +53,9 @@ fn leaf_for<L: Locking>(locking: &L, words: &Words, me: &mut Caller, pc: u64) ->
 {
     let mut at = begin(locking, words, me, pc)?;
     while at.content.level() > 0 {
-        at = match step_down(locking, words, me, at, pc) {
-            Ok(below) => below,
-            Err(busy) => return Err(busy),
-        };
+        let child = take_child(locking, words, me, at, pc)?;
+        let_go_of(locking, words, me, child.above.node, child.above.changed);
+        at = child.at;
     }
     Ok(at)
 }

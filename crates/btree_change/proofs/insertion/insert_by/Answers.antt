@@ -8,7 +8,7 @@ use Rattle.btree_change.proofs.AtRoot.{answered_so, ends_part, given_up_so, root
 use Rattle.btree_change.proofs.BySights.{seen_for, seen_stand}
 use Rattle.btree_change.proofs.Loading.{found_after}
 use Rattle.btree_change.proofs.Spending.{may_still, spends_all, spends_same}
-use Rattle.btree_change.proofs.NodeSteps.{steps_then}
+use Rattle.btree_change.proofs.NodeSteps.{steps_then, still_idle}
 use Rattle.word_rule.specs.Places.{CALL_CREDIT}
 use Rattle.btree_change.proofs.insertion.insert_by.Goals.{After-below, In-Some}
 use Rattle.btree_change.proofs.insertion.insert_by.Goals as goal
@@ -21,12 +21,7 @@ pub below-requires-clause-stands : goal.below-requires-clause-stands
 below-requires-clause-stands g c = seen_stand c.args.words.now.terms c.args.member c.in-Some.at c.hold_by_sight.new.me.log (held g (goal.at.below-requires-clause-stands g c).In-Some) (c.hold_by_sight.ensures.same.calls.caller.loader ∙ c.requires.idle.loader)
 
 pub at_root-requires-clause-idle : goal.at_root-requires-clause-idle
-at_root-requires-clause-idle g c =
-    let nothing = c.in_default.ensures.nothing in record {
-      held = nothing.0;
-      out = nothing.1;
-      loader = c.hold_by_sight.ensures.same.calls.caller.loader ∙ c.requires.idle.loader;
-    }
+at_root-requires-clause-idle g c = still_idle c.args.me.now c.hold_by_sight.new.me c.hold_by_sight.ensures.same c.in_default.ensures.nothing c.requires.idle
 
 pub returns-in_err-root-clause-busy : goal.returns-in_err-root-clause-busy
 returns-in_err-root-clause-busy g c =

@@ -6,10 +6,10 @@ use Rattle.btree_change.proofs.removal.leaf_for.Goals as goal
 pub loop-me-init : goal.loop-me-init
 loop-me-init g c =
     let at = c.in_ok-at.at in let k1 = c.begin.new.me in let ok = c.in_ok-at.ensures.ok in record {
-      alone = ok.0;
-      here = ok.1;
-      spare = ok.2;
-      low = ok.3;
+      alone = ok.0.0;
+      here = ok.0.1;
+      spare = ok.0.2;
+      low = ok.1;
       spends = more_spent 0 (24 - (at.content.level + at.content.level)) c.args.me.now k1 (omega arith) (spends_same c.args.me.now k1 c.in_ok-at.ensures.same);
     }
 

@@ -30,7 +30,7 @@ let_go_of-requires-in-Ok-join-clause-may g c = under_may c.args.words.now.terms 
 pub returns-in-Ok-join-clause-ok : goal.returns-in-Ok-join-clause-ok
 returns-in-Ok-join-clause-ok g c =
     let mends = c.in-Ok-join.ensures.mends in
-    (under_left c.args.words.now.terms c.args.x.above.node true c.in-Ok-join.below c.join.new.me c.let_go_of-in-Ok-join.new.me mends.0.holds c.let_go_of-in-Ok-join.ensures, subst (IsInFences c.args.pc) (sym mends.1) c.requires.between, mends.0.spare, mends.0.level)
+    ((under_left c.args.words.now.terms c.args.x.above.node true c.in-Ok-join.below c.join.new.me c.let_go_of-in-Ok-join.new.me mends.0.holds c.let_go_of-in-Ok-join.ensures, subst (IsInFences c.args.pc) (sym mends.1) c.requires.between, mends.0.spare), mends.0.level)
 
 pub returns-clause-cause : goal.returns-clause-cause
 returns-clause-cause g c = left_cause c.args.x c.in-Err-join.busy c.args.me.now c.join.new.me c.let_go_of-in-Err-join.new.me c.in-Err-join.ensures.lost.0 c.let_go_of-in-Err-join.ensures

@@ -12,7 +12,7 @@ pub let_go_of-requires-clause-may : goal.let_go_of-requires-clause-may
 let_go_of-requires-clause-may g c =
     let leaf = c.in_ok-leaf.leaf in let k3 = c.not_found.new.me in
     let same = c.in-Some.ensures.none.call.holdings ∙ ap (λ (z : CallerData). z.log.holdings) c.begun_in-begun.ensures.loads.1 in
-    lock_may leaf.node leaf.changed k3.log.holdings (subst (HoldsLock leaf.node leaf.changed) (sym same) (alone_lock c.args.words.now.terms leaf c.leaf_for.new.me.log.holdings c.in_ok-leaf.ensures.ok.0))
+    lock_may leaf.node leaf.changed k3.log.holdings (subst (HoldsLock leaf.node leaf.changed) (sym same) (alone_lock c.args.words.now.terms leaf c.leaf_for.new.me.log.holdings c.in_ok-leaf.ensures.ok.0.0))
 
 pub let_go_of-requires-clause-surplus : goal.let_go_of-requires-clause-surplus
 let_go_of-requires-clause-surplus g c = surplus_refused c.args.words.now.terms c.args.base c.in-Some.answer c.args.me.now c.begun_in-begun.new.me c.not_found.new.me (read_spends c.args.me.now c.leaf_for.new.me c.begun_in-begun.new.me c.in_ok-leaf.ensures.spends (steps_of_loads c.leaf_for.new.me c.begun_in-begun.new.me c.begun_in-begun.ensures.loads)) c.requires.surplus c.in-Some.ensures.none
@@ -21,8 +21,8 @@ pub returns-in-Some-clause-answer : goal.returns-in-Some-clause-answer
 returns-in-Some-clause-answer g c =
     let leaf = c.in_ok-leaf.leaf in let k3 = c.not_found.new.me in
     let same = c.in-Some.ensures.none.call.holdings ∙ ap (λ (z : CallerData). z.log.holdings) c.begun_in-begun.ensures.loads.1 in
-    let held = subst (HoldsLock leaf.node leaf.changed) (sym same) (alone_lock c.args.words.now.terms leaf c.leaf_for.new.me.log.holdings c.in_ok-leaf.ensures.ok.0) in
-    let nothing : HoldsNothing c.let_go_of.new.me.log.holdings = (lock_gone leaf.node leaf.changed k3 c.let_go_of.new.me held c.let_go_of.ensures, c.let_go_of.ensures.out ∙ (ap (λ (hs : Holdings). hs.out) same ∙ c.in_ok-leaf.ensures.ok.0.out)) in
+    let held = subst (HoldsLock leaf.node leaf.changed) (sym same) (alone_lock c.args.words.now.terms leaf c.leaf_for.new.me.log.holdings c.in_ok-leaf.ensures.ok.0.0) in
+    let nothing : HoldsNothing c.let_go_of.new.me.log.holdings = (lock_gone leaf.node leaf.changed k3 c.let_go_of.new.me held c.let_go_of.ensures, c.let_go_of.ensures.out ∙ (ap (λ (hs : Holdings). hs.out) same ∙ c.in_ok-leaf.ensures.ok.0.0.out)) in
     refusal_so c.args.words.now.terms c.args.base c.in-Some.answer c.args.me.now c.begun_in-begun.new.me k3 c.let_go_of.new.me (read_spends c.args.me.now c.leaf_for.new.me c.begun_in-begun.new.me c.in_ok-leaf.ensures.spends (steps_of_loads c.leaf_for.new.me c.begun_in-begun.new.me c.begun_in-begun.ensures.loads)) c.in-Some.ensures.none c.let_go_of.ensures.steps nothing
 
 pub take_in_leaf-number-requires-clause-loader : goal.take_in_leaf-number-requires-clause-loader

@@ -1,10 +1,9 @@
 use Rattle.std.proofs.Common.{◌∙◌, ap, sym, arith}
-use Rattle.node_store.specs.Locking.{FoundBusy}
 use Rattle.btree_change.specs.Releases.{Spends}
 use Rattle.btree_change.specs.declared.descent.Held.{Held}
 use Rattle.btree_change.proofs.AtRoot.{if_err, if_ok}
 use Rattle.btree_change.proofs.HeldOutlines.{ordered_of}
-use Rattle.btree_change.proofs.Loading.{found_after, keeps_then, nothing_left}
+use Rattle.btree_change.proofs.Loading.{if_found_after, found_after, keeps_then, nothing_left}
 use Rattle.btree_change.proofs.RemovalAnswers.{child_spare, child_under}
 use Rattle.btree_change.proofs.Releases.{under_left, under_may}
 use Rattle.btree_change.proofs.Spending.{steps_after}
@@ -16,7 +15,7 @@ let_go_of-requires-clause-may g c = let child = c.in_ok-child.child in under_may
 pub returns-then-not-is_small-clause-ok : goal.returns-then-not-is_small-clause-ok
 returns-then-not-is_small-clause-ok g c =
     let t = c.args.words.now.terms in let child = c.in_ok-child.child in let k1 = c.take_child.new.me in let ok = c.in_ok-child.ensures.ok in
-    (under_left t child.above.node child.above.changed child.at k1 c.let_go_of.new.me (child_under t child c.args.pc k1.log.holdings ok.0) c.let_go_of.ensures, ok.0.fences, child_spare child.at.node child.at.content (sym c.is_small.ensures ∙ c.if-not-is_small.true), ok.0.level ∙ ap (λ (z : Held). z.content.level) ok.1)
+    ((under_left t child.above.node child.above.changed child.at k1 c.let_go_of.new.me (child_under t child c.args.pc k1.log.holdings ok.0) c.let_go_of.ensures, ok.0.fences, child_spare child.at.node child.at.content (sym c.is_small.ensures ∙ c.if-not-is_small.true)), ok.0.level ∙ ap (λ (z : Held). z.content.level) ok.1)
 
 pub returns-in-Err-clause-cause : goal.returns-in-Err-clause-cause
 returns-in-Err-clause-cause g c = found_after c.in-Err.busy c.args.me.now c.take_child.new.me c.take_sibling.new.me c.in_ok-child.ensures.free.loads c.in-Err.ensures.cause
@@ -31,9 +30,7 @@ pub is_small-requires : goal.is_small-requires
 is_small-requires g c = ordered_of c.args.words.now.terms c.in_ok-child.child.at.node c.in_ok-child.child.at.content c.in_ok-child.child.at.changed c.in_ok-child.ensures.ok.0.lower c.in_ok-child.ensures.ok.0.here
 
 pub returns-in-Ok-clause-cause : goal.returns-in-Ok-clause-cause
-returns-in-Ok-clause-cause g c =
-    let k = c.args.me.now in let k1 = c.take_child.new.me in let k2 = c.take_sibling.new.me in let k3 = c.mend.new.me in
-    if_err (λ e. FoundBusy e k2 k3) (λ e. FoundBusy e k k3) c.mend.result (λ e f. found_after e k k2 k3 (keeps_then k k1 k2 c.in_ok-child.ensures.free.loads c.in-Ok.ensures.free.loads) f) c.mend.ensures.cause
+returns-in-Ok-clause-cause g c = if_found_after c.mend.result c.args.me.now c.take_sibling.new.me c.mend.new.me (keeps_then c.args.me.now c.take_child.new.me c.take_sibling.new.me c.in_ok-child.ensures.free.loads c.in-Ok.ensures.free.loads) c.mend.ensures.cause
 
 pub returns-in-Ok-clause-spends : goal.returns-in-Ok-clause-spends
 returns-in-Ok-clause-spends g c =

@@ -1,25 +1,19 @@
-use Rattle.std.proofs.Common.{◌≤◌, ◌∙◌, arith}
+use Rattle.std.proofs.Common.{◌≤◌, arith}
 use Rattle.tree_shape.specs.NodeData.{IsInFences}
-use Rattle.node_store.specs.Locking.{FoundBusy}
 use Rattle.btree_change.specs.Removing.{HoldsAlone}
 use Rattle.btree_change.specs.Stands.{HoldsRoot}
 use Rattle.btree_change.specs.declared.descent.Held.{Held}
-use Rattle.btree_change.proofs.AtRoot.{if_err, if_ok}
-use Rattle.btree_change.proofs.Loading.{found_after}
+use Rattle.btree_change.proofs.AtRoot.{if_ok}
+use Rattle.btree_change.proofs.Loading.{if_found_after}
 use Rattle.btree_change.proofs.Rooted.{root_alone, root_has, root_low}
-use Rattle.btree_change.proofs.NodeSteps.{steps_then}
+use Rattle.btree_change.proofs.NodeSteps.{steps_then, still_idle}
 use Rattle.btree_change.proofs.replacement.begin.Goals as goal
 
 pub returns-in-Some-clause-ok : goal.returns-in-Some-clause-ok
 returns-in-Some-clause-ok g c = let held = c.in-Some.ensures.holds in (held.alone, held.here, held.low)
 
 pub at_root-requires-clause-idle : goal.at_root-requires-clause-idle
-at_root-requires-clause-idle g c =
-    let nothing = c.in-None.ensures.nothing in record {
-      held = nothing.0;
-      out = nothing.1;
-      loader = c.hold_by_sight.ensures.same.calls.caller.loader ∙ c.requires.idle.loader;
-    }
+at_root-requires-clause-idle g c = still_idle c.args.me.now c.hold_by_sight.new.me c.hold_by_sight.ensures.same c.in-None.ensures.nothing c.requires.idle
 
 pub returns-in-None-clause-ok : goal.returns-in-None-clause-ok
 returns-in-None-clause-ok g c =
@@ -28,9 +22,7 @@ returns-in-None-clause-ok g c =
     (λ root r. (root_alone t root hs r, root_has t root pc hs r (omega (arith, fits)), root_low t root hs r)) c.at_root.ensures.ok
 
 pub returns-in-None-clause-cause : goal.returns-in-None-clause-cause
-returns-in-None-clause-cause g c =
-    let k = c.args.me.now in let k1 = c.hold_by_sight.new.me in let k2 = c.at_root.new.me in
-    if_err (λ e. FoundBusy e k1 k2) (λ e. FoundBusy e k k2) c.at_root.result (λ e f. found_after e k k1 k2 c.hold_by_sight.ensures.same.loads f) c.at_root.ensures.cause
+returns-in-None-clause-cause g c = if_found_after c.at_root.result c.args.me.now c.hold_by_sight.new.me c.at_root.new.me c.hold_by_sight.ensures.same.loads c.at_root.ensures.cause
 
 pub returns-in-None-clause-same : goal.returns-in-None-clause-same
 returns-in-None-clause-same g c = steps_then c.args.me.now c.hold_by_sight.new.me c.at_root.new.me c.hold_by_sight.ensures.same c.at_root.ensures.same
