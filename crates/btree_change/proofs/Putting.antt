@@ -52,9 +52,6 @@ module _ (law : PutLaw) (laws : LeafLaws) (t : Terms) (at : Held) (m : Member) (
   abbrev now : NodeData
   now = record s { body = Entries (with_entry m (entries_of s)) }
 
-  is_leaf : IsLeaf s
-  is_leaf = leaf_at_zero s (settled_live t at.node s at.changed alone.lock alone.here).1.1.ordered level
-
   in_leaf : is_leaf_at m.span.first (Some now) ≡ true
   in_leaf = let a = le-leb s.low m.span.first low in let o = span.ordered in let b = le-leb m.span.first s.high (omega (arith, o, high)) in rw (a, b) refl
 
@@ -68,7 +65,7 @@ module _ (law : PutLaw) (laws : LeafLaws) (t : Terms) (at : Held) (m : Member) (
   put : IsPut tree.contents tree.live written.lock.node m after
   put = record {
     live_leaf = live_here laws t (update.Register m) at now k1 k2 alone tree level in_leaf written;
-    is_leaf = subst IsLeaf (sym here) is_leaf;
+    is_leaf = subst IsLeaf (sym here) (leaf_at_zero s (settled_live t at.node s at.changed alone.lock alone.here).1.1.ordered level);
     room = subst (λ (z : NodeData). length (entries_of z) < 10) (sym here) room;
     span = span;
     low = subst (λ (z : NodeData). z.low ≤ m.span.first) (sym here) low;
