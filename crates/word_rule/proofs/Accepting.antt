@@ -1,5 +1,6 @@
 -- An update is accepted: the history has it at its end, its caller has the receipt, and the callers' part of the rule is kept.
 use Rattle.std.proofs.Common.{◌≡◌, ℕ, ◌+◌, ◌<◌, ◌≤◌, List, [], ◌∷◌, ◌++◌, length, length-append, set, sym, refl, ap, ◌∙◌, subst, arith, Option, Some, None, IsSomeAnd, false, IfSome, append-nil, append_assoc, true≢false, ◌%◌}
+use Rattle.std.proofs.lemmas.List.Sums.{count_by-le-length}
 use Rattle.std.specs.List.{AllByRecursion}
 use mathlib.Core.Option.{some}
 use mathlib.Core.List.{IsPrefix}
@@ -28,7 +29,7 @@ use Rattle.word_rule.specs.Places.{lower, spare, upper}
 use Rattle.word_rule.specs.Memory.{Memory}
 use Rattle.word_rule.specs.Logs.{is_gone, is_nameless, weight, turns, own_list}
 use Rattle.word_rule.specs.Steps.{IsDone, after_update}
-use Rattle.word_rule.specs.Callers.{total, CallersHold, LogHolds, ReceiptsHold, AtLoader, LoaderLock, NoneStored, IsOfTerms, dones_in, number_of, publications, start}
+use Rattle.word_rule.specs.Callers.{total, CallersHold, LogHolds, ReceiptsHold, AtLoader, LoaderLock, NoneStored, IsOfTerms, dones_in, is_of_loader, number_of, publications, start}
 use Rattle.word_rule.specs.Nodes.{Shadow}
 use Rattle.word_rule.specs.Copies.{CopySightHolds, IsBehind}
 use Rattle.word_rule.specs.Observations.{SightHolds, WasFull, ObservationsHold, last_moment}
@@ -61,40 +62,23 @@ answered s (update.Load m) n fit = (
   record { is_done = refl; accepts = refl; number = refl; makes = refl; one_step = record { right = tt; changes = (fit, refl, refl) }; no_full = λ st history nodes callers since. record { ten = tt; most = λ _. tt } },
 )
 answered s (update.Deregister base) n fit =
-    let m = some_of (at_base base s.registered) fit in (
+    let m = some_of (at_base base s.registered) fit in
+    let done = some_and (λ x. receipt.Deregister base (removed.Done (n + 1) m.0) ≡ receipt.Deregister base (removed.Done (n + 1) x)) (at_base base s.registered) m.0 m.1 refl in (
       receipt.Deregister base (removed.Done (n + 1) m.0),
-      record {
-        is_done = some_and (λ x. receipt.Deregister base (removed.Done (n + 1) m.0) ≡ receipt.Deregister base (removed.Done (n + 1) x)) (at_base base s.registered) m.0 m.1 refl;
-        accepts = refl;
-        number = refl;
-        makes = refl;
-        one_step = record { right = m.1; changes = (fit, refl, refl) };
-        no_full = λ st history nodes callers since. record { ten = tt; most = λ _. tt };
-      },
+      record { is_done = done; accepts = refl; number = refl; makes = refl; one_step = record { right = m.1; changes = (fit, refl, refl) }; no_full = λ st history nodes callers since. record { ten = tt; most = λ _. tt } },
     )
 answered s (update.Replace m) n fit =
-    let old = some_of (at_span m.span s.registered) fit in (
+    let old = some_of (at_span m.span s.registered) fit in
+    let done = some_and (λ x. receipt.Replace m (replaced.Done (n + 1) old.0.payload) ≡ receipt.Replace m (replaced.Done (n + 1) x.payload)) (at_span m.span s.registered) old.0 old.1 refl in
+    let right = some_and (λ x. x.payload ≡ old.0.payload) (at_span m.span s.registered) old.0 old.1 refl in (
       receipt.Replace m (replaced.Done (n + 1) old.0.payload),
-      record {
-        is_done = some_and (λ x. receipt.Replace m (replaced.Done (n + 1) old.0.payload) ≡ receipt.Replace m (replaced.Done (n + 1) x.payload)) (at_span m.span s.registered) old.0 old.1 refl;
-        accepts = refl;
-        number = refl;
-        makes = refl;
-        one_step = record { right = some_and (λ x. x.payload ≡ old.0.payload) (at_span m.span s.registered) old.0 old.1 refl; changes = (fit, refl, refl) };
-        no_full = λ st history nodes callers since. record { ten = tt; most = λ _. tt };
-      },
+      record { is_done = done; accepts = refl; number = refl; makes = refl; one_step = record { right = right; changes = (fit, refl, refl) }; no_full = λ st history nodes callers since. record { ten = tt; most = λ _. tt } },
     )
 answered s (update.Unload base) n fit =
-    let m = some_of (at_base base s.loaded) fit in (
+    let m = some_of (at_base base s.loaded) fit in
+    let done = some_and (λ x. receipt.Unload base (removed.Done (n + 1) m.0) ≡ receipt.Unload base (removed.Done (n + 1) x)) (at_base base s.loaded) m.0 m.1 refl in (
       receipt.Unload base (removed.Done (n + 1) m.0),
-      record {
-        is_done = some_and (λ x. receipt.Unload base (removed.Done (n + 1) m.0) ≡ receipt.Unload base (removed.Done (n + 1) x)) (at_base base s.loaded) m.0 m.1 refl;
-        accepts = refl;
-        number = refl;
-        makes = refl;
-        one_step = record { right = m.1; changes = (fit, refl, refl) };
-        no_full = λ st history nodes callers since. record { ten = tt; most = λ _. tt };
-      },
+      record { is_done = done; accepts = refl; number = refl; makes = refl; one_step = record { right = m.1; changes = (fit, refl, refl) }; no_full = λ st history nodes callers since. record { ten = tt; most = λ _. tt } },
     )
 
 -- what a log has observed stays where it gets receipts: they end what its loads told of fullness
@@ -126,6 +110,10 @@ module _ (t : Terms) (m : Memory) (views : List Log) (history : List Update) (c 
   pub few_updates : length history < 67108864
   few_updates = let o = c.room in let d = due in let q = part_of_total (λ w. w.budget.allowance) views id v at in omega (arith, o, d, q)
 
+  -- nor more publications of the loader
+  pub few_publications : upper m.clock ≤ length history
+  few_publications = let p = c.of_history.published in let q = count_by-le-length is_of_loader history in omega (arith, p, q)
+
   prefix : IsPrefix v.past (history ++ u ∷ [])
   prefix = prefix_all v.past history (u ∷ []) (c.each id v at).begins
 
@@ -135,7 +123,7 @@ module _ (t : Terms) (m : Memory) (views : List Log) (history : List Update) (c 
   holds_answer : (callers since : ℕ) → Holds (start t) (history ++ u ∷ []) t.nodes callers since answer
   holds_answer callers since = subst (λ k. Holds (start t) (history ++ k) t.nodes callers since answer) told.makes
       (step_holds (start t) history (record { state = state_after (start t) history; updates = length history }) (record { state = after u (state_after (start t) history); updates = length history + 1 }) t.nodes callers since answer
-      (record { lawful = c.lawful; state = refl; updates = refl }) told.one_step (told.no_full (start t) (history ++ made answer) t.nodes callers since)).1
+      (record { lawful = c.of_history.lawful; state = refl; updates = refl }) told.one_step (told.no_full (start t) (history ++ made answer) t.nodes callers since)).1
 
   -- its log afterwards, with these nodes and with this part in the loader's lock
   module _ (holdings : Holdings) (loader : Option LoaderHolding) where
@@ -186,11 +174,13 @@ module _ (t : Terms) (m : Memory) (views : List Log) (history : List Update) (c 
         → (NoneStored (set views id w) → IsBehind t (m.copies (upper clock % 2)) (m.copies (spare clock))) → CallersHold t (record m { clock = clock }) (set views id w) (history ++ u ∷ [])
     callers_after clock updates published lock at_lock spare_copy = record {
       holder = c.holder;
-      lawful = IsHistory-append (start t) history (u ∷ []) c.lawful (fit, tt);
-      updates = updates ∙ sym len;
-      published = published;
-      terms = c.terms;
-      members = all_append (IsOfTerms t) history (u ∷ []) c.members (member, tt);
+      of_history = record {
+        lawful = IsHistory-append (start t) history (u ∷ []) c.of_history.lawful (fit, tt);
+        updates = updates ∙ sym len;
+        published = published;
+        terms = c.of_history.terms;
+        members = all_append (IsOfTerms t) history (u ∷ []) c.of_history.members (member, tt);
+      };
       room = (let a = total_set (λ z. z.budget.allowance) views id v w at in let o = c.room in let d = due in let l = len in omega (arith, a, o, d, l));
       numbers = numbers;
       each = each (total (λ z. z.made) (set views id w) + 1) (ap (λ k. k + 1) made_same);

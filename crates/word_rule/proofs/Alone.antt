@@ -82,7 +82,7 @@ module _ (t : Terms) (m : Memory) (views : List Log) (history : List Update) (r 
 
   pub whole : is_nameless v.role ≡ false → IsWhole v
   whole stands = record {
-    lawful = subst (λ s. IsHistory (start s) v.past) (sym (own_log.terms (not_gone v.role stands))) (history_front (start t) v.past own_log.begins.0 (subst (IsHistory (start t)) (sym own_log.begins.1) r.lawful));
+    lawful = subst (λ s. IsHistory (start s) v.past) (sym (own_log.terms (not_gone v.role stands))) (history_front (start t) v.past own_log.begins.0 (subst (IsHistory (start t)) (sym own_log.begins.1) r.of_history.lawful));
     numbers = λ n. sym (dones_all n) ∙ (r.numbers n ∙ ap (λ k. number_of k n) (sym seen_all));
     receipts = subst (λ s. ReceiptsHold s v.past (v.made + 1) v.receipts) (sym (own_log.terms (not_gone v.role stands))) own_log.receipts;
   }
@@ -108,4 +108,4 @@ pub closes : (t : Terms) (words : List ℕ) (slots : List (Unit {0})) (id : ℕ)
 closes t words slots id v n stands alone final found =
     let s = final.0 in let r = final.1.0.memory.callers in let history = final.1.0.memory.history in
     let clock : get_or s.words 0 0 ≡ n = ap (λ w. get_or w 0 0) final.2 ∙ first_word words n found in
-    (ap (λ k. k % 4294967296) (sym clock) ∙ (r.updates ∙ sym (seen_all t (memory_of t s.words) s.views history r id v final.1.1 alone)), whole t (memory_of t s.words) s.views history r id v final.1.1 alone stands)
+    (ap (λ k. k % 4294967296) (sym clock) ∙ (r.of_history.updates ∙ sym (seen_all t (memory_of t s.words) s.views history r id v final.1.1 alone)), whole t (memory_of t s.words) s.views history r id v final.1.1 alone stands)

@@ -1,5 +1,5 @@
 -- Receipts that answer what was asked, and hold now: they go on a log's own, and end what its loads told of fullness.
-use Rattle.std.proofs.Common.{◌≡◌, ℕ, ◌+◌, ◌≤◌, ◌⊎◌, ⊎_elim, List, [], ◌∷◌, ◌++◌, length, length-append, set, sym, refl, ap, ◌∙◌, subst, arith, ◌==◌, ◌&&◌, false, is_some, append-nil}
+use Rattle.std.proofs.Common.{◌≡◌, ℕ, ◌+◌, ◌≤◌, ◌⊎◌, ⊎_elim, List, [], ◌∷◌, ◌++◌, length, length-append, set, sym, refl, ap, ◌∙◌, subst, arith, ◌==◌, ◌&&◌, false, IfSome, is_some, append-nil}
 use Rattle.std.specs.List.{AllByRecursion, count_by}
 use Rattle.std.proofs.lemmas.List.Sums.{sum_by_push}
 use mathlib.Core.Option.{some}
@@ -15,7 +15,7 @@ use Rattle.word_rule.specs.declared.log.LoadEvent.{LoadEvent}
 use Rattle.word_rule.specs.declared.log.Terms.{Terms}
 use Rattle.word_rule.specs.declared.log.Log.{Log}
 use Rattle.word_rule.specs.Memory.{Memory, memory_of}
-use Rattle.word_rule.specs.Logs.{weight, turns, own_list}
+use Rattle.word_rule.specs.Logs.{is_nameless, weight, turns, own_list}
 use Rattle.word_rule.specs.Sights.{with_receipts}
 use Rattle.word_rule.specs.Callers.{total, CallersHold, LogHolds, IsRecord, AtLoader, LoaderLock, dones_in}
 use Rattle.word_rule.specs.Observations.{WasFull, ObservationsHold, last_moment}
@@ -59,6 +59,27 @@ pub all_ended : (t : Terms) (history : List Update) (callers most : ℕ) (own : 
 all_ended t history callers most own rs [] e h = tt
 all_ended t history callers most own rs (l ∷ ls) e h = (ended t history callers own rs l e.0.1 h.0, all_ended t history callers most own rs ls e.1 h.1)
 
+-- The callers where one log gets such receipts, and has seen more: all else of it is as before.
+module _ (t : Terms) (m : Memory) (views : List Log) (history : List Update) (c : CallersHold t m views history) (id : ℕ) (v w : Log) (at : get_elem? views id ≡ some v) (role : w.role ≡ v.role) (budget : w.budget ≡ v.budget) (loader : w.loader ≡ v.loader) (made : w.made ≡ v.made) (lineage : w.lineage ≡ v.lineage) (done : (n : ℕ) → dones_in n w ≡ dones_in n v) where
+  made_same : total (λ u. u.made) (set views id w) ≡ total (λ u. u.made) views
+  made_same = total_same (λ u. u.made) views id v w at made
+
+  pub callers_told : LogHolds t history (total (λ u. u.made) views + 1) w → CallersHold t m (set views id w) history
+  callers_told holds = record {
+    holder = c.holder;
+    of_history = c.of_history;
+    room = (let e = total_same (λ u. u.budget.allowance) views id v w at (ap (λ b. b.allowance) budget) in let o = c.room in omega (arith, e, o));
+    numbers = λ n. total_same (dones_in n) views id v w at (done n) ∙ c.numbers n;
+    each = subst (λ k. (j : ℕ) (u : Log) → get_elem? (set views id w) j ≡ some u → LogHolds t history (k + 1) u) (sym made_same)
+        (after_step (λ _ u. LogHolds t history (total (λ z. z.made) views + 1) u) views id w holds (λ j u _ there. c.each j u there));
+    weights = (let e = total_same (λ u. weight u.role) views id v w at (ap weight role) in let b = made_same in let o = c.weights in omega (arith, e, b, o));
+    loader = lock_stays views m.loader m.loader id v w c.holder at loader (λ e. subst (LoaderLock m.loader views) e c.loader) c.loader;
+    at_loader = after_step (λ j u. AtLoader m c.holder j u.loader) views id w (subst (AtLoader m c.holder id) (sym loader) (c.at_loader id v at)) (λ j u _ there. c.at_loader j u there);
+    spare_copy = λ clean. c.spare_copy (none_before views id v w at (subst (λ o. IfSome o (λ h. h.stored ≡ false)) loader) clean);
+    counted = (let e = total_same (λ u. u.budget.credit) views id v w at (ap (λ b. b.credit) budget) in let o = c.counted in omega (arith, e, o));
+    lineages = lineages_over views c.lineages id v w at role lineage (λ gone. let h = c.lineages.nameless id v at (sym (ap is_nameless role) ∙ gone) in ((λ n. done n ∙ h.0 n), made ∙ h.1));
+  }
+
 -- A log that gets such receipts, and does nothing else.
 module _ (t : Terms) (words : List ℕ) (views : List Log) (r : TableInvariant t words views) (id : ℕ) (v : Log) (at : get_elem? views id ≡ some v) (rs : List Receipt) (told : Told t v.past (total (λ u. u.made) views + 1) (own_list v.receipts) rs) where
   abbrev m : Memory
@@ -70,38 +91,15 @@ module _ (t : Terms) (words : List ℕ) (views : List Log) (r : TableInvariant t
   own_past : IsPrefix v.past v.past
   own_past = ([], append-nil v.past)
 
-  made_same : total (λ u. u.made) (set views id w) ≡ total (λ u. u.made) views
-  made_same = total_same (λ u. u.made) views id v w at refl
-
-  each : (c : ℕ) → c ≡ total (λ u. u.made) views + 1 → (j : ℕ) (u : Log) → get_elem? (set views id w) j ≡ some u → LogHolds t r.memory.history c u
-  each c is_c = after_step (λ _ u. LogHolds t r.memory.history c u) views id w
-      (let mine = subst (λ k. LogHolds t r.memory.history k v) (sym is_c) (r.memory.callers.each id v at) in record {
-        terms = mine.terms;
-        begins = mine.begins;
-        receipts = record { since = mine.receipts.since; own = told_record t v.past v.past c (own_list v.receipts) rs own_past mine.receipts.since (subst (λ k. Told t v.past k (own_list v.receipts) rs) (sym is_c) told) mine.receipts.own; joined = mine.receipts.joined; heard = mine.receipts.heard };
-        idle = idle_stays v w refl refl mine.idle;
-      })
-      (λ j u _ there. subst (λ k. LogHolds t r.memory.history k u) (sym is_c) (r.memory.callers.each j u there))
-
   callers : CallersHold t m (set views id w) r.memory.history
   callers =
-      let c = r.memory.callers in record {
-        holder = c.holder;
-        lawful = c.lawful;
-        updates = c.updates;
-        published = c.published;
-        terms = c.terms;
-        members = c.members;
-        room = (let e = total_same (λ u. u.budget.allowance) views id v w at refl in let o = c.room in omega (arith, e, o));
-        numbers = λ n. total_same (dones_in n) views id v w at (let e = told_numbers t v.past (total (λ u. u.made) views + 1) (own_list v.receipts) rs n told in omega (arith, e)) ∙ c.numbers n;
-        each = each (total (λ u. u.made) (set views id w) + 1) (ap (λ k. k + 1) made_same);
-        weights = (let e = total_same (λ u. weight u.role) views id v w at refl in let b = made_same in let o = c.weights in omega (arith, e, b, o));
-        loader = lock_stays views m.loader m.loader id v w c.holder at refl (λ e. subst (LoaderLock (memory_of t words).loader views) e c.loader) c.loader;
-        at_loader = after_step (λ j u. AtLoader (memory_of t words) r.memory.callers.holder j u.loader) views id w (c.at_loader id v at) (λ j u _ there. c.at_loader j u there);
-        spare_copy = λ clean. c.spare_copy (none_before views id v w at (λ h. h) clean);
-        counted = (let e = total_same (λ u. u.budget.credit) views id v w at refl in let o = c.counted in omega (arith, e, o));
-        lineages = lineages_over views c.lineages id v w at refl refl (λ gone. let h = c.lineages.nameless id v at gone in ((λ n. (let e = told_numbers t v.past (total (λ u. u.made) views + 1) (own_list v.receipts) rs n told in let o = h.0 n in omega (arith, e, o))), h.1));
-      }
+      let mine = r.memory.callers.each id v at in
+      callers_told t m views r.memory.history r.memory.callers id v w at refl refl refl refl refl (λ n. let e = told_numbers t v.past (total (λ u. u.made) views + 1) (own_list v.receipts) rs n told in omega (arith, e)) (record {
+        terms = mine.terms;
+        begins = mine.begins;
+        receipts = record { since = mine.receipts.since; own = told_record t v.past v.past (total (λ u. u.made) views + 1) (own_list v.receipts) rs own_past mine.receipts.since told mine.receipts.own; joined = mine.receipts.joined; heard = mine.receipts.heard };
+        idle = idle_stays v w refl refl mine.idle;
+      })
 
   mine : ObservationsHold t m r.memory.history (total (λ u. u.made) views + 1) r.memory.shadow w
   mine =
@@ -120,6 +118,6 @@ module _ (t : Terms) (words : List ℕ) (views : List Log) (r : TableInvariant t
     shadow = r.memory.shadow;
     nodes = nodes_same views id v w at t m.nodes r.memory.history r.memory.shadow refl r.memory.nodes;
     active = r.memory.active;
-    observations = subst (λ c. (j : ℕ) (u : Log) → get_elem? (set views id w) j ≡ some u → ObservationsHold t m r.memory.history (c + 1) r.memory.shadow u) (sym made_same)
+    observations = subst (λ c. (j : ℕ) (u : Log) → get_elem? (set views id w) j ≡ some u → ObservationsHold t m r.memory.history (c + 1) r.memory.shadow u) (sym (total_same (λ u. u.made) views id v w at refl))
         (after_step (λ _ u. ObservationsHold t m r.memory.history (total (λ z. z.made) views + 1) r.memory.shadow u) views id w mine (λ j u _ there. r.memory.observations j u there));
   }) (λ alone. r.alone id v at alone)

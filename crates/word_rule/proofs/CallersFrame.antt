@@ -94,11 +94,7 @@ module _ (t : Terms) (m : Memory) (views : List Log) (history : List Update) (r 
       let made : total (λ u. u.made) (set views id w) ≡ total (λ u. u.made) views = total_same (λ u. u.made) views id v w at like.made in
       record {
         holder = holder;
-        lawful = r.lawful;
-        terms = r.terms;
-        members = r.members;
-        updates = rw clock r.updates;
-        published = rw clock r.published;
+        of_history = rw clock r.of_history;
         room = rw (total_same (λ u. u.budget.allowance) views id v w at like.allowance) r.room;
         numbers = λ n. rw (total_same (dones_in n) views id v w at (ap (dones n) like.receipts)) (r.numbers n);
         each = λ j u e. rw made (after_step (λ _ z. LogHolds t history (total (λ y. y.made) views + 1) z) views id w (like_log _ idle (r.each id v at)) (λ j u _ e. r.each j u e) j u e);

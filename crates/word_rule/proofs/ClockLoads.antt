@@ -26,9 +26,9 @@ use Rattle.word_rule.specs.declared.log.Terms.{Terms}
 use Rattle.word_rule.specs.declared.log.Log.{Log}
 use Rattle.word_rule.specs.Places.{lower, upper}
 use Rattle.word_rule.specs.Memory.{Memory, memory_of}
-use Rattle.word_rule.specs.Logs.{is_gone, weight, turns, load_of, own_list}
+use Rattle.word_rule.specs.Logs.{is_gone, turns, load_of, own_list}
 use Rattle.word_rule.specs.Sights.{after_clock, copies_after_clock, query_receipt, walk_receipts, with_clock}
-use Rattle.word_rule.specs.Callers.{total, CallersHold, LogHolds, IsMemberOf, AtLoader, LoaderLock, dones_in, start}
+use Rattle.word_rule.specs.Callers.{total, CallersHold, LogHolds, IsMemberOf, AtLoader, start}
 use Rattle.word_rule.specs.Copies.{ListsAll, ListsMembers, CopySightHolds, IsBehind}
 use Rattle.word_rule.specs.Observations.{AreInside, SightHolds, WasFull, ObservationsHold, HadMembers, IsFullCount, last_moment}
 use Rattle.word_rule.specs.TableInvariant.{TableInvariant}
@@ -40,12 +40,12 @@ use Rattle.word_rule.specs.Steps.{IsRefusalOf, MayRefuse, Refuses}
 use Rattle.word_rule.specs.declared.log.LoaderHolding.{LoaderHolding}
 use Rattle.word_rule.proofs.CopyStores.{loader_held}
 use Rattle.word_rule.proofs.TreeRefusals.{ShownLeaves, found_there, held_inside, registered_ordered, register_refused, deregister_refused, replace_refused}
-use Rattle.word_rule.proofs.Answering.{Told, told_record, told_numbers, all_ended}
+use Rattle.word_rule.proofs.Answering.{callers_told, Told, told_record, told_numbers, all_ended}
 use Rattle.word_rule.proofs.Refusals.{HoldsNow, query_at, query_answers, refusal}
 use Rattle.word_rule.specs.Plays.{Seated, loads_clock}
 use Rattle.word_rule.proofs.Facts.{total_same, part_of_total, after_step, decided}
 use Rattle.word_rule.proofs.Each.{all_map, all_append, all_of, some_with}
-use Rattle.word_rule.proofs.CallersFrame.{lineages_over, lock_stays, none_before, none_elsewhere, idle_stays}
+use Rattle.word_rule.proofs.CallersFrame.{none_elsewhere, idle_stays}
 use Rattle.word_rule.proofs.NodesFrame.{nodes_same}
 use Rattle.word_rule.proofs.Frames.{Sit, load_step, still_after_load}
 use Rattle.word_rule.proofs.Listings.{contains_find, lists_same, loaded_members, none_registered, registered_members, start_lawful, state_fixed, listed_few}
@@ -98,7 +98,7 @@ module _ (law : LeafLaw) (t : Terms) (slots id : ℕ) (me : Seated) (live : is_g
     terms = (r.memory.callers.each id me.0 at).terms live
 
     low : get_or s.words 0 0 % 4294967296 ≡ length r.memory.history
-    low = r.memory.callers.updates
+    low = r.memory.callers.of_history.updates
 
     -- the receipt of a walk
     walked : (pc : ℕ) (o : Option CopySight) → Told t r.memory.history (total (λ v. v.made) s.views + 1) (own_list me.0.receipts) (walk_receipts (record me.0 { past = r.memory.history }) (get_or s.words 0 0) pc o)
@@ -117,7 +117,7 @@ module _ (law : LeafLaw) (t : Terms) (slots id : ℕ) (me : Seated) (live : is_g
         let copy : h.0.active ≡ m.copies (upper (get_or s.words 0 0) % 2) = mine.1.active in
         let listed : ListsAll (m.copies (upper (get_or s.words 0 0) % 2)) (state_after (start t) r.memory.history).loaded = r.memory.active in
         let members_are : h.1.1.0 ≡ listed.members = lists_same (m.copies (upper (get_or s.words 0 0) % 2)) h.1.1.0 listed.members (subst (λ ws. ListsMembers ws h.1.1.0) copy h.1.1.1.0) listed.lists in
-        let told = refusal t r.memory.history (total (λ v. v.made) s.views + 1) (last_moment me.0.receipts.since me.0.receipts.own) r.memory.callers.terms r.memory.callers.lawful r.memory.callers.members listed.members listed.lists.ascending listed.same u (subst (Refuses t u) members_are h.1.1.1.1) in
+        let told = refusal t r.memory.history (total (λ v. v.made) s.views + 1) (last_moment me.0.receipts.since me.0.receipts.own) r.memory.callers.of_history.terms r.memory.callers.of_history.lawful r.memory.callers.of_history.members listed.members listed.lists.ascending listed.same u (subst (Refuses t u) members_are h.1.1.1.1) in
         (told.0, (subst (λ k. IsRefusalOf u (state_after (start k) r.memory.history) (lower (get_or s.words 0 0)) told.0) (sym terms) (subst (λ k. IsRefusalOf u (state_after (start t) r.memory.history) k told.0) (sym low) told.1.0), told.1.1))
 
     -- a live leaf's entries are the members of now inside its fences
@@ -140,7 +140,7 @@ module _ (law : LeafLaw) (t : Terms) (slots id : ℕ) (me : Seated) (live : is_g
     -- what its held leaves show
     leaves : ShownLeaves t r.memory.history (total (λ v. v.made) s.views + 1) me.0
     leaves = record {
-      disjoint = (lawful_history (start t) r.memory.history (start_lawful t r.memory.callers.terms) r.memory.callers.lawful).registered;
+      disjoint = (lawful_history (start t) r.memory.history (start_lawful t r.memory.callers.of_history.terms) r.memory.callers.of_history.lawful).registered;
       ordered = registered_ordered t m.nodes s.views r.memory.history r.memory.shadow r.memory.nodes;
       inside = held_inside t m.nodes s.views r.memory.history r.memory.shadow r.memory.nodes inside_now id me.0 at;
       full = (r.memory.observations id me.0 at).full;
@@ -198,35 +198,14 @@ module _ (law : LeafLaw) (t : Terms) (slots id : ℕ) (me : Seated) (live : is_g
     made_same : total (λ v. v.made) (set s.views id w) ≡ total (λ v. v.made) s.views
     made_same = total_same (λ v. v.made) s.views id me.0 w at refl
 
-    each : (c : ℕ) → c ≡ total (λ v. v.made) s.views + 1 → (j : ℕ) (v : Log) → get_elem? (set s.views id w) j ≡ some v → LogHolds t r.memory.history c v
-    each c is_c = after_step (λ _ v. LogHolds t r.memory.history c v) s.views id w
-        (let mine = subst (λ k. LogHolds t r.memory.history k me.0) (sym is_c) log in record {
-          terms = λ _. terms;
-          begins = ([], append-nil r.memory.history);
-          receipts = record { since = since; own = told_record t me.0.past r.memory.history c (own_list me.0.receipts) receipts log.begins since (subst (λ k. Told t r.memory.history k (own_list me.0.receipts) receipts) (sym is_c) told) mine.receipts.own; joined = records_later t me.0.past r.memory.history c c mine.begins (omega arith) me.0.receipts.joined mine.receipts.joined; heard = prefix_both me.0.receipts.heard me.0.past r.memory.history mine.receipts.heard mine.begins };
-          idle = idle_stays me.0 w refl refl mine.idle;
-        })
-        (λ j v _ there. subst (λ k. LogHolds t r.memory.history k v) (sym is_c) (r.memory.callers.each j v there))
-
     callers : CallersHold t m (set s.views id w) r.memory.history
     callers =
-        let c = r.memory.callers in record {
-          holder = c.holder;
-          lawful = c.lawful;
-          updates = c.updates;
-          published = c.published;
-          terms = c.terms;
-          members = c.members;
-          room = (let e = total_same (λ v. v.budget.allowance) s.views id me.0 w at refl in let o = c.room in omega (arith, e, o));
-          numbers = λ n. total_same (dones_in n) s.views id me.0 w at (let e = told_numbers t r.memory.history (total (λ v. v.made) s.views + 1) (own_list me.0.receipts) receipts n told in omega (arith, e)) ∙ c.numbers n;
-          each = each (total (λ v. v.made) (set s.views id w) + 1) (ap (λ k. k + 1) made_same);
-          weights = (let e = total_same (λ v. weight v.role) s.views id me.0 w at refl in let b = made_same in let o = c.weights in omega (arith, e, b, o));
-          loader = lock_stays s.views m.loader m.loader id me.0 w c.holder at refl (λ e. subst (LoaderLock (memory_of t s.words).loader s.views) e c.loader) c.loader;
-          at_loader = after_step (λ j v. AtLoader (memory_of t s.words) r.memory.callers.holder j v.loader) s.views id w (c.at_loader id me.0 at) (λ j v _ there. c.at_loader j v there);
-          spare_copy = λ clean. c.spare_copy (none_before s.views id me.0 w at (λ h. h) clean);
-          counted = (let e = total_same (λ v. v.budget.credit) s.views id me.0 w at refl in let o = c.counted in omega (arith, e, o));
-          lineages = lineages_over s.views c.lineages id me.0 w at refl refl (λ gone. let h = c.lineages.nameless id me.0 at gone in ((λ n. (let e = told_numbers t r.memory.history (total (λ v. v.made) s.views + 1) (own_list me.0.receipts) receipts n told in let o = h.0 n in omega (arith, e, o))), h.1));
-        }
+        callers_told t m s.views r.memory.history r.memory.callers id me.0 w at refl refl refl refl refl (λ n. let e = told_numbers t r.memory.history (total (λ v. v.made) s.views + 1) (own_list me.0.receipts) receipts n told in omega (arith, e)) (record {
+          terms = λ _. terms;
+          begins = ([], append-nil r.memory.history);
+          receipts = record { since = since; own = told_record t me.0.past r.memory.history (total (λ v. v.made) s.views + 1) (own_list me.0.receipts) receipts log.begins since told log.receipts.own; joined = records_later t me.0.past r.memory.history _ _ log.begins (omega arith) me.0.receipts.joined log.receipts.joined; heard = prefix_both me.0.receipts.heard me.0.past r.memory.history log.receipts.heard log.begins };
+          idle = idle_stays me.0 w refl refl log.idle;
+        })
 
     -- where the clock is loaded, a sight that stands knows the members of then
     clocked : (g : NodeSight) → SightHolds t m.nodes r.memory.history r.memory.shadow g → SightHolds t m.nodes r.memory.history r.memory.shadow (with_clock (lower (get_or s.words 0 0)) g)
@@ -296,7 +275,7 @@ module _ (law : LeafLaw) (t : Terms) (slots id : ℕ) (me : Seated) (live : is_g
       copy = m.copies (g.guard % 2);
       loaded_so = h.loaded guard;
       listing = subst (λ u. ListsAll (m.copies (u % 2)) (state_after (start t) r.memory.history).loaded) (sym guard) r.memory.active;
-      few = listed_few t r.memory.history r.memory.callers.terms r.memory.callers.members r.memory.callers.lawful (subst (λ u. ListsAll (m.copies (u % 2)) (state_after (start t) r.memory.history).loaded) (sym guard) r.memory.active);
+      few = listed_few t r.memory.history r.memory.callers.of_history.terms r.memory.callers.of_history.members r.memory.callers.of_history.lawful (subst (λ u. ListsAll (m.copies (u % 2)) (state_after (start t) r.memory.history).loaded) (sym guard) r.memory.active);
     }
 
     held_copy : (o : Option LoaderHolding) → AtLoader m r.memory.callers.holder id o → IfSome o (λ h. (upper (get_or s.words 0 0) ≡ h.published) × ListsAll h.active (state_after (start t) r.memory.history).loaded)
@@ -314,15 +293,15 @@ module _ (law : LeafLaw) (t : Terms) (slots id : ℕ) (me : Seated) (live : is_g
     pub tells : ClockTells t (get_or s.words 0 0) me.0 r.memory.history
     tells = record {
       terms = terms;
-      valid = r.memory.callers.terms;
+      valid = r.memory.callers.of_history.terms;
       begins = log.begins;
-      updates = r.memory.callers.updates;
-      published = r.memory.callers.published;
-      lawful = lawful_history (start t) r.memory.history (start_lawful t r.memory.callers.terms) r.memory.callers.lawful;
+      updates = r.memory.callers.of_history.updates;
+      published = r.memory.callers.of_history.published;
+      lawful = lawful_history (start t) r.memory.history (start_lawful t r.memory.callers.of_history.terms) r.memory.callers.of_history.lawful;
       members = all_append (IsMemberOf t) (state_after (start t) r.memory.history).fixed (state_after (start t) r.memory.history).loaded
-          (subst (AllByRecursion (IsMemberOf t)) (sym (state_fixed (start t) r.memory.history).0) r.memory.callers.terms.members)
-          (loaded_members t (start t) r.memory.history r.memory.callers.members tt);
-      entries = registered_members t (start t) r.memory.history r.memory.callers.members tt;
+          (subst (AllByRecursion (IsMemberOf t)) (sym (state_fixed (start t) r.memory.history).0) r.memory.callers.of_history.terms.members)
+          (loaded_members t (start t) r.memory.history r.memory.callers.of_history.members tt);
+      entries = registered_members t (start t) r.memory.history r.memory.callers.of_history.members tt;
       registered = λ all. none_registered (start t) r.memory.history all refl;
       copies = seen_copy me.0.sights.copies (r.memory.observations id me.0 at).copies;
       holder = held_copy me.0.loader (r.memory.callers.at_loader id me.0 at);

@@ -1,7 +1,7 @@
 -- A commit keeps the rule: the history has an update of the tree more, and what its caller changed settles.
 use Rattle.std.proofs.Common.{◌≡◌, ◌≢◌, ℕ, ◌+◌, ◌/◌, ◌%◌, ◌^◌, ◌<◌, ◌≤◌, ◌↔◌, List, [], ◌∷◌, ◌++◌, length, get_or, set, length-set, sym, refl, ap, ◌∙◌, subst, arith, Bool, false, Option, Some, None, Contains, if◌then◌else◌, ◌==◌, IsSome, IsTrue, eq-eqb}
 use Rattle.std.specs.List.{AllByRecursion}
-use Rattle.std.proofs.lemmas.List.Sums.{sum_by_push, count_by-le-length}
+use Rattle.std.proofs.lemmas.List.Sums.{sum_by_push}
 use mathlib.Core.Option.{none, some}
 use mathlib.Core.List.{IsPrefix}
 use lib.ListN.{get_elem?}
@@ -27,9 +27,9 @@ use Rattle.word_rule.specs.declared.log.Log.{Log}
 use Rattle.word_rule.specs.Places.{upper}
 use Rattle.word_rule.specs.Memory.{Memory, memory_of}
 use Rattle.word_rule.specs.Logs.{is_gone, is_nameless}
-use Rattle.word_rule.specs.Exchange.{IsLawfulExchange, after_exchange, group_of, settle_free, top_of}
+use Rattle.word_rule.specs.Exchange.{ChangeLaws, IsLawfulExchange, after_exchange, group_of, settle_free, top_of}
 use Rattle.word_rule.specs.Steps.{IsDone, after_update}
-use Rattle.word_rule.specs.Commits.{AfterCommit, MayCommit, after_commit}
+use Rattle.word_rule.specs.Commits.{AfterCommit, MayCommit, after_commit, CommitTells}
 use Rattle.word_rule.specs.Callers.{IsMemberOf, total, CallersHold, AtLoader, LoaderLock, is_of_loader, start}
 use Rattle.word_rule.specs.Nodes.{Shadow, NodesHold}
 use Rattle.word_rule.specs.Copies.{ListsAll, ActiveCopy, IsBehind}
@@ -43,14 +43,14 @@ use Rattle.word_rule.proofs.NodesFrame.{nodes_same}
 use Rattle.word_rule.proofs.NodeLoads.{OrderLaw}
 use Rattle.word_rule.proofs.ObservationsFrame.{observations_over}
 use Rattle.word_rule.proofs.Frames.{Sit, table_step, still_after_turn}
-use Rattle.word_rule.proofs.Accepting.{Accepts, answered, callers_after, few_updates, observations_received}
+use Rattle.word_rule.proofs.Accepting.{Accepts, answered, callers_after, few_publications, few_updates, observations_received}
 use Rattle.word_rule.proofs.Each.{all_map}
 use Rattle.word_rule.proofs.Spells.{eqb_true}
 use Rattle.word_rule.proofs.Holders.{marked_live}
 use Rattle.word_rule.proofs.Listings.{registered_members}
 use Rattle.word_rule.proofs.TreeUpdates.{ascending_apart, ascending_same, finds_only, tree_fits}
 use Rattle.word_rule.proofs.Exchanges.{DecidedLaw, exchange_decides}
-use Rattle.word_rule.proofs.Exchanging.{ChangeLaws, settled', live', entries_after, lawful_after}
+use Rattle.word_rule.proofs.Exchanging.{settled', live', entries_after, lawful_after}
 use Rattle.word_rule.proofs.Settling.{OnSettling, nodes, sights}
 use Rattle.word_rule.proofs.Settles.{exchanged}
 
@@ -124,14 +124,11 @@ module _ (t : Terms) (slots id : ℕ) (me : Seated) (caller : me.0.role ≡ role
     small : length r.memory.history < 67108864
     small = few_updates t (memory_of t s.words) s.views r.memory.history r.memory.callers id me.0 caller at u may.due may.member fit.0 answer_of.0 answer_of.1
 
-    low : get_or s.words 0 0 % 4294967296 ≡ length r.memory.history
-    low = r.memory.callers.updates
-
     high : get_or s.words 0 0 / 4294967296 ≤ length r.memory.history
-    high = let p = r.memory.callers.published in let q = count_by-le-length is_of_loader r.memory.history in omega (arith, p, q)
+    high = few_publications t (memory_of t s.words) s.views r.memory.history r.memory.callers id me.0 caller at u may.due may.member fit.0 answer_of.0 answer_of.1
 
     same_upper : (get_or s.words 0 0 + 1) / 4294967296 ≡ get_or s.words 0 0 / 4294967296
-    same_upper = let a = low in let b = small in omega (arith, a, b)
+    same_upper = let a = r.memory.callers.of_history.updates in let b = small in omega (arith, a, b)
 
     pub no_overflow : (get_or s.words 0 0 + 1) % 2 ^ 64 ≡ get_or s.words 0 0 + 1
     no_overflow = let a = high in let b = small in omega (arith, a, b)
@@ -160,8 +157,8 @@ module _ (t : Terms) (slots id : ℕ) (me : Seated) (caller : me.0.role ≡ role
 
     callers : CallersHold t m' (set s.views id w) longer
     callers = callers_after t (memory_of t s.words) s.views r.memory.history r.memory.callers id me.0 caller at u may.due may.member fit.0 answer_of.0 answer_of.1 holdings me.0.loader (get_or s.words 0 0 + 1)
-        (let a = low in let b = small in omega (arith, a, b))
-        (let a = same_upper in let p = r.memory.callers.published in let q = sum_by_push (λ x. once (is_of_loader x)) r.memory.history u in let b : once (is_of_loader u) ≡ 0 = ap once fit.2 in omega (arith, a, p, q, b))
+        (let a = r.memory.callers.of_history.updates in let b = small in omega (arith, a, b))
+        (let a = same_upper in let p = r.memory.callers.of_history.published in let q = sum_by_push (λ x. once (is_of_loader x)) r.memory.history u in let b : once (is_of_loader u) ≡ 0 = ap once fit.2 in omega (arith, a, p, q, b))
         (lock_stays s.views (memory_of t s.words).loader (memory_of t s.words).loader id me.0 w r.memory.callers.holder at refl (λ e. subst (LoaderLock (memory_of t s.words).loader s.views) e r.memory.callers.loader) r.memory.callers.loader)
         (after_step (λ j z. AtLoader m' r.memory.callers.holder j z.loader) s.views id w (kept_lock id me.0.loader (r.memory.callers.at_loader id me.0 at)) (λ j z _ there. kept_lock j z.loader (r.memory.callers.at_loader j z there)))
         (λ clean. subst (λ k. IsBehind t ((memory_of t s.words).copies (k % 2)) ((memory_of t s.words).copies ((k + 1) % 2))) (sym same_upper) (r.memory.callers.spare_copy (none_before s.views id me.0 w at (λ h. h) clean)))
@@ -210,22 +207,20 @@ module _ (t : Terms) (slots id : ℕ) (me : Seated) (caller : me.0.role ≡ role
     settled_so : w ≡ after_commit u r.memory.history answer_of.0 me.0
     settled_so = ap (λ b. after_update u r.memory.history answer_of.0 (if b then after_exchange me.0 top group else settle_free me.0)) (sym may.lawful)
 
+    terms : me.0.terms ≡ t
+    terms = (r.memory.callers.each id me.0 at).terms (ap is_gone caller)
+
+    tells : CommitTells (get_or s.words 0 0) me.0 r.memory.history
+    tells = record {
+      begins = (r.memory.callers.each id me.0 at).begins;
+      number = r.memory.callers.of_history.updates;
+      room = small;
+      members = subst (λ k. AllByRecursion (IsMemberOf k) (state_after (start k) r.memory.history).registered) (sym terms) (registered_members t (start t) r.memory.history r.memory.callers.of_history.members tt);
+      entries = subst (λ k. AllByRecursion (λ h. IsSome h.mark → (x : Member) → Contains (entries_of h.settled) x → at_base x.span.first (state_after (start k) r.memory.history).registered ≡ Some x) me.0.holdings.held) (sym terms) entries_told;
+    }
+
     pub after_it : AfterCommit u (get_or s.words 0 0) me.0 w
-    after_it = let terms : me.0.terms ≡ t = (r.memory.callers.each id me.0 at).terms (ap is_gone caller) in (
-      r.memory.history,
-      answer_of.0,
-      (
-        record {
-          begins = (r.memory.callers.each id me.0 at).begins;
-          number = low;
-          room = small;
-          members = subst (λ k. AllByRecursion (IsMemberOf k) (state_after (start k) r.memory.history).registered) (sym terms) (registered_members t (start t) r.memory.history r.memory.callers.members tt);
-          entries = subst (λ k. AllByRecursion (λ h. IsSome h.mark → (x : Member) → Contains (entries_of h.settled) x → at_base x.span.first (state_after (start k) r.memory.history).registered ≡ Some x) me.0.holdings.held) (sym terms) entries_told;
-        },
-        subst (λ k. IsDone u (length r.memory.history + 1) (state_after (start k) r.memory.history) answer_of.0) (sym terms) answer_of.1.is_done,
-        settled_so,
-      ),
-    )
+    after_it = (r.memory.history, answer_of.0, (tells, subst (λ k. IsDone u (length r.memory.history + 1) (state_after (start k) r.memory.history) answer_of.0) (sym terms) answer_of.1.is_done, settled_so))
 
   -- the clock gets one update more in its lower half
   pub commits_update : (u : Update) → MayCommit t u me.0 → Allows Rule slots id me 0 (λ n. (n + 1) % 2 ^ 64) (commits u (step slots 0 1 0 none) me)

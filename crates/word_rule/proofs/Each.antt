@@ -1,5 +1,5 @@
 -- What holds of each item of a list.
-use Rattle.std.proofs.Common.{◌≡◌, ℕ, zero, suc, arith, Contains, List, [], ◌∷◌, ◌++◌, Option, Some, None, sym, subst, true≢false, eq-eqb, ne_eqb, IsSome, IsSomeAnd, refl}
+use Rattle.std.proofs.Common.{◌≡◌, ℕ, zero, suc, arith, Contains, List, [], ◌∷◌, ◌++◌, Option, Some, None, sym, subst, true≢false, eq-eqb, ne_eqb, IsSome, IsSomeAnd, is_some, false, refl}
 use Rattle.std.proofs.lemmas.Option.{none-some, same_Some}
 use Rattle.std.specs.List.{AllByRecursion}
 use native.Mathlib.Decide.{ℕ_discrete}
@@ -48,3 +48,7 @@ some_of (Some a) h = (a, refl)
 pub some_with : {A : Type 0} (o : Option A) (P : A → Type 0) → IsSomeAnd o P → (a : A) × ((o ≡ Some a) × P a)
 some_with None P h = absurd h
 some_with (Some a) P h = (a, (refl, h))
+
+pub not_some : {A : Type 0} (o : Option A) → is_some o ≡ false → o ≡ None
+not_some None e = refl
+not_some (Some a) e = absurd (true≢false e)

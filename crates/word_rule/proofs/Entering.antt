@@ -51,11 +51,7 @@ module _ (t : Terms) (words : List ℕ) (views : List Log) (r : TableInvariant t
   callers : CallersHold t m both r.memory.history
   callers = let c = r.memory.callers in record {
     holder = c.holder;
-    lawful = c.lawful;
-    updates = c.updates;
-    published = c.published;
-    terms = c.terms;
-    members = c.members;
+    of_history = c.of_history;
     room = (let e = sums (λ v. v.budget.allowance) refl in let o = c.room in omega (arith, e, o));
     numbers = λ n. sums (dones_in n) refl ∙ c.numbers n;
     each = subst (λ k. (j : ℕ) (u : Log) → get_elem? both j ≡ some u → LogHolds t r.memory.history (k + 1) u) (sym (sums (λ v. v.made) refl))
@@ -106,4 +102,4 @@ reads_on t id v here s r at =
 -- a reader is made by a load of the clock, and has seen all that was accepted
 pub reader_enters : (t : Terms) (slots : ℕ) → Enters (λ (s : TableState (Unit {0}) Log). TableInvariant t s.words s.views) slots 0 (λ found w. (past : List Update) × ((lower found ≡ length past) × (w ≡ reader_log t past)))
 reader_enters t slots s r deep small =
-    let history = r.memory.history in (reader_log t history, reader_comes t s.words s.views r history ([], append-nil history), (history, (r.memory.callers.updates, refl)))
+    let history = r.memory.history in (reader_log t history, reader_comes t s.words s.views r history ([], append-nil history), (history, (r.memory.callers.of_history.updates, refl)))

@@ -10,8 +10,8 @@ use Rattle.reg_model.specs.declared.answer.Update.{Update}
 use Rattle.tree_shape.specs.declared.node.Frame.{Frame}
 use Rattle.tree_shape.specs.Trees.{Contents, HasEntry}
 use Rattle.tree_shape.specs.Numbers.{times, once, is_among}
-use Rattle.tree_shape.specs.Lawful.{IsTree, IsLawfulTree, IsFilled}
-use Rattle.tree_shape.specs.LocalChange.{either, reached_nodes, live_after, IsLocalChange, IsLawfulChange, IsSameChange, EntriesBecome}
+use Rattle.tree_shape.specs.Lawful.{IsLawfulTree}
+use Rattle.tree_shape.specs.LocalChange.{either, reached_nodes, live_after, IsLawfulChange, IsSameChange, EntriesBecome}
 use Rattle.tree_shape.proofs.Reach.{within_set}
 use Rattle.tree_shape.proofs.Times.{times-append, once_most}
 use Rattle.word_rule.specs.declared.log.Terms.{Terms}
@@ -19,21 +19,12 @@ use Rattle.word_rule.specs.declared.log.Holding.{Holding}
 use Rattle.word_rule.specs.declared.log.Log.{Log}
 use Rattle.word_rule.specs.Memory.{NodeWords}
 use Rattle.word_rule.specs.Held.{held_of, settled_shape, settled_in, now_in, is_marked, marked_in}
-use Rattle.word_rule.specs.Exchange.{is_fresh, exchanged_in, reached_in, is_reached, node_of, out_after, IsLawfulExchange}
+use Rattle.word_rule.specs.Exchange.{ChangeLaws, is_fresh, exchanged_in, reached_in, is_reached, node_of, out_after, IsLawfulExchange}
 use Rattle.word_rule.specs.Callers.{total}
 use Rattle.word_rule.specs.Nodes.{Shadow, NodesHold, HoldsNode, IsPlaced}
 use Rattle.word_rule.proofs.Facts.{part_of_total}
 use Rattle.word_rule.proofs.Each.{held_is}
 use Rattle.word_rule.proofs.NodeLoads.{ltb_true}
-
--- The laws of tree_shape that an exchange rests on.
-pub record ChangeLaws : Type 0 where
-  pub transfer : (top : ℕ) (group fresh : ℕ → Bool) (f : Contents) (live : ℕ → Bool) (g f' : Contents) (live' : ℕ → Bool) (g' : Contents) (update : Option Update) → IsLawfulChange f live top group fresh g update → IsSameChange top group fresh f g f' live' g' → IsLawfulChange f' live' top group fresh g' update
-  pub reached : (top : ℕ) (group fresh : ℕ → Bool) (f : Contents) (live : ℕ → Bool) (g f' : Contents) (live' : ℕ → Bool) (g' : Contents) → IsLocalChange f live top group fresh g → IsSameChange top group fresh f g f' live' g' → reached_nodes top group fresh g' ≡ reached_nodes top group fresh g
-  pub widen : (f : Contents) (live : ℕ → Bool) (top : ℕ) (group fresh more : ℕ → Bool) (g : Contents) (update : Option Update) → IsTree f live → IsLawfulChange f live top group fresh g update → ((n : ℕ) → IsTrue (fresh n) → IsTrue (more n)) → ((n : ℕ) → IsTrue (more n) → live n ≡ false) → IsLawfulChange f live top group more g update
-  pub wider : (f : Contents) (live : ℕ → Bool) (top : ℕ) (group fresh more : ℕ → Bool) (g : Contents) → IsTree f live → IsLocalChange f live top group fresh g → ((n : ℕ) → IsTrue (fresh n) → IsTrue (more n)) → ((n : ℕ) → IsTrue (more n) → live n ≡ false) → reached_nodes top group more g ≡ reached_nodes top group fresh g
-  pub lawful : (f : Contents) (live : ℕ → Bool) (top : ℕ) (group fresh : ℕ → Bool) (g : Contents) → IsLawfulTree f live → IsLocalChange f live top group fresh g → AllByRecursion (λ n. IsFilled n (g n)) (reached_nodes top group fresh g) → IsLawfulTree g (live_after live top group fresh g)
-  pub update : (f : Contents) (live : ℕ → Bool) (top : ℕ) (group fresh : ℕ → Bool) (g : Contents) (update : Option Update) → IsLawfulTree f live → IsLawfulChange f live top group fresh g update → EntriesBecome update (HasEntry f live) (HasEntry g (live_after live top group fresh g))
 
 pub and_false : (b : Bool) → (b && false) ≡ false
 and_false true = refl

@@ -89,7 +89,7 @@ module _ (t : Terms) (slots id : ℕ) (me : Seated) (caller : me.0.role ≡ role
     head_within = go r.memory.shadow.free r.memory.nodes.chain refl
       where
         go : (free : List ℕ) → IsChain (memory_of t s.words).nodes.contents (get_or s.words 1 0) free → r.memory.shadow.free ≡ free → get_or s.words 1 0 < t.nodes
-        go [] chain is = let some_nodes = r.memory.callers.terms.nodes.0 in let zero_head = chain in omega (arith, some_nodes, zero_head)
+        go [] chain is = let some_nodes = r.memory.callers.of_history.terms.nodes.0 in let zero_head = chain in omega (arith, some_nodes, zero_head)
         go (k ∷ free) chain is = by_test (nat_lt (get_or s.words 1 0) t.nodes) refl
           where
             by_test : (b : Bool) → nat_lt (get_or s.words 1 0) t.nodes ≡ b → get_or s.words 1 0 < t.nodes
@@ -118,7 +118,7 @@ module _ (t : Terms) (slots id : ℕ) (me : Seated) (caller : me.0.role ≡ role
     keeps,
     tt,
     looked entries_law order s r here,
-    (refl, (r.memory.callers.each id me.0 here).terms (ap is_gone caller), head_within entries_law order s r here, r.memory.callers.terms.nodes.1),
+    (refl, (r.memory.callers.each id me.0 here).terms (ap is_gone caller), head_within entries_law order s r here, r.memory.callers.of_history.terms.nodes.1),
   )
 
   -- the same, told of terms that are known to be these

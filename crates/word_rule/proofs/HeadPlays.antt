@@ -197,7 +197,7 @@ module _ (t : Terms) (slots id : ℕ) (me : Seated) (caller : me.0.role ≡ role
   found : EntriesLaw → OrderLaw → (s : Sit) (r : Holds s) → get_elem? s.views id ≡ some me.0 → FindsHead me (get_or s.words 1 0) (after_head_load (get_or s.words 1 0) me.0, me.1)
   found entries order s r at =
       let terms : me.0.terms ≡ t = (r.memory.callers.each id me.0 at).terms (ap is_gone caller) in
-      let few = r.memory.callers.terms.nodes.1 in
+      let few = r.memory.callers.of_history.terms.nodes.1 in
       (refl, subst (λ (k : Terms). get_or s.words 1 0 < k.nodes) (sym terms) (head_within t slots id me caller entries order s r at), subst (λ (k : Terms). k.nodes ≤ 16384) (sym terms) few)
 
   pub pops_head : EntriesLaw → OrderLaw → (n next : ℕ) → MayPop n next me.0 → Allows Holds slots id me 1 (λ k. either (k == n) next k) (pops (step slots 1 n next none) me)

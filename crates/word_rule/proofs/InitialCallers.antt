@@ -58,11 +58,7 @@ only P v h j w e = let a = at_first v w j e in subst (λ (z : ℕ × Log). P z.0
 pub callers_begin : (t : Terms) → AreTerms t → IsBehind t (copy_of t (initial_words t) 0) (copy_of t (initial_words t) 1) → CallersHold t (memory_of t (initial_words t)) (first_log t ∷ []) []
 callers_begin t terms copies = record {
   holder = None;
-  lawful = tt;
-  updates = refl;
-  published = refl;
-  terms = terms;
-  members = tt;
+  of_history = record { lawful = tt; updates = refl; published = refl; terms = terms; members = tt };
   room = omega arith;
   numbers = λ n. no_numbers n;
   each = only (λ _ v. LogHolds t [] 1 v) (first_log t) (record { terms = λ _. refl; begins = ([], refl); receipts = record { since = omega arith; own = (tt, tt); joined = tt; heard = ([], refl) }; idle = λ zero_weight. absurd (omega (arith, zero_weight)) });

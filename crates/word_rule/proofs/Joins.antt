@@ -119,11 +119,7 @@ module _ (t : Terms) (m : Memory) (views : List Log) (history : List Update) (r 
   pub callers_fork : w.made ≡ weight role + v.made → w.budget.allowance + budget.allowance ≡ v.budget.allowance → w.budget.credit + budget.credit ≡ v.budget.credit → CallersHold t m both history
   callers_fork made allowed credited = record {
     holder = r.holder;
-    lawful = r.lawful;
-    terms = r.terms;
-    members = r.members;
-    updates = r.updates;
-    published = r.published;
+    of_history = r.of_history;
     room = (let s = sums (λ u. u.budget.allowance) allowed in let o = r.room in omega (arith, s, o));
     numbers = λ n. sums (dones_in n) (let e : dones_in n w ≡ dones_in n v = ap (dones n) forks.receipts in omega (arith, e)) ∙ r.numbers n;
     each = behind (λ _ u. LogHolds t history (total (λ y. y.made) both + 1) u) (set views id w) child
@@ -252,11 +248,7 @@ module _ (t : Terms) (m : Memory) (views : List Log) (history : List Update) (r 
   pub callers_join : (AllByRecursion (IsRecord t (longer v.past u.past) count) (own_list u.receipts ∷ u.receipts.joined) → AllByRecursion (IsRecord t (longer v.past u.past) count) lists) → CallersHold t m after history
   callers_join gained = record {
     holder = r.holder;
-    lawful = r.lawful;
-    terms = r.terms;
-    members = r.members;
-    updates = r.updates;
-    published = r.published;
+    of_history = r.of_history;
     room = (let s = sums_join (λ x. x.budget.allowance) (let a = gains.allowance in omega (arith, a)) in let o = r.room in omega (arith, s, o));
     numbers = λ n. sums_join (dones_in n) (let e : dones_in n b ≡ dones n record { since = v.receipts.since; own = v.receipts.own; joined = v.receipts.joined ++ lists; heard = b.receipts.heard } = (λ i. dones n record { since = (gains.own i).since; own = (gains.own i).list; joined = gains.joined i; heard = b.receipts.heard }) in let a = dones_append n v.receipts.joined lists in let c = gains.counts n in omega (arith, e, a, c)) ∙ r.numbers n;
     each = everywhere (λ _ x. LogHolds t history count x)

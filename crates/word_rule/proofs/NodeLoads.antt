@@ -96,7 +96,7 @@ module _ (t : Terms) (slots id : ℕ) (me : Seated) (live : is_gone me.0.role �
     count = λ _. all_map (HoldsNode t (memory_of t s.words).nodes r.memory.shadow id) (λ h. IsFullCount (load_of me.0 at (get_or s.words at 0)) h → HadMembers t r.memory.history (own_list me.0.receipts) 10)
         (λ h holds full. absurd (let e = full.0 in let w = holds.within in omega (arith, e, w, far))) me.0.holdings.held (r.memory.nodes.holdings id me.0 here).each;
     head = λ _ is _ _. absurd (omega (arith, is, far));
-    highest = λ top. absurd (let e = top.0 in let some_nodes = r.memory.callers.terms.nodes.0 in omega (arith, e, some_nodes, far));
+    highest = λ top. absurd (let e = top.0 in let some_nodes = r.memory.callers.of_history.terms.nodes.0 in omega (arith, e, some_nodes, far));
   }
 
   -- the holder finds the word of the copy in which it stands
@@ -196,4 +196,4 @@ module _ (t : Terms) (slots id : ℕ) (me : Seated) (live : is_gone me.0.role �
           let holds = all_with (HoldsNode t (memory_of t s.words).nodes r.memory.shadow id) me.0.holdings.held root (r.memory.nodes.holdings id me.0 here).each held in
           let high : (r.memory.shadow.settled 0).level ≡ 12 = ap (λ k. (r.memory.shadow.settled k).level) (sym zero) ∙ (ap (λ z. z.level) (sym holds.settled) ∙ level) in
           let many = law.height r.memory.shadow.settled r.memory.shadow.live r.memory.nodes.lawful high in
-          let few = few_nodes s r in let most = r.memory.callers.terms.nodes.1 in omega (arith, many, few, most)
+          let few = few_nodes s r in let most = r.memory.callers.of_history.terms.nodes.1 in omega (arith, many, few, most)

@@ -29,7 +29,7 @@ use Rattle.word_rule.proofs.Each.{all_map, all_of}
 use Rattle.word_rule.proofs.Memories.{set_version}
 use Rattle.word_rule.proofs.Standing.{even_is_open}
 use Rattle.word_rule.proofs.CallersFrame.{IsLike, busy}
-use Rattle.word_rule.proofs.NodesFrame.{holder_stays}
+use Rattle.word_rule.proofs.NodesFrame.{holder_stays, lock_over}
 use Rattle.word_rule.proofs.ObservationsFrame.{sight_over, observations_same}
 use Rattle.word_rule.proofs.Frames.{Sit, still_after_load}
 use Rattle.word_rule.proofs.Quiet.{quiet}
@@ -110,17 +110,8 @@ module _ (t : Terms) (slots id : ℕ) (me : Seated) (caller : me.0.role ≡ role
     other_node j h k e = none-some j (sym open_before ∙ (ap r.memory.shadow.holder (sym e) ∙ k.is_holder))
 
     same_lock : (j : ℕ) (h : Holding) → HoldsNode t (memory_of t s.words).nodes r.memory.shadow j h → HoldsNode t words' shadow' j h
-    same_lock j h k = let far = other_node j h k in record {
-      within = k.within;
-      is_holder = updated_other r.memory.shadow.holder n (Some id) h.node far ∙ k.is_holder;
-      locked = subst (IsLockedAt h.version) (sym (updated_other (memory_of t s.words).nodes.versions n (seen + 1) h.node far)) k.locked;
-      as_now = k.as_now;
-      settled = k.settled;
-      stored = k.stored ∙ sym (updated_other r.memory.shadow.stored n false h.node far);
-      clean = k.clean;
-      marked = k.marked;
-      unmarked = k.unmarked;
-    }
+    same_lock j h k = let far = other_node j h k in
+        lock_over words'.versions shadow'.holder shadow'.stored j h (updated_other r.memory.shadow.holder n (Some id) h.node far) (subst (IsLockedAt h.version) (sym (updated_other (memory_of t s.words).nodes.versions n (seen + 1) h.node far)) k.locked) (sym (updated_other r.memory.shadow.stored n false h.node far)) k
 
     abbrev lock : Holding
     lock = record { node = n; version = seen; settled = r.memory.shadow.settled n; words = (memory_of t s.words).nodes.contents n; stored = false; mark = mark }

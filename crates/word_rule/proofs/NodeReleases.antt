@@ -20,7 +20,7 @@ use Rattle.word_rule.specs.Memory.{NodeWords, memory_of, updated}
 use Rattle.word_rule.specs.Spelling.{spelled, SpellsNode}
 use Rattle.word_rule.specs.Held.{held_of, without_lock, now_of}
 use Rattle.word_rule.specs.Logs.{after_spending}
-use Rattle.word_rule.specs.Exchange.{Differs, after_exchange, are_spelled, exchange, group_of, is_lawful, is_reached, nothing_reached, settle, settle_free, top_of}
+use Rattle.word_rule.specs.Exchange.{ChangeLaws, Differs, after_exchange, are_spelled, exchange, group_of, is_lawful, is_reached, nothing_reached, settle, settle_free, top_of}
 use Rattle.word_rule.specs.Steps.{MayRelease, after_node_release_same}
 use Rattle.word_rule.specs.Callers.{IsLockedAt}
 use Rattle.word_rule.specs.Nodes.{Shadow, HoldsNode, HoldingsHold, HeldBy, IsOpen}
@@ -32,8 +32,9 @@ use Rattle.word_rule.proofs.Memories.{load_version_at}
 use Rattle.word_rule.proofs.Standing.{locked_is_odd, held_by}
 use Rattle.word_rule.proofs.Frames.{Sit}
 use Rattle.word_rule.proofs.NodeLocks.{updated_here, updated_other}
-use Rattle.word_rule.proofs.Exchanging.{ChangeLaws, tested}
+use Rattle.word_rule.proofs.Exchanging.{tested}
 use Rattle.word_rule.proofs.Exchanges.{DecidedLaw, exchange_decides, spelled_decides}
+use Rattle.word_rule.proofs.NodesFrame.{lock_over}
 use Rattle.word_rule.proofs.VersionSteps.{stepped_version}
 use Rattle.word_rule.proofs.Settling.{AgreementLaw, mapped_held}
 use Rattle.word_rule.proofs.Settles.{settles, spells_now}
@@ -95,17 +96,7 @@ module _ (t : Terms) (id : ℕ) (v : Log) (caller : v.role ≡ role.Caller) (n :
   shadow'' = record r.memory.shadow { holder = updated r.memory.shadow.holder n None }
 
   kept_lock : (j : ℕ) (h : Holding) → h.node ≢ n → HoldsNode t (memory_of t s.words).nodes r.memory.shadow j h → HoldsNode t words'' shadow'' j h
-  kept_lock j h far k = record {
-    within = k.within;
-    is_holder = updated_other r.memory.shadow.holder n None h.node far ∙ k.is_holder;
-    locked = subst (IsLockedAt h.version) (sym (updated_other (memory_of t s.words).nodes.versions n x h.node far)) k.locked;
-    as_now = k.as_now;
-    settled = k.settled;
-    stored = k.stored;
-    clean = k.clean;
-    marked = k.marked;
-    unmarked = k.unmarked;
-  }
+  kept_lock j h far k = lock_over words''.versions shadow''.holder r.memory.shadow.stored j h (updated_other r.memory.shadow.holder n None h.node far) (subst (IsLockedAt h.version) (sym (updated_other (memory_of t s.words).nodes.versions n x h.node far)) k.locked) refl k
 
   left : (P : Holding → Type 0) → AllByRecursion (λ h. h.node ≢ n → P h) v.holdings.held → AllByRecursion P (without_lock n v.holdings.held)
   left P all = subst (λ xs. AllByRecursion P (without_lock n xs)) (map_same v.holdings.held) (left_all (λ h. h) (λ _. refl) n P v.holdings.held all)

@@ -18,7 +18,7 @@ use Rattle.word_rule.specs.Memory.{NodeWords, Memory, memory_of, updated}
 use Rattle.word_rule.specs.Spelling.{node_word}
 use Rattle.word_rule.specs.Held.{held_of}
 use Rattle.word_rule.specs.Logs.{is_nameless}
-use Rattle.word_rule.specs.Exchange.{settle}
+use Rattle.word_rule.specs.Exchange.{ChangeLaws, settle}
 use Rattle.word_rule.specs.Steps.{MayStore, after_node_store, frees, store_in, stored_log}
 use Rattle.word_rule.specs.Callers.{IsLockedAt}
 use Rattle.word_rule.specs.Nodes.{Shadow, NodesHold, HoldsNode, HoldingsHold, IsChain, IsOpen, IsPlaced}
@@ -38,7 +38,7 @@ use Rattle.word_rule.proofs.NodeLoads.{ltb_true}
 use Rattle.word_rule.proofs.HeadPlays.{RootLaw}
 use Rattle.word_rule.proofs.Holders.{out_tells}
 use Rattle.word_rule.proofs.NodeLocks.{updated_here, updated_other}
-use Rattle.word_rule.proofs.Exchanging.{ChangeLaws, all_found}
+use Rattle.word_rule.proofs.Exchanging.{all_found}
 use Rattle.word_rule.proofs.Exchanges.{DecidedLaw}
 use Rattle.word_rule.proofs.Settling.{AgreementLaw, mapped_all, mapped_once, mapped_kept}
 use Rattle.word_rule.proofs.Settles.{settles}
@@ -47,19 +47,19 @@ use Rattle.word_rule.proofs.Settles.{settles}
 abbrev pub storing : ℕ → ℕ → ℕ → Holding → Holding
 storing n at value h = if h.node == n then store_in at value h else h
 
-pub storing_node : (n at value : ℕ) (h : Holding) → (storing n at value h).node ≡ h.node
-storing_node n at value h = go (h.node == n)
+-- a store changes the words of a lock alone, and that they were stored
+storing_keeps : {A : Type 0} (f : Holding → A) (n at value : ℕ) (h : Holding) → f (store_in at value h) ≡ f h → f (storing n at value h) ≡ f h
+storing_keeps f n at value h same = go (h.node == n)
   where
-    go : (b : Bool) → (if b then store_in at value h else h).node ≡ h.node
-    go true = refl
+    go : (b : Bool) → f (if b then store_in at value h else h) ≡ f h
+    go true = same
     go false = refl
 
+pub storing_node : (n at value : ℕ) (h : Holding) → (storing n at value h).node ≡ h.node
+storing_node n at value h = storing_keeps (λ g. g.node) n at value h refl
+
 pub storing_version : (n at value : ℕ) (h : Holding) → (storing n at value h).version ≡ h.version
-storing_version n at value h = go (h.node == n)
-  where
-    go : (b : Bool) → (if b then store_in at value h else h).version ≡ h.version
-    go true = refl
-    go false = refl
+storing_version n at value h = storing_keeps (λ g. g.version) n at value h refl
 
 module _ (t : Terms) (id : ℕ) (v : Log) (caller : v.role ≡ role.Caller) (n at value : ℕ) (hn : Holding) (found : held_of n v.holdings.held ≡ Some hn) (may : IsSome hn.mark ⊎ IsTrue (is_among v.holdings.out n)) (low : 1 ≤ at) (high : at ≤ 35) (s : Sit) (r : TableInvariant t s.words s.views) (here : get_elem? s.views id ≡ some v) where
   abbrev w : Log
@@ -114,6 +114,20 @@ module _ (t : Terms) (id : ℕ) (v : Log) (caller : v.role ≡ role.Caller) (n a
       let same = elsewhere k far in
       (c.0, c.1, ap (λ ws. node_word ws 1) same ∙ c.2, chain free (node_word (words'.contents k) 6) (omega (arith, gone)) (subst (λ z. IsChain (memory_of t s.words).nodes.contents z free) (ap (λ ws. node_word ws 6) (sym same)) c.3))
 
+  -- the lock of another node
+  other_lock : (j : ℕ) (g : Holding) → g.node ≢ n → HoldsNode t (memory_of t s.words).nodes r.memory.shadow j g → HoldsNode t words' shadow' j g
+  other_lock j g far k = record {
+    within = k.within;
+    is_holder = k.is_holder;
+    locked = k.locked;
+    as_now = k.as_now ∙ sym (elsewhere g.node far);
+    settled = k.settled;
+    stored = k.stored ∙ sym (updated_other r.memory.shadow.stored n true g.node far);
+    clean = k.clean;
+    marked = k.marked;
+    unmarked = k.unmarked;
+  }
+
   -- a lock afterwards
   new_lock : (h : Holding) → held_of h.node v.holdings.held ≡ Some h → HoldsNode t (memory_of t s.words).nodes r.memory.shadow id h → HoldsNode t words' shadow' id (change h)
   new_lock h is k = go (ℕ_discrete h.node n)
@@ -140,32 +154,9 @@ module _ (t : Terms) (id : ℕ) (v : Log) (caller : v.role ≡ role.Caller) (n a
               let below = part_of_total (λ u. times n u.holdings.out) s.views id v here in let all = r.memory.nodes.each_once n in let most : once (nat_lt n t.nodes) ≤ 1 = once_most (nat_lt n t.nodes) in
               let one : once (r.memory.shadow.live n) ≡ 1 = ap once l in omega (arith, some_times, below, all, most, one)
       go (no ne) = rw (ne_eqb h.node n ne) (other_lock id h ne k)
-        where
-          other_lock : (j : ℕ) (g : Holding) → g.node ≢ n → HoldsNode t (memory_of t s.words).nodes r.memory.shadow j g → HoldsNode t words' shadow' j g
-          other_lock j g far k = record {
-            within = k.within;
-            is_holder = k.is_holder;
-            locked = k.locked;
-            as_now = k.as_now ∙ sym (elsewhere g.node far);
-            settled = k.settled;
-            stored = k.stored ∙ sym (updated_other r.memory.shadow.stored n true g.node far);
-            clean = k.clean;
-            marked = k.marked;
-            unmarked = k.unmarked;
-          }
 
   others_lock : (j : ℕ) (g : Holding) → j ≢ id → HoldsNode t (memory_of t s.words).nodes r.memory.shadow j g → HoldsNode t words' shadow' j g
-  others_lock j g other k = let far : g.node ≢ n = (λ e. other (same_Some _ _ (sym k.is_holder ∙ (ap r.memory.shadow.holder e ∙ holder_n)))) in record {
-    within = k.within;
-    is_holder = k.is_holder;
-    locked = k.locked;
-    as_now = k.as_now ∙ sym (elsewhere g.node far);
-    settled = k.settled;
-    stored = k.stored ∙ sym (updated_other r.memory.shadow.stored n true g.node far);
-    clean = k.clean;
-    marked = k.marked;
-    unmarked = k.unmarked;
-  }
+  others_lock j g other k = other_lock j g (λ e. other (same_Some _ _ (sym k.is_holder ∙ (ap r.memory.shadow.holder e ∙ holder_n)))) k
 
   nodes : NodesHold t words' (set s.views id w) r.memory.history shadow'
   nodes = record {

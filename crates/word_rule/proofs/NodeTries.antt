@@ -41,7 +41,7 @@ use Rattle.word_rule.proofs.Memories.{load_version_at, content_length, by_same}
 use Rattle.word_rule.proofs.Spells.{eqb_true}
 use Rattle.word_rule.proofs.Standing.{even_is_open, held_by}
 use Rattle.word_rule.proofs.Frames.{Sit}
-use Rattle.word_rule.proofs.NodesFrame.{holder_stays}
+use Rattle.word_rule.proofs.NodesFrame.{holder_stays, lock_over}
 use Rattle.word_rule.proofs.HeadPlays.{RootLaw}
 use Rattle.word_rule.proofs.NodeLocks.{updated_here, updated_other, refused, locked, four, bounded}
 use Rattle.word_rule.proofs.NodeVersions.{ChildrenLaw, found_sight, is_live_node}
@@ -261,17 +261,7 @@ module _ (t : Terms) (slots id : ℕ) (me : Seated) (caller : me.0.role ≡ role
     w = after_write me.0
 
     same_lock : (j : ℕ) (h : Holding) → HoldsNode t (memory_of t s.words).nodes r.memory.shadow j h → HoldsNode t (words' t id me.0 w caller n (marked seen) inside s r at r.memory.shadow.holder (λ _ _. refl)) (shadow' t id me.0 w caller n (marked seen) inside s r at r.memory.shadow.holder (λ _ _. refl)) j h
-    same_lock j h k = record {
-      within = k.within;
-      is_holder = k.is_holder;
-      locked = by_node (ℕ_discrete h.node n);
-      as_now = k.as_now;
-      settled = k.settled;
-      stored = k.stored;
-      clean = k.clean;
-      marked = k.marked;
-      unmarked = k.unmarked;
-    }
+    same_lock j h k = lock_over (updated (memory_of t s.words).nodes.versions n (marked seen)) r.memory.shadow.holder r.memory.shadow.stored j h refl (by_node (ℕ_discrete h.node n)) refl k
       where
         by_node : Dec (h.node ≡ n) → IsLockedAt h.version (updated (memory_of t s.words).nodes.versions n (marked seen) h.node)
         by_node (yes e) = subst (IsLockedAt h.version) (sym (updated_here (memory_of t s.words).nodes.versions n (marked seen) h.node e)) (raised h.version (subst (IsLockedAt h.version) (ap (memory_of t s.words).nodes.versions e ∙ hit) k.locked))

@@ -1,7 +1,7 @@
 -- A publication keeps the rule: the history has an update of the loader more, and the copies change their parts.
 use Rattle.std.proofs.Common.{◌≡◌, ℕ, ◌+◌, ◌/◌, ◌%◌, ◌^◌, ◌<◌, ◌≤◌, ◌↔◌, List, [], ◌∷◌, ◌++◌, length, get_or, set, length-set, sym, refl, ap, ◌∙◌, subst, inl, inr, ⊎_elim, arith, ◌==◌, not, true, false, true≢false, Some, option_map, IfSome, IsSomeAnd, Contains, eq-eqb, ne_eqb}
 use Rattle.std.proofs.lemmas.Option.{same_Some}
-use Rattle.std.proofs.lemmas.List.Sums.{sum_by_push, count_by-le-length}
+use Rattle.std.proofs.lemmas.List.Sums.{sum_by_push}
 use Rattle.std.proofs.lemmas.List.Elements.{Contains-append_left, Contains-append_right, Contains-append_cases, Contains-push, Contains-push_cases}
 use mathlib.Core.Option.{none, some}
 use mathlib.Core.List.{IsPrefix}
@@ -38,7 +38,7 @@ use Rattle.word_rule.proofs.NodesFrame.{nodes_same}
 use Rattle.word_rule.proofs.ObservationsFrame.{observations_over, sight_over}
 use Rattle.word_rule.proofs.Frames.{Sit, table_step, still_after_turn}
 use Rattle.word_rule.proofs.Listings.{lists_same, contains_filter, filter_contains, find_contains, contains_find, state_fixed, loaded_spans, loaded_disjoint, disjoint_fit, free_of, listed_few}
-use Rattle.word_rule.proofs.Accepting.{Accepts, answered, callers_after, few_updates, observations_received}
+use Rattle.word_rule.proofs.Accepting.{Accepts, answered, callers_after, few_publications, few_updates, observations_received}
 use Rattle.word_rule.proofs.CopyStores.{other_loader, loader_held}
 
 -- what lists say of a publication, the state says: what is listed before are the loaded members
@@ -110,8 +110,8 @@ module _ (t : Terms) (slots id : ℕ) (me : Seated) (caller : me.0.role ≡ role
     same x = subst (λ xs. Contains xs x ↔ Contains (state_after (start t) r.memory.history).loaded x) (sym before_is) (r.memory.active.same x)
 
     few : length (state_after (start t) r.memory.history).loaded ≤ length may.before
-    few = disjoint_fit (state_after (start t) r.memory.history).loaded may.before (loaded_disjoint t r.memory.history r.memory.callers.terms r.memory.callers.lawful)
-        (loaded_spans t (start t) r.memory.history r.memory.callers.members (λ x d. absurd (let l = d.1 in omega (arith, l)))) (λ x d. (same x).1 d)
+    few = disjoint_fit (state_after (start t) r.memory.history).loaded may.before (loaded_disjoint t r.memory.history r.memory.callers.of_history.terms r.memory.callers.of_history.lawful)
+        (loaded_spans t (start t) r.memory.history r.memory.callers.of_history.members (λ x d. absurd (let l = d.1 in omega (arith, l)))) (λ x d. (same x).1 d)
 
     pub step_fits : Fits u (state_after (start t) r.memory.history) × ((x : Member) → Contains may.after x ↔ Contains (after u (state_after (start t) r.memory.history)).loaded x) × (is_of_loader u ≡ true) × ((after u (state_after (start t) r.memory.history)).registered ≡ (state_after (start t) r.memory.history).registered)
     step_fits = fits t (state_after (start t) r.memory.history) u may.before may.after (state_fixed (start t) r.memory.history).0 (state_fixed (start t) r.memory.history).1 same few may.publishes
@@ -135,14 +135,11 @@ module _ (t : Terms) (slots id : ℕ) (me : Seated) (caller : me.0.role ≡ role
     small : length r.memory.history < 67108864
     small = few_updates t (memory_of t s.words) s.views r.memory.history r.memory.callers id me.0 caller at u may.due may.member step_fits.0 answer_of.0 answer_of.1
 
-    low : get_or s.words 0 0 % 4294967296 ≡ length r.memory.history
-    low = r.memory.callers.updates
-
     high : get_or s.words 0 0 / 4294967296 ≤ length r.memory.history
-    high = let p = r.memory.callers.published in let q = count_by-le-length is_of_loader r.memory.history in omega (arith, p, q)
+    high = few_publications t (memory_of t s.words) s.views r.memory.history r.memory.callers id me.0 caller at u may.due may.member step_fits.0 answer_of.0 answer_of.1
 
     higher : (get_or s.words 0 0 + 4294967297) / 4294967296 ≡ get_or s.words 0 0 / 4294967296 + 1
-    higher = let a = low in let b = small in omega (arith, a, b)
+    higher = let a = r.memory.callers.of_history.updates in let b = small in omega (arith, a, b)
 
     pub no_overflow : (get_or s.words 0 0 + 4294967297) % 2 ^ 64 ≡ get_or s.words 0 0 + 4294967297
     no_overflow = let a = high in let b = small in omega (arith, a, b)
@@ -168,8 +165,8 @@ module _ (t : Terms) (slots id : ℕ) (me : Seated) (caller : me.0.role ≡ role
 
     callers : CallersHold t m' (set s.views id w) (r.memory.history ++ u ∷ [])
     callers = callers_after t (memory_of t s.words) s.views r.memory.history r.memory.callers id me.0 caller at u may.due may.member step_fits.0 answer_of.0 answer_of.1 me.0.holdings w.loader (get_or s.words 0 0 + 4294967297)
-        (let a = low in let b = small in omega (arith, a, b))
-        (let a = higher in let p = r.memory.callers.published in let q = sum_by_push (λ x. once (is_of_loader x)) r.memory.history u in let b : once (is_of_loader u) ≡ 1 = ap once step_fits.2 in omega (arith, a, p, q, b))
+        (let a = r.memory.callers.of_history.updates in let b = small in omega (arith, a, b))
+        (let a = higher in let p = r.memory.callers.of_history.published in let q = sum_by_push (λ x. once (is_of_loader x)) r.memory.history u in let b : once (is_of_loader u) ≡ 1 = ap once step_fits.2 in omega (arith, a, p, q, b))
         (subst (LoaderLock (memory_of t s.words).loader (set s.views id w)) (sym mine.0) (w, exchange_copies h, (set_here s.views id w (within s.views id me.0 at), loader_now)))
         at_lock
         (λ _. let up = higher in record {
@@ -177,7 +174,7 @@ module _ (t : Terms) (slots id : ℕ) (me : Seated) (caller : me.0.role ≡ role
           after = may.after;
           lists_before = subst (λ ws. ListsMembers ws may.before) (mine.1.active ∙ ap (memory_of t s.words).copies (omega (arith, up))) may.active;
           lists_after = subst (λ ws. ListsMembers ws may.after) (mine.1.spare ∙ ap (memory_of t s.words).copies (omega (arith, up))) may.spare;
-          few = subst (λ xs. length xs ≤ t.loads) (sym before_is) (listed_few t r.memory.history r.memory.callers.terms r.memory.callers.members r.memory.callers.lawful r.memory.active);
+          few = subst (λ xs. length xs ≤ t.loads) (sym before_is) (listed_few t r.memory.history r.memory.callers.of_history.terms r.memory.callers.of_history.members r.memory.callers.of_history.lawful r.memory.active);
           change = inr (u, may.publishes);
         })
 
@@ -226,7 +223,7 @@ module _ (t : Terms) (slots id : ℕ) (me : Seated) (caller : me.0.role ≡ role
       (
         record {
           begins = (r.memory.callers.each id me.0 at).begins;
-          number = low;
+          number = r.memory.callers.of_history.updates;
           room = small;
           active = subst (λ o. IfSome o (λ g. ListsAll g.active (state_after (start me.0.terms) r.memory.history).loaded)) (sym is)
               (subst (λ k. ListsAll h.active (state_after (start k) r.memory.history).loaded) (sym terms) (subst (λ ws. ListsAll ws (state_after (start t) r.memory.history).loaded) (sym mine.1.active) r.memory.active));

@@ -18,16 +18,16 @@ use Rattle.word_rule.specs.declared.log.Log.{Log}
 use Rattle.word_rule.specs.Memory.{memory_of}
 use Rattle.word_rule.specs.Spelling.{spelled, SpellsNode}
 use Rattle.word_rule.specs.Held.{held_of, now_of, now_shape, now_in, marked_in, is_marked}
-use Rattle.word_rule.specs.Exchange.{is_reached, is_fresh, IsLawfulExchange, exchange, after_exchange, group_of, is_lawful, nothing_reached, settle, settle_free, top_of}
+use Rattle.word_rule.specs.Exchange.{ChangeLaws, is_reached, is_fresh, IsLawfulExchange, exchange, after_exchange, group_of, is_lawful, nothing_reached, settle, settle_free, top_of}
 use Rattle.tree_shape.specs.Numbers.{is_among}
 use Rattle.word_rule.proofs.Exchanges.{DecidedLaw, exchange_decides}
 use Rattle.word_rule.specs.Callers.{start}
 use Rattle.word_rule.specs.Nodes.{Shadow, HoldsNode, IsPlaced}
 use Rattle.word_rule.specs.TableInvariant.{TableInvariant}
-use Rattle.word_rule.proofs.Each.{all_map, held_is}
+use Rattle.word_rule.proofs.Each.{not_some, all_map, held_is}
 use Rattle.word_rule.proofs.Standing.{held_by}
 use Rattle.word_rule.proofs.Settling.{AgreementLaw, OnSettling, mapped_all, mapped_once, mapped_kept, settled_table}
-use Rattle.word_rule.proofs.Exchanging.{ChangeLaws, loose, settled', live', marked_lock, group_lock, fresh_out, fresh_loose, loose_parts, reached_inside, loose_inside, lawful_after, entries_after, live_new, live_kept, settled_new, settled_kept, unheld, balance, all_found, and_false, or_left, or_right, or_cases, tested}
+use Rattle.word_rule.proofs.Exchanging.{loose, settled', live', marked_lock, group_lock, fresh_out, fresh_loose, loose_parts, reached_inside, loose_inside, lawful_after, entries_after, live_new, live_kept, settled_new, settled_kept, unheld, balance, all_found, and_false, or_left, or_right, or_cases, tested}
 
 module _ (t : Terms) (id : ℕ) (v : Log) (caller : v.role ≡ role.Caller) (words : List ℕ) (views : List Log) (r : TableInvariant t words views) (at : get_elem? views id ≡ some v) where
   mine_of : (k : ℕ) (h : Holding) → held_of k v.holdings.held ≡ Some h → HoldsNode t (memory_of t words).nodes r.memory.shadow id h × (h.node ≡ k)
@@ -107,11 +107,7 @@ module _ (t : Terms) (id : ℕ) (v : Log) (caller : v.role ≡ role.Caller) (wor
       fresh_unmarked f = sym mark_test ∙ (parts k (fresh_loose laws t (memory_of t words).nodes views r.memory.history r.memory.shadow r.memory.nodes id v at update top group ex k f)).1
 
       no_mark : is_some h.mark ≡ false → h.mark ≡ None
-      no_mark = go h.mark
-        where
-          go : (o : Option Frame) → is_some o ≡ false → o ≡ None
-          go None e = refl
-          go (Some f) e = absurd (true≢false e)
+      no_mark = not_some h.mark
 
       -- the content of the lock afterwards, by the tests of its node
       by_group : group k ≡ true → (changed h).settled ≡ now_of h (spelled h.words)
@@ -305,11 +301,7 @@ module _ (t : Terms) (id : ℕ) (v : Log) (caller : v.role ≡ role.Caller) (wor
       now_stays sp = sym freed_is ∙ (freed_stays sp ∙ was_settled)
 
       unmarked_none : is_some h.mark ≡ false → h.mark ≡ None
-      unmarked_none = go h.mark
-        where
-          go : (o : Option Frame) → is_some o ≡ false → o ≡ None
-          go None e = refl
-          go (Some f) e = absurd (true≢false e)
+      unmarked_none = not_some h.mark
 
       free_lock : HoldsNode t (memory_of t words).nodes (free_shadow) id (freed h)
       free_lock = record {

@@ -39,9 +39,6 @@ module _ (t : Terms) (slots id : ℕ) (me : Seated) (live : is_gone me.0.role �
   Holds s = TableInvariant t s.words s.views
 
   module _ (s : Sit) (r : Holds s) (here : get_elem? s.views id ≡ some me.0) where
-    abbrev m : Memory
-    m = memory_of t s.words
-
     abbrev found : ℕ
     found = get_or s.words (4 + 36 * n + at) 0
 

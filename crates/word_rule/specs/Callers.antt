@@ -167,16 +167,20 @@ pub record LineagesHold (views : List Log) : Type 0 where
   pub nameless : (id : ℕ) (v : Log) → get_elem? views id ≡ some v → is_nameless v.role ≡ true
       → ((n : ℕ) → dones_in n v ≡ 0) × (v.made ≡ 0)
 
+-- what holds of the history, with the clock and the terms
+pub record HistoryHolds (t : Terms) (clock : ℕ) (history : List Update) : Type 0 where
+  pub lawful : IsHistory (start t) history
+  -- the clock counts the updates, and those of the loader
+  pub updates : lower clock ≡ length history
+  pub published : upper clock ≡ publications history
+  pub terms : AreTerms t
+  pub members : AllByRecursion (IsOfTerms t) history
+
 -- What holds of the callers and of the loader's lock, where this is the history.
 pub record CallersHold (t : Terms) (m : Memory) (views : List Log)
     (history : List Update) : Type 0 where
   pub holder : Option ℕ
-  -- the clock counts the updates, and those of the loader
-  pub lawful : IsHistory (start t) history
-  pub updates : lower m.clock ≡ length history
-  pub published : upper m.clock ≡ publications history
-  pub terms : AreTerms t
-  pub members : AllByRecursion (IsOfTerms t) history
+  pub of_history : HistoryHolds t m.clock history
   -- made, begun and still allowed: no more updates than a registry takes
   pub room : length history + total (λ v. v.budget.allowance) views ≤ ALLOWANCE
   -- each number stands in one log, once

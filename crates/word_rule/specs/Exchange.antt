@@ -9,9 +9,11 @@ use Rattle.reg_model.specs.declared.answer.Update.TheVariants.{Register, Deregis
 use Rattle.reg_model.specs.declared.answer.Update.TheVariants.{Load, Unload}
 use Rattle.tree_shape.specs.Decisions.{same_shape, is_entries, is_lawful_change}
 use Rattle.tree_shape.specs.NodeData.{NodeData, frame_of}
-use Rattle.tree_shape.specs.Trees.{Contents}
+use Rattle.tree_shape.specs.Trees.{Contents, HasEntry}
+use Rattle.tree_shape.specs.Lawful.{IsTree, IsLawfulTree, IsFilled}
 use Rattle.tree_shape.specs.Numbers.{is_among}
-use Rattle.tree_shape.specs.LocalChange.{either, reached_nodes, IsLawfulChange}
+use Rattle.tree_shape.specs.LocalChange.{either, reached_nodes, live_after, IsLawfulChange}
+use Rattle.tree_shape.specs.LocalChange.{IsLocalChange, IsSameChange, EntriesBecome}
 use Rattle.word_rule.specs.declared.log.Log.{Log}
 use Rattle.word_rule.specs.declared.log.Holding.{Holding}
 use Rattle.tree_shape.specs.declared.node.Frame.{Frame}
@@ -191,3 +193,34 @@ abbrev pub settle : Option Update → Log → Log
 settle update v =
     if is_lawful v update then after_exchange v (top_of v update) (is_among (group_of v update))
     else settle_free v
+
+-- the laws of tree_shape on which an exchange rests
+pub record ChangeLaws : Type 0 where
+  pub transfer : (top : ℕ) (group fresh : ℕ → Bool) (f : Contents) (live : ℕ → Bool)
+      (g f' : Contents) (live' : ℕ → Bool) (g' : Contents) (update : Option Update)
+      → IsLawfulChange f live top group fresh g update
+      → IsSameChange top group fresh f g f' live' g'
+      → IsLawfulChange f' live' top group fresh g' update
+  pub reached : (top : ℕ) (group fresh : ℕ → Bool) (f : Contents) (live : ℕ → Bool)
+      (g f' : Contents) (live' : ℕ → Bool) (g' : Contents)
+      → IsLocalChange f live top group fresh g → IsSameChange top group fresh f g f' live' g'
+      → reached_nodes top group fresh g' ≡ reached_nodes top group fresh g
+  pub widen : (f : Contents) (live : ℕ → Bool) (top : ℕ) (group fresh more : ℕ → Bool)
+      (g : Contents) (update : Option Update)
+      → IsTree f live → IsLawfulChange f live top group fresh g update
+      → ((n : ℕ) → IsTrue (fresh n) → IsTrue (more n))
+      → ((n : ℕ) → IsTrue (more n) → live n ≡ false)
+      → IsLawfulChange f live top group more g update
+  pub wider : (f : Contents) (live : ℕ → Bool) (top : ℕ) (group fresh more : ℕ → Bool)
+      (g : Contents) → IsTree f live → IsLocalChange f live top group fresh g
+      → ((n : ℕ) → IsTrue (fresh n) → IsTrue (more n))
+      → ((n : ℕ) → IsTrue (more n) → live n ≡ false)
+      → reached_nodes top group more g ≡ reached_nodes top group fresh g
+  pub lawful : (f : Contents) (live : ℕ → Bool) (top : ℕ) (group fresh : ℕ → Bool) (g : Contents)
+      → IsLawfulTree f live → IsLocalChange f live top group fresh g
+      → AllByRecursion (λ n. IsFilled n (g n)) (reached_nodes top group fresh g)
+      → IsLawfulTree g (live_after live top group fresh g)
+  pub update : (f : Contents) (live : ℕ → Bool) (top : ℕ) (group fresh : ℕ → Bool) (g : Contents)
+      (update : Option Update) → IsLawfulTree f live
+      → IsLawfulChange f live top group fresh g update
+      → EntriesBecome update (HasEntry f live) (HasEntry g (live_after live top group fresh g))

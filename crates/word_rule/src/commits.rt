@@ -5,6 +5,7 @@ ghost use Rattle.word_rule.specs.Commits.{AfterCommit, MayCommit};
 
 use crate::caller::Caller;
 use crate::clock::CLOCK_WORD;
+use crate::exchange::exchange_laws;
 use crate::log::{Log, Role};
 use crate::places::updates_at;
 use crate::rule::{Commits, Updating};
@@ -25,9 +26,7 @@ impl Words {
         ensures log { AfterCommit U.update result seat.old.me.0 seat.new.me.0 }
     {
         let _ = update;
-        laws::transfer();
-        laws::widen();
-        laws::local_change();
+        exchange_laws();
         laws::decided();
         laws::order();
         self.table

@@ -15,6 +15,7 @@ ghost use Rattle.word_rule.specs.Steps.{after_node_release_same, after_node_stor
 ghost use Rattle.word_rule.specs.VersionLocks.{NodeSeen, NodeTaken};
 
 use crate::caller::Caller;
+use crate::exchange::exchange_laws;
 use crate::log::{Ask, Log, Role};
 use crate::places::{LOCKED, VERSION};
 use crate::rule::{
@@ -314,9 +315,7 @@ impl Words {
         ensures before { IfSome (held_of N.node seat.old.me.0.holdings.held)
             (λ h. IsLockedAt h.version result) }
     {
-        laws::transfer();
-        laws::widen();
-        laws::local_change();
+        exchange_laws();
         laws::agreement();
         laws::decided();
         let version = self.held_version::<N>(seat, node);
@@ -352,9 +351,7 @@ impl Words {
         ensures out { OutTells N.node seat.old.me.0 }
     {
         laws::children();
-        laws::transfer();
-        laws::widen();
-        laws::local_change();
+        exchange_laws();
         laws::agreement();
         laws::decided();
         self.table

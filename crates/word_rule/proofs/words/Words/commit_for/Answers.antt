@@ -10,12 +10,5 @@ fetch_add-requires g c =
     let may = subst (λ (t : Terms). MayCommit t c.args.update c.args.seat.now.me.0) (ap (λ k. k.terms) (sym c.self.view_is) ∙ ap terms_of (sym c.self.invariant.0)) c.requires.may in (
       c.requires.table ∙ sym (ap (λ k. k.table) c.self.view_is),
       omega (arith, c.self.invariant.1),
-      commits_of _ _ _ _ c.requires.caller (record {
-        transfer = c.transfer.ensures.lawful;
-        reached = c.transfer.ensures.reached;
-        widen = c.widen.ensures.lawful;
-        wider = c.widen.ensures.reached;
-        lawful = c.local_change.ensures.lawful;
-        update = c.local_change.ensures.update;
-      }) (record { members = c.order.ensures.entries; ascending = c.order.ensures.ascending }) c.decided.ensures _ _ c.requires.about may,
+      commits_of _ _ _ _ c.requires.caller c.exchange_laws.ensures (record { members = c.order.ensures.entries; ascending = c.order.ensures.ascending }) c.decided.ensures _ _ c.requires.about may,
     )

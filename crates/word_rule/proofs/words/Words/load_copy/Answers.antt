@@ -4,9 +4,8 @@ use Rattle.word_rule.proofs.NodeLoads.{loads_copy_word}
 use Rattle.word_rule.proofs.words.Words.load_copy.Goals as goal
 
 pub load-requires : goal.load-requires
-load-requires c =
-    let inside = c.requires.copy in let e = ap (λ k. k.terms.nodes) c.self.view_is in let l = ap (λ k. k.terms.loads) c.self.view_is in let wide = c.self.invariant.1 in let key = ap (λ k. k.nodes) c.self.invariant.0 in (
-      ap (λ k. k.table) c.me.view_is ∙ (c.requires.table ∙ sym (ap (λ k. k.table) c.self.view_is)),
-      omega (arith, inside, e, l, wide),
-      loads_copy_word _ _ _ _ (ap is_gone c.me.invariant.role) _ (omega (arith, inside, e, key)),
-    )
+load-requires c = (
+  ap (λ k. k.table) c.me.view_is ∙ (c.requires.table ∙ sym (ap (λ k. k.table) c.self.view_is)),
+  omega (arith, c.requires.copy, ap (λ k. k.terms.nodes) c.self.view_is, ap (λ k. k.terms.loads) c.self.view_is, c.self.invariant.1),
+  loads_copy_word _ _ _ _ (ap is_gone c.me.invariant.role) _ (omega (arith, c.requires.copy, ap (λ k. k.terms.nodes) c.self.view_is, ap (λ k. k.nodes) c.self.invariant.0)),
+)

@@ -1,16 +1,10 @@
-use Rattle.std.proofs.Common.{◌<◌, sym, ap, ◌∙◌, subst, arith}
-use Rattle.word_rule.specs.Key.{terms_of}
+use Rattle.std.proofs.Common.{sym, ap, ◌∙◌, arith}
 use Rattle.word_rule.proofs.NodeTries.{grabs_of}
 use Rattle.word_rule.proofs.words.Words.take_node_for.Goals as goal
 
 pub fetch_or-requires : goal.fetch_or-requires
-fetch_or-requires g c =
-    let terms = ap terms_of c.self.invariant.0 ∙ ap (λ k. k.terms) c.self.view_is in
-    let inside = c.requires.inside in
-    let place = c.place_of.ensures in
-    let wide = c.self.invariant.1 in
-    let nodes = ap (λ k. k.terms.nodes) c.self.view_is in (
-      c.requires.table ∙ sym (ap (λ k. k.table) c.self.view_is),
-      omega (arith, wide, place, inside, nodes),
-      grabs_of _ _ _ _ c.requires.caller (record { live = c.children.ensures.live; never_root = c.children.ensures.never_root }) c.children.ensures.root _ (subst (λ k. c.args.node < k.nodes) (sym terms) inside) _ _ c.requires.about place,
-    )
+fetch_or-requires g c = (
+  c.requires.table ∙ sym (ap (λ k. k.table) c.self.view_is),
+  omega (arith, c.self.invariant.1, c.place_of.ensures, c.requires.inside, ap (λ k. k.terms.nodes) c.self.view_is),
+  grabs_of _ _ _ _ c.requires.caller (record { live = c.children.ensures.live; never_root = c.children.ensures.never_root }) c.children.ensures.root _ (omega (arith, c.requires.inside, ap (λ k. k.terms.nodes) c.self.view_is, ap (λ k. k.nodes) c.self.invariant.0)) _ _ c.requires.about c.place_of.ensures,
+)
