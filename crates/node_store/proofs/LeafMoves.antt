@@ -3,7 +3,7 @@ use Rattle.std.proofs.Common.{◌≡◌, ◌≢◌, ℕ, ◌+◌, ◌-◌, ◌*�
 use Rattle.std.proofs.lemmas.Bool.{and_parts}
 use Rattle.std.specs.List.{slice_get}
 use Rattle.reg_model.specs.declared.span.Member.{Member}
-use Rattle.tree_shape.specs.NodeData.{NodeData, entries_of}
+use Rattle.tree_shape.specs.NodeData.{NodeData, IsLeaf, entries_of}
 use Rattle.tree_shape.specs.Numbers.{is_among}
 use Rattle.word_rule.specs.CallerData.{CallerData}
 use Rattle.word_rule.specs.Held.{held_of}
@@ -16,14 +16,14 @@ use Rattle.word_rule.specs.declared.log.Log.{Log}
 use Rattle.node_store.specs.declared.entries.EntryWords.{EntryWords}
 use Rattle.node_store.specs.declared.writing.Store.{Store}
 use Rattle.node_store.specs.Entries.{AreOfEntry, HasEntryWords, entry_words_in, leaf_with, leaf_without, member_of_words, store_over, stores_over, with_entry_at, without_entry_at, words_of_entry}
-use Rattle.node_store.specs.Holding.{MakesStores, after_node_stores}
+use Rattle.node_store.specs.Holding.{MakesStores, SpellsHeld, after_node_stores}
 use Rattle.node_store.specs.Outlines.{OnlyLoads}
 use Rattle.node_store.specs.Writing.{after_stores, place_in_turn, stores, stores_upto, wanted_node_word}
 use Rattle.node_store.proofs.HeldWrites.{HasHeld, has_all_stored}
 use Rattle.node_store.proofs.LeafStores.{count_last, tail_same, three_more}
-use Rattle.node_store.proofs.LeafWords.{Leaf, cut_length, cut_moves, cut_stays, entry_stands, put_length, put_moves, put_stays, put_wants}
+use Rattle.node_store.proofs.LeafWords.{Leaf, leaf_of, cut_length, cut_moves, cut_stays, entry_stands, put_length, put_moves, put_stays, put_wants}
 use Rattle.node_store.proofs.Making.{made_more, only_loaded, only_stored, made_then}
-use Rattle.node_store.proofs.Outlined.{Known, no_loads}
+use Rattle.node_store.proofs.Outlined.{Known, known, no_loads}
 use Rattle.node_store.proofs.Overwritten.{none_upto}
 use Rattle.node_store.proofs.Spelled.{entry_count}
 use Rattle.node_store.proofs.Stores.{high_place, yet_old}
@@ -32,14 +32,14 @@ use Rattle.node_store.proofs.Stores.{high_place, yet_old}
 pub loaded_are : (n : ℕ) (s : NodeData) (e : EntryWords) (v : Log) (x : Known n s v) → HasEntryWords n e v → e ≡ entry_words_in x.lock.words e.at
 loaded_are n s e v x has = subst (λ o. IsSomeAnd o (λ (h : Holding). e ≡ entry_words_in h.words e.at)) x.found has
 
-pub words_loaded_are : (n : ℕ) (s : NodeData) (at : ℕ) (e : EntryWords) (v : Log) (x : Known n s v) → HasEntryWords n e v → e.at ≡ at → e ≡ entry_words_in x.lock.words at
+words_loaded_are : (n : ℕ) (s : NodeData) (at : ℕ) (e : EntryWords) (v : Log) (x : Known n s v) → HasEntryWords n e v → e.at ≡ at → e ≡ entry_words_in x.lock.words at
 words_loaded_are n s at e v x has is = loaded_are n s e v x has ∙ ap (entry_words_in x.lock.words) is
 
 pub are_loaded : (n : ℕ) (s : NodeData) (e : EntryWords) (v : Log) (x : Known n s v) → e ≡ entry_words_in x.lock.words e.at → HasEntryWords n e v
 are_loaded n s e v x is = subst (λ o. IsSomeAnd o (λ (h : Holding). e ≡ entry_words_in h.words e.at)) (sym x.found) is
 
 -- they are those of the entry
-pub entry_there : (words : List ℕ) (s : NodeData) → Leaf words s → (place : ℕ) → place < length (entries_of s) → (e : EntryWords) → e ≡ entry_words_in words (6 + 3 * place) → AreOfEntry e × (slice_get (entries_of s) place ≡ Some (member_of_words e))
+entry_there : (words : List ℕ) (s : NodeData) → Leaf words s → (place : ℕ) → place < length (entries_of s) → (e : EntryWords) → e ≡ entry_words_in words (6 + 3 * place) → AreOfEntry e × (slice_get (entries_of s) place ≡ Some (member_of_words e))
 entry_there words s x place less e is =
     let count = x.count in
     let k = 6 + 3 * place in
@@ -48,6 +48,11 @@ entry_there words s x place less e is =
     let first = and_parts _ _ last.0 in
     subst (λ (z : EntryWords). AreOfEntry z × (slice_get (entries_of s) place ≡ Some (member_of_words z))) (sym is)
     ((leb-true 1 (node_word words (k + 1)) first.0, leb-true (node_word words k + node_word words (k + 1)) TOP first.1, ltb-true (node_word words (k + 2)) (2 ^ 32) last.1), there.0)
+
+-- so the words that were loaded of a held leaf are those of its entry
+pub entry_loaded : (n place : ℕ) (s : NodeData) (v : Log) (e : EntryWords) → SpellsHeld n s v → IsLeaf s → place < length (entries_of s) → HasEntryWords n e v → e.at ≡ 6 + 3 * place → AreOfEntry e × (slice_get (entries_of s) place ≡ Some (member_of_words e))
+entry_loaded n place s v e held leaf less has at =
+    let x = known n s v held in entry_there x.lock.words s (leaf_of x.lock.words s x.spells leaf) place less e (words_loaded_are n s (6 + 3 * place) e v x has at)
 
 -- a node that may be stored in is held, and loads change nothing of it
 pub may_held : (n : ℕ) (v : Log) → MayStore n v → IsSome (held_of n v.holdings.held)
@@ -95,7 +100,13 @@ pub record Cutting (n place : ℕ) (s : NodeData) (k : CallerData) (later : Entr
   pub made : MadeUpto n (leaf_without place s) (36 - later.at) k k1
   pub may : MayStore n k1.log
 
-module _ (n : ℕ) (s : NodeData) (k : CallerData) (x : Known n s k.log) (leaf : Leaf x.lock.words s) where
+module _ (n : ℕ) (s : NodeData) (k : CallerData) (held : SpellsHeld n s k.log) (is_leaf : IsLeaf s) where
+  abbrev x : Known n s k.log
+  x = known n s k.log held
+
+  leaf : Leaf x.lock.words s
+  leaf = leaf_of x.lock.words s x.spells is_leaf
+
   abbrev words : List ℕ
   words = x.lock.words
 

@@ -10,8 +10,7 @@ use Rattle.word_rule.specs.declared.log.Log.{Log}
 use Rattle.word_rule.specs.Spelling.{node_word}
 use Rattle.node_store.specs.Holding.{SpellsHeld}
 use Rattle.node_store.specs.Outlines.{IsCountOf}
-use Rattle.node_store.proofs.LeafWords.{Leaf, entry_stands, leaf_of}
-use Rattle.node_store.proofs.Outlined.{known}
+use Rattle.node_store.proofs.LeafWords.{Leaf, entries_few, entry_stands}
 
 -- so many entries were looked at: all that were begin at or below the address while the flag is 1
 pub record Looked (pc : ℕ) (xs : List Member) (turns ahead begun : ℕ) : Type 0 where
@@ -131,8 +130,7 @@ looked_all pc xs ahead begun count w few is = go (nat_le (length xs) begun) refl
 -- the count of a leaf that is held
 pub few_entries : (n count : ℕ) (s : NodeData) (v : Log) → SpellsHeld n s v → IsLeaf s → IsCountOf count s.body → (count ≡ length (entries_of s)) × (count ≤ 10)
 few_entries n count s v held leaf is =
-    let x = known n s v held in
-    let few = (leaf_of x.lock.words s x.spells leaf).few in
+    let few = entries_few n s v held leaf in
     let same : count ≡ length (entries_of s) = subst (IsCountOf count) leaf is in
     (same, omega (arith, same, few))
 

@@ -7,12 +7,15 @@ use Rattle.reg_model.specs.SpanData.{IsSpan}
 use Rattle.reg_model.specs.declared.span.Member.{Member}
 use Rattle.tree_shape.specs.declared.pair.Pair.{Pair}
 use Rattle.tree_shape.specs.NodeData.{NodeData, Body, Pairs, Entries, Link, IsLeaf, entries_of}
+use Rattle.word_rule.specs.declared.log.Log.{Log}
 use Rattle.word_rule.specs.Places.{TOP}
 use Rattle.word_rule.specs.Spelling.{node_word, is_short, pairs_at, is_entry_at, entry_at, entries_at, body_of_kind, SpellsNode}
 use Rattle.word_rule.proofs.Spells.{entries_length, reads}
 use Rattle.node_store.specs.declared.entries.EntryWords.{EntryWords}
 use Rattle.node_store.specs.Entries.{without_entry_at, with_entry_at, with_entries, words_of_entry}
+use Rattle.node_store.specs.Holding.{SpellsHeld}
 use Rattle.node_store.specs.Writing.{FitsWords, entry_words, wanted_node_word}
+use Rattle.node_store.proofs.Outlined.{known}
 use Rattle.node_store.proofs.Overwritten.{each_word}
 use Rattle.node_store.proofs.Spelled.{wanted_item}
 
@@ -71,6 +74,9 @@ leaf_of words s spells leaf =
       count = count;
       few = omega (arith, most, count);
     }
+
+pub entries_few : (n : ℕ) (s : NodeData) (v : Log) → SpellsHeld n s v → IsLeaf s → length (entries_of s) ≤ 10
+entries_few n s v held leaf = let x = known n s v held in (leaf_of x.lock.words s x.spells leaf).few
 
 -- the first of some entries, and the others
 record FirstEntry (words : List ℕ) (at count : ℕ) (xs : List Member) : Type 0 where

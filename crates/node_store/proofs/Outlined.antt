@@ -83,21 +83,18 @@ pub told : (n at found : ℕ) (s : NodeData) (v w : Log) (x : Known n s v) → w
 told n at found s v w x same tells =
     subst (λ (o : Option Holding). IfSome o (λ h. node_word h.words at ≡ found)) (ap (λ (hs : Holdings). held_of n hs.held) same ∙ x.found) tells
 
+-- the count of a body of items, where they are read
+counted : {A : Type 0} (kind : List A → Body) (count : ℕ) (body : Body) (o : Option (List A)) → ((xs : List A) → o ≡ Some xs → IsCountOf count (kind xs)) → option_map kind o ≡ Some body → IsCountOf count body
+counted kind count body None is e = absurd (none-some body e)
+counted kind count body (Some xs) is e = subst (IsCountOf count) (same_Some _ _ e) (is xs refl)
+
 -- the count that the words of a body have
 body_count : (words : List ℕ) (count : ℕ) (inner few leaf low free : Bool) (link : ℕ) (body : Body)
     → (if inner then (if few then option_map Pairs (pairs_at words 6 count) else None) else (if leaf then (if low then option_map Entries (entries_at words 6 count) else None) else (if free then Some (Link link) else None))) ≡ Some body
     → IsCountOf count body
-body_count words count true true leaf low free link body e = go (pairs_at words 6 count) refl e
-  where
-    go : (o : Option (List Pair)) → pairs_at words 6 count ≡ o → option_map Pairs o ≡ Some body → IsCountOf count body
-    go None is f = absurd (none-some body f)
-    go (Some xs) is f = subst (IsCountOf count) (same_Some _ _ f) (sym (pairs_length words 6 count xs is))
+body_count words count true true leaf low free link body e = counted Pairs count body (pairs_at words 6 count) (λ xs is. sym (pairs_length words 6 count xs is)) e
 body_count words count true false leaf low free link body e = absurd (none-some body e)
-body_count words count false few true true free link body e = go (entries_at words 6 count) refl e
-  where
-    go : (o : Option (List Member)) → entries_at words 6 count ≡ o → option_map Entries o ≡ Some body → IsCountOf count body
-    go None is f = absurd (none-some body f)
-    go (Some xs) is f = subst (IsCountOf count) (same_Some _ _ f) (sym (entries_length words 6 count xs is))
+body_count words count false few true true free link body e = counted Entries count body (entries_at words 6 count) (λ xs is. sym (entries_length words 6 count xs is)) e
 body_count words count false few true false free link body e = absurd (none-some body e)
 body_count words count false few false low true link body e = subst (IsCountOf count) (same_Some _ _ e) tt
 body_count words count false few false low false link body e = absurd (none-some body e)
@@ -136,11 +133,13 @@ inner_of words s spells inner =
     let many = leb-true (node_word words 5) 15 (body_few (node_word words 1 == 0) (nat_le (node_word words 5) 15) (node_word words 1 == 1) (nat_le (node_word words 5) 10) ((node_word words 1 == 2) && is_short (node_word words 6)) (pairs_at words 6 (node_word words 5)) (entries_at words 6 (node_word words 5)) (node_word words 6) (Pairs (pairs_of s)) ((reads words s spells).body ∙ ap (λ (b : Body). Some b) inner)) in
     record { pairs = pairs; count = count; few = omega (arith, many, count) }
 
+pub pairs_few : (n : ℕ) (s : NodeData) (v : Log) → SpellsHeld n s v → IsInner s → length (pairs_of s) ≤ 15
+pairs_few n s v held inner = let x = known n s v held in (inner_of x.lock.words s x.spells inner).few
+
 -- the count of an inner node that is held
 pub few_slots : (n count : ℕ) (s : NodeData) (v : Log) → SpellsHeld n s v → IsInner s → IsCountOf count s.body → (count ≡ length (pairs_of s)) × (count ≤ 15)
 few_slots n count s v held inner is =
-    let x = known n s v held in
-    let few = (inner_of x.lock.words s x.spells inner).few in
+    let few = pairs_few n s v held inner in
     let same : count ≡ length (pairs_of s) = subst (IsCountOf count) inner is in
     (same, omega (arith, same, few))
 
@@ -169,6 +168,12 @@ pair_stands words at (suc count) slot xs e less = go (is_short (node_word words 
 
 pub pair_here : (words : List ℕ) (s : NodeData) → Inner words s → (slot : ℕ) → slot < length (pairs_of s) → (is_short (node_word words (6 + 2 * slot)) ≡ true) × (slice_get (pairs_of s) slot ≡ Some (pair_at words (6 + 2 * slot)))
 pair_here words s x slot less = let count = x.count in pair_stands words 6 (node_word words 5) slot (pairs_of s) x.pairs (omega (arith, less, count))
+
+-- it is the one whose separator was loaded
+pub separator_told : (n slot found : ℕ) (s : NodeData) (v w : Log) → SpellsHeld n s v → IsInner s → slot < length (pairs_of s) → w.holdings ≡ v.holdings → HeldTells n (6 + 2 * slot + 1) found w → (p : Pair) × ((slice_get (pairs_of s) slot ≡ Some p) × (p.separator ≡ found))
+separator_told n slot found s v w held inner less same tells =
+    let x = known n s v held in
+    (pair_at x.lock.words (6 + 2 * slot), ((pair_here x.lock.words s (inner_of x.lock.words s x.spells inner) slot less).1, told n (6 + 2 * slot + 1) found s v w x same tells))
 
 -- the pairs from a slot on
 from_slot : (xs : List Pair) (slot : ℕ) (p : Pair) → slice_get xs slot ≡ Some p → drop slot xs ≡ p ∷ drop (suc slot) xs

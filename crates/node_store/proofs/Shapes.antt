@@ -26,19 +26,18 @@ entry_here words at count is = go (is_entry_at words at) is
     go false is = search rules
 
 -- what an inner node and a leaf hold, with a count that is known to have room
-pub inner_known : (words : List ℕ) (count : ℕ) → IsSome (body_of_kind words 0 count) → (count ≤ 15) × IsSome (pairs_at words 6 count)
-inner_known words count is = go (nat_le count 15) refl is
+items_known : {A : Type 0} (kind : List A → Body) (most count : ℕ) (o : Option (List A)) → IsSome (if nat_le count most then option_map kind o else None) → (count ≤ most) × IsSome o
+items_known kind most count o is = go (nat_le count most) refl is
   where
-    go : (b : Bool) → nat_le count 15 ≡ b → IsSome (if b then option_map Pairs (pairs_at words 6 count) else None) → (count ≤ 15) × IsSome (pairs_at words 6 count)
-    go true few is = (leb-true count 15 few, some_before Pairs (pairs_at words 6 count) is)
+    go : (b : Bool) → nat_le count most ≡ b → IsSome (if b then option_map kind o else None) → (count ≤ most) × IsSome o
+    go true few is = (leb-true count most few, some_before kind o is)
     go false few is = search rules
 
+pub inner_known : (words : List ℕ) (count : ℕ) → IsSome (body_of_kind words 0 count) → (count ≤ 15) × IsSome (pairs_at words 6 count)
+inner_known words count is = items_known Pairs 15 count (pairs_at words 6 count) is
+
 pub leaf_known : (words : List ℕ) (count : ℕ) → IsSome (body_of_kind words 1 count) → (count ≤ 10) × IsSome (entries_at words 6 count)
-leaf_known words count is = go (nat_le count 10) refl is
-  where
-    go : (b : Bool) → nat_le count 10 ≡ b → IsSome (if b then option_map Entries (entries_at words 6 count) else None) → (count ≤ 10) × IsSome (entries_at words 6 count)
-    go true few is = (leb-true count 10 few, some_before Entries (entries_at words 6 count) is)
-    go false few is = search rules
+leaf_known words count is = items_known Entries 10 count (entries_at words 6 count) is
 
 -- the next pair's child is short
 pub pair_next : (words : List ℕ) (row : List Pair) (count slot : ℕ) → slot < count → IsSome (pairs_at words 6 count)
@@ -75,23 +74,23 @@ entry_made words row count slot m less inside entry is so_far =
     (ap (λ b. if b then Some (entry_at words (6 + 3 * slot)) else None) entry ∙ ap Some (sym is)) so_far
 
 -- all items were made
+items_made : {A : Type 0} (kind : List A → Body) (most : ℕ) (items : ℕ → Option (List A)) (row : List A) (count slot : ℕ) → items 0 ≡ Some [] → count ≤ most → slot ≡ count
+    → (whole : Option (List A)) → whole ≡ option_map (λ more. take slot row ++ more) (items (count - slot)) → (if nat_le count most then option_map kind whole else None) ≡ Some (kind (take count row))
+items_made kind most items row count slot nothing few end whole so_far =
+    let none : count - slot ≡ 0 = omega (arith, end) in
+    let all : whole ≡ Some (take slot row ++ []) = so_far ∙ ap (option_map (λ more. take slot row ++ more)) (ap items none ∙ nothing) in
+    ap (λ b. if b then option_map kind whole else None) (le-leb count most few)
+    ∙ (ap (option_map kind) all ∙ (ap (λ xs. Some (kind xs)) (append-nil (take slot row)) ∙ ap (λ n. Some (kind (take n row))) end))
+
 pub pairs_made : (words : List ℕ) (row : List Pair) (count slot : ℕ) → count ≤ 15 → slot ≡ count
     → pairs_at words 6 count ≡ option_map (λ more. take slot row ++ more) (pairs_at words (6 + 2 * slot) (count - slot))
     → body_of_kind words 0 count ≡ Some (Pairs (take count row))
-pairs_made words row count slot few end so_far =
-    let none : count - slot ≡ 0 = omega (arith, end) in
-    let all : pairs_at words 6 count ≡ Some (take slot row ++ []) = so_far ∙ ap (λ n. option_map (λ more. take slot row ++ more) (pairs_at words (6 + 2 * slot) n)) none in
-    ap (λ b. if b then option_map Pairs (pairs_at words 6 count) else None) (le-leb count 15 few)
-    ∙ (ap (option_map Pairs) all ∙ (ap (λ ps. Some (Pairs ps)) (append-nil (take slot row)) ∙ ap (λ n. Some (Pairs (take n row))) end))
+pairs_made words row count slot few end so_far = items_made Pairs 15 (pairs_at words (6 + 2 * slot)) row count slot refl few end _ so_far
 
 pub entries_made : (words : List ℕ) (row : List Member) (count slot : ℕ) → count ≤ 10 → slot ≡ count
     → entries_at words 6 count ≡ option_map (λ more. take slot row ++ more) (entries_at words (6 + 3 * slot) (count - slot))
     → body_of_kind words 1 count ≡ Some (Entries (take count row))
-entries_made words row count slot few end so_far =
-    let none : count - slot ≡ 0 = omega (arith, end) in
-    let all : entries_at words 6 count ≡ Some (take slot row ++ []) = so_far ∙ ap (λ n. option_map (λ more. take slot row ++ more) (entries_at words (6 + 3 * slot) n)) none in
-    ap (λ b. if b then option_map Entries (entries_at words 6 count) else None) (le-leb count 10 few)
-    ∙ (ap (option_map Entries) all ∙ (ap (λ ms. Some (Entries ms)) (append-nil (take slot row)) ∙ ap (λ n. Some (Entries (take n row))) end))
+entries_made words row count slot few end so_far = items_made Entries 10 (entries_at words (6 + 3 * slot)) row count slot refl few end _ so_far
 
 -- what words that spell a node say of its frame
 pub frame_known : (words : List ℕ) → IsSome (spelled words) → (is_short (node_word words 2) ≡ true) × IsSome (body_of_kind words (node_word words 1) (node_word words 5))

@@ -7,6 +7,7 @@ use Rattle.std.proofs.lemmas.Option.{none-some, cond_some}
 use Rattle.tree_shape.specs.NodeData.{NodeData}
 use Rattle.word_rule.specs.declared.log.Ask.TheVariants as ask
 use Rattle.word_rule.specs.declared.log.Holding.{Holding}
+use Rattle.tree_shape.specs.declared.node.Frame.{Frame}
 use Rattle.word_rule.specs.declared.log.Log.{Log}
 use Rattle.word_rule.specs.declared.log.NodeSight.{NodeSight}
 use Rattle.word_rule.specs.Callers.{IsLockedAt}
@@ -75,12 +76,16 @@ word_more n words at found v inside =
     ∙ ap (λ value. after_node_load n (suc at) value (after_words n (set words at found) at v)) (sym here)
     ∙ ap (λ k. after_words n (set words at found) k v) (sym next)
 
-mark_same : (parent s : NodeSight) → (mark_child parent s).version ≡ s.version
-mark_same parent s = go (nat_eq s.node parent.node)
+-- a parent's sight changes the mark of a child's alone
+marks_alone : {A : Type 0} (f : NodeSight → A) (parent s : NodeSight) → ((m : Option Frame) → f (record s { mark = m }) ≡ f s) → f (mark_child parent s) ≡ f s
+marks_alone f parent s same = go (nat_eq s.node parent.node)
   where
-    go : (b : Bool) → (if b then s else record s { mark = or_mark (place_under s.node parent (place_of parent)) s.mark }).version ≡ s.version
+    go : (b : Bool) → f (if b then s else record s { mark = or_mark (place_under s.node parent (place_of parent)) s.mark }) ≡ f s
     go true = refl
-    go false = refl
+    go false = same _
+
+mark_same : (parent s : NodeSight) → (mark_child parent s).version ≡ s.version
+mark_same parent s = marks_alone (λ z. z.version) parent s (λ m. refl)
 
 -- a log has a sight of a node at a version, with so many of these words
 pub record HasWords (n version : ℕ) (words : List ℕ) (count : ℕ) (v : Log) : Type 0 where
@@ -175,11 +180,7 @@ stays_changed s f same None h = absurd h
 stays_changed s f same (Some k) h = ((same k).0 ∙ h.0, subst (AreLoaded s.words) (sym (same k).1) h.1)
 
 mark_words : (parent s : NodeSight) → (mark_child parent s).words ≡ s.words
-mark_words parent s = go (nat_eq s.node parent.node)
-  where
-    go : (b : Bool) → (if b then s else record s { mark = or_mark (place_under s.node parent (place_of parent)) s.mark }).words ≡ s.words
-    go true = refl
-    go false = refl
+mark_words parent s = marks_alone (λ z. z.words) parent s (λ m. refl)
 
 -- the version of another node was found
 others_looked : (n found : ℕ) (s : Sight) → s.node ≢ n → (o : Option NodeSight) (sights : List NodeSight) → KeptBy s (sight_of s.node sights) → KeptBy s (sight_of s.node (sights_after_version n found o sights))

@@ -4,7 +4,7 @@
 //! that place on are loaded, each once, and stored again where they differ: the whole node is
 //! known to the logic alone. The stores are those by which `write_held` writes the leaf, in their
 //! order.
-ghost use Rattle.std.specs.Prelude.{◌≡◌, ◌+◌, ◌-◌, ◌^◌, ◌<◌, ◌≤◌, length, IsSome, Some};
+ghost use Rattle.std.specs.Prelude.{◌≡◌, ◌+◌, ◌-◌, ◌*◌, ◌^◌, ◌<◌, ◌≤◌, length, IsSome, Some};
 ghost use Rattle.std.specs.Prelude.{slice_get, if◌then◌else◌};
 ghost use Rattle.reg_model.specs.SpanData.{IsSpan};
 ghost use Rattle.tree_shape.specs.NodeData.{IsLeaf, entries_of, place_for};
@@ -76,6 +76,14 @@ impl EntryWords {
         let payload = self.payload as u32;
         Member { span, payload }
     }
+}
+
+// Where the entry at a place begins.
+fn at_entry(place: usize) -> u32
+    requires { place ≤ ENTRIES }
+    ensures { result ≡ 6 + 3 * place }
+{
+    FIRST + ENTRY_WORDS * place as u32
 }
 
 // Loads the words of an entry of a held node, or those that stand behind the last one.
@@ -169,7 +177,7 @@ pub fn begun_in(words: &Words, me: &mut Caller, node: u32, outline: &Outline, pc
     let mut begun = 0;
     let mut ahead = 1;
     for place in 0..ENTRIES as u32 {
-        let base = words.load_node(me, node, FIRST + ENTRY_WORDS * place);
+        let base = words.load_node(me, node, at_entry(place as usize));
         ahead = where_holds(ahead, base <= pc);
         begun += ahead;
     }
@@ -194,7 +202,7 @@ pub fn entry_of(
     ensures holdings { me.new.log.holdings ≡ me.old.log.holdings }
 {
     let _ = outline;
-    load_entry(words, me, node, FIRST + ENTRY_WORDS * place as u32).member()
+    load_entry(words, me, node, at_entry(place)).member()
 }
 
 /// Puts a member into a held leaf at its place. The entries from there on move by one.
@@ -215,8 +223,8 @@ pub fn put_in_place(words: &Words, me: &mut Caller, node: u32, outline: &Outline
 {
     writes();
     let count = outline.count();
-    let first = FIRST + ENTRY_WORDS * placed.place as u32;
-    let mut old = load_entry(words, me, node, FIRST + ENTRY_WORDS * count as u32);
+    let first = at_entry(placed.place);
+    let mut old = load_entry(words, me, node, at_entry(count as usize));
     while first < old.at {
         let moved = load_entry(words, me, node, old.at - ENTRY_WORDS);
         store_entry(words, me, node, &old, &moved);
@@ -252,8 +260,8 @@ pub fn cut_in_place(
 {
     writes();
     let count = outline.count();
-    let first = FIRST + ENTRY_WORDS * place as u32;
-    let mut later = load_entry(words, me, node, FIRST + ENTRY_WORDS * (count as u32 - 1));
+    let first = at_entry(place);
+    let mut later = load_entry(words, me, node, at_entry(count as usize - 1));
     while first < later.at {
         let old = load_entry(words, me, node, later.at - ENTRY_WORDS);
         store_entry(words, me, node, &old, &later);

@@ -2,7 +2,9 @@
 //!
 //! Of a node on the way down an update wants the level, the number of items and one pair. So these
 //! words alone are loaded, and what else the node holds is known to the logic.
-ghost use Rattle.std.specs.Prelude.{◌≡◌, ◌<◌, IsSome, IsSomeAnd, Some, length, slice_get};
+ghost use Rattle.std.specs.Prelude.{◌≡◌, ◌+◌, ◌*◌, ◌<◌, ◌≤◌, IsSome};
+ghost use Rattle.std.specs.Prelude.{IsSomeAnd, Some, length, slice_get};
+ghost use Rattle.tree_shape.specs.declared.limits.TheConstants.{PAIRS};
 ghost use Rattle.tree_shape.specs.NodeData.{InOrder, IsInFences, IsInner, pairs_of, slot_for};
 ghost use Rattle.word_rule.specs.Held.{held_of, now_in};
 ghost use Rattle.word_rule.specs.Spelling.{spelled};
@@ -102,6 +104,14 @@ pub fn outline_of(words: &Words, me: &mut Caller, node: u32) -> Outline
     outlined(me, node, level as u32, count)
 }
 
+// Where the pair at a slot begins.
+fn at_pair(slot: usize) -> u32
+    requires { slot ≤ PAIRS }
+    ensures { result ≡ 6 + 2 * slot }
+{
+    (FIRST + PAIR_WORDS * slot) as u32
+}
+
 /// The place of the first pair of a held inner node whose separator is at least the address: its
 /// child is the one that the address leads to. The separators up to it are loaded.
 pub fn slot_of(words: &Words, me: &mut Caller, node: u32, outline: &Outline, pc: u64) -> usize
@@ -118,8 +128,7 @@ pub fn slot_of(words: &Words, me: &mut Caller, node: u32, outline: &Outline, pc:
 {
     let count = outline.count() as u32;
     for slot in 0..count {
-        let at = (FIRST + 1) as u32 + PAIR_WORDS as u32 * slot;
-        if pc <= words.load_node(me, node, at) {
+        if pc <= words.load_node(me, node, at_pair(slot as usize) + 1) {
             return slot as usize;
         }
     }
@@ -138,7 +147,7 @@ pub fn pair_of(words: &Words, me: &mut Caller, node: u32, outline: &Outline, slo
     ensures holdings { me.new.log.holdings ≡ me.old.log.holdings }
 {
     let _ = outline;
-    let at = (FIRST + PAIR_WORDS * slot) as u32;
+    let at = at_pair(slot);
     let child = words.load_node(me, node, at) as u32;
     let separator = words.load_node(me, node, at + 1);
     Pair { child, separator }

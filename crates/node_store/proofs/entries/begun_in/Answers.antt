@@ -1,5 +1,6 @@
 use Rattle.std.proofs.Common.{◌≡◌, ◌+◌, ◌*◌, ◌∙◌, ap, sym, subst, arith, nat_le}
 use Rattle.tree_shape.specs.NodeData.{entries_of}
+use Rattle.word_rule.specs.NodeTells.{HeldTells}
 use Rattle.node_store.proofs.LeafSearch.{Looked, begins_at, few_entries, inside_list, looked_all, looked_none, looked_on}
 use Rattle.node_store.proofs.LeafWords.{leaf_of}
 use Rattle.node_store.proofs.Outlined.{is_held, known, loads_hold, no_loads, one_load, told}
@@ -20,9 +21,9 @@ loop-place-preserved c =
     let v = c.args.me.now.log in
     let place = c.loop-place.place in
     let x = known n s v c.requires.spells in
-    let word = told n (6 + 3 * place) c.load_node-base.result s v c.loop-place.me.log x (loads_hold c.args.me.now c.loop-place.me c.loop-place.invariant.loads) c.load_node-base.ensures.held in
+    let word = told n (6 + 3 * place) c.load_node-base.result s v c.loop-place.me.log x (loads_hold c.args.me.now c.loop-place.me c.loop-place.invariant.loads) (subst (λ at. HeldTells n at c.load_node-base.result c.loop-place.me.log) c.at_entry.ensures c.load_node-base.ensures.held) in
     record {
-      loads = one_load n (6 + 3 * place) c.load_node-base.result c.args.me.now c.loop-place.me c.load_node-base.new.me
+      loads = one_load n _ c.load_node-base.result c.args.me.now c.loop-place.me c.load_node-base.new.me
           (is_held n s v c.requires.spells) c.loop-place.invariant.loads c.load_node-base.ensures.log;
       goes = looked_on c.args.pc (entries_of s) place c.loop-place.ahead c.loop-place.begun c.loop-place.invariant.goes (nat_le c.load_node-base.result c.args.pc)
           (λ m is. ap (λ k. nat_le k c.args.pc) (sym (begins_at x.lock.words s (leaf_of x.lock.words s x.spells c.requires.leaf) place m (inside_list (entries_of s) place m is) is ∙ word)))

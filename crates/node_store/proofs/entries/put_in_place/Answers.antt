@@ -1,7 +1,7 @@
 use Rattle.std.proofs.Common.{◌≡◌, ◌+◌, ◌*◌, ◌-◌, ◌∙◌, length, ap, subst, arith}
 use Rattle.tree_shape.specs.NodeData.{entries_of}
 use Rattle.word_rule.specs.CallerData.{CallerData}
-use Rattle.node_store.specs.Entries.{leaf_with}
+use Rattle.node_store.specs.Entries.{leaf_with, words_of_entry}
 use Rattle.node_store.proofs.LeafMoves.{MadeUpto, may_held, may_loaded, put_ends, put_on, put_starts, same_table, wide_of}
 use Rattle.node_store.proofs.LeafSearch.{few_entries}
 use Rattle.node_store.proofs.LeafWords.{leaf_of, put_fits}
@@ -11,21 +11,17 @@ use Rattle.node_store.proofs.entries.put_in_place.Goals as goal
 
 pub loop-old-init : goal.loop-old-init
 loop-old-init c =
-    let n = c.args.node in
     let s = c.args.outline.now in
-    let k = c.args.me.now in
-    let x = known n s k.log c.requires.spells in
-    let leaf = leaf_of x.lock.words s x.spells c.requires.leaf in
-    let count = (few_entries n c.count-count.result s k.log c.requires.spells c.requires.leaf c.count-count.ensures).0 in
+    let count = (few_entries c.args.node c.count-count.result c.args.outline.now c.args.me.now.log c.requires.spells c.requires.leaf c.count-count.ensures).0 in
     let at : 6 + 3 * length (entries_of s) ≡ c.load_entry-old.result.at = omega (arith, c.load_entry-old.ensures.at, count) in
     record {
       moves = length (entries_of s) - c.args.placed.now.place;
       at = omega (arith, at, c.requires.place);
       inside = omega (arith, c.requires.place);
       words_are = c.load_entry-old.ensures.words;
-      made = subst (λ j. MadeUpto n (leaf_with c.args.placed.now.place c.args.placed.now.member s) (33 - j) k c.load_entry-old.new.me) at
-          (put_starts n s k x leaf c.args.placed.now.place c.args.placed.now.member c.requires.place c.load_entry-old.new.me c.requires.room c.load_entry-old.ensures.loads);
-      may = may_loaded n k c.load_entry-old.new.me c.load_entry-old.ensures.loads c.requires.may;
+      made = subst (λ j. MadeUpto c.args.node (leaf_with c.args.placed.now.place c.args.placed.now.member s) (33 - j) c.args.me.now c.load_entry-old.new.me) at
+          (put_starts c.args.node s c.args.me.now c.requires.spells c.requires.leaf c.args.placed.now.place c.args.placed.now.member c.requires.place c.load_entry-old.new.me c.requires.room c.load_entry-old.ensures.loads);
+      may = may_loaded c.args.node c.args.me.now c.load_entry-old.new.me c.load_entry-old.ensures.loads c.requires.may;
     }
 
 pub load_entry-moved-requires-clause-table : goal.load_entry-moved-requires-clause-table
@@ -57,13 +53,8 @@ store_entry-requires-clause-may c = may_loaded c.args.node c.loop-old.me c.load_
 
 pub loop-old-preserved : goal.loop-old-preserved
 loop-old-preserved c =
-    let n = c.args.node in
-    let s = c.args.outline.now in
-    let k = c.args.me.now in
-    let x = known n s k.log c.requires.spells in
-    let leaf = leaf_of x.lock.words s x.spells c.requires.leaf in
-    put_on n s k x leaf c.args.placed.now.place c.args.placed.now.member c.requires.place c.loop-old.old c.load_entry-moved.result c.loop-old.me c.load_entry-moved.new.me c.store_entry.new.me
-    c.requires.room c.loop-old.invariant c.loop-old-test.true c.load_entry-moved.ensures.at c.load_entry-moved.ensures.words c.load_entry-moved.ensures.loads c.store_entry.ensures.log c.store_entry.ensures.may
+    put_on c.args.node c.args.outline.now c.args.me.now c.requires.spells c.requires.leaf c.args.placed.now.place c.args.placed.now.member c.requires.place c.loop-old.old c.load_entry-moved.result c.loop-old.me c.load_entry-moved.new.me c.store_entry.new.me
+    c.requires.room c.loop-old.invariant (omega (arith, c.at_entry-first.ensures, c.loop-old-test.true)) c.load_entry-moved.ensures.at c.load_entry-moved.ensures.words c.load_entry-moved.ensures.loads c.store_entry.ensures.log c.store_entry.ensures.may
 
 pub store_entry-requires-2-clause-table : goal.store_entry-requires-2-clause-table
 store_entry-requires-2-clause-table c =
@@ -91,10 +82,9 @@ returns c =
     let place = c.args.placed.now.place in
     let m = c.args.placed.now.member in
     let x = known n s k.log c.requires.spells in
-    let leaf = leaf_of x.lock.words s x.spells c.requires.leaf in
     let count = (few_entries n c.count-count.result s k.log c.requires.spells c.requires.leaf c.count-count.ensures).0 in
-    let made = put_ends n s k x leaf place m c.requires.place c.count-count.result c.loop-old.old c.of-put.result c.loop-old.me c.store_entry-2.new.me c.store_word.new.me
-    c.requires.room c.loop-old.invariant c.loop-old-test.false c.of-put.ensures.words c.store_entry-2.ensures.log count c.store_word.ensures.log in
-    let write = c.writes.ensures (leaf_with place m s) x.lock.words (wide_of n s k.log x c.load_entry-old.ensures.holder) (put_fits x.lock.words s leaf place m c.requires.place c.requires.room (c.of-put.ensures.span, c.of-put.ensures.payload)) in
+    let made = put_ends n s k c.requires.spells c.requires.leaf place m c.requires.place c.count-count.result c.loop-old.old c.of-put.result c.loop-old.me c.store_entry-2.new.me c.store_word.new.me
+    c.requires.room c.loop-old.invariant (omega (arith, c.at_entry-first.ensures, c.loop-old-test.false)) (c.of-put.ensures.words ∙ ap (λ at. words_of_entry at m) c.at_entry-first.ensures) c.store_entry-2.ensures.log count c.store_word.ensures.log in
+    let write = c.writes.ensures (leaf_with place m s) x.lock.words (wide_of n s k.log x c.load_entry-old.ensures.holder) (put_fits x.lock.words s (leaf_of x.lock.words s x.spells c.requires.leaf) place m c.requires.place c.requires.room (c.of-put.ensures.span, c.of-put.ensures.payload)) in
     let done = written_by n (leaf_with place m s) x.lock k c.store_word.new.me x.found write made in
     record { stores = done.stores; order = done.order; spells = done.spells }

@@ -1,66 +1,41 @@
-use Rattle.std.proofs.Common.{◌≡◌, ◌+◌, ◌*◌, ◌∙◌, ap, arith}
+use Rattle.std.proofs.Common.{◌+◌, ap, subst, arith}
 use Rattle.tree_shape.specs.NodeData.{pairs_of}
 use Rattle.tree_shape.proofs.Orders.{inner_order}
 use Rattle.tree_shape.proofs.Slots.{slot_inside}
-use Rattle.word_rule.specs.Spelling.{node_word}
-use Rattle.node_store.proofs.Outlined.{few_slots, inner_of, is_held, known, loads_hold, one_load, pair_here, slot_ends, slot_next, told}
+use Rattle.word_rule.specs.NodeTells.{HeldTells}
+use Rattle.node_store.proofs.Outlined.{few_slots, is_held, loads_hold, one_load, separator_told, slot_ends, slot_next}
 use Rattle.node_store.proofs.outline.slot_of.Goals as goal
 
 pub overflow_cast-count : goal.overflow_cast-count
-overflow_cast-count c =
-    let few = (few_slots c.args.node c.count-count.result c.args.outline.now c.args.me.now.log c.requires.spells c.requires.inner c.count-count.ensures).1 in
-    omega (arith, few)
+overflow_cast-count c = let few = (few_slots c.args.node c.count-count.result c.args.outline.now c.args.me.now.log c.requires.spells c.requires.inner c.count-count.ensures).1 in omega (arith, few)
 
-pub overflow_mul-at : goal.overflow_mul-at
-overflow_mul-at c =
-    let few = (few_slots c.args.node c.count-count.result c.args.outline.now c.args.me.now.log c.requires.spells c.requires.inner c.count-count.ensures).1 in
-    omega (arith, few, c.loop-slot-test.true)
-
-pub overflow_add-at-in-loop-slot : goal.overflow_add-at-in-loop-slot
-overflow_add-at-in-loop-slot c =
-    let few = (few_slots c.args.node c.count-count.result c.args.outline.now c.args.me.now.log c.requires.spells c.requires.inner c.count-count.ensures).1 in
-    omega (arith, few, c.loop-slot-test.true)
+pub at_pair-requires : goal.at_pair-requires
+at_pair-requires c = let few = (few_slots c.args.node c.count-count.result c.args.outline.now c.args.me.now.log c.requires.spells c.requires.inner c.count-count.ensures).1 in omega (arith, few, c.loop-slot-test.true)
 
 pub load_node-requires-clause-word : goal.load_node-requires-clause-word
 load_node-requires-clause-word c =
     let few = (few_slots c.args.node c.count-count.result c.args.outline.now c.args.me.now.log c.requires.spells c.requires.inner c.count-count.ensures).1 in
-    (omega arith, omega (arith, few, c.loop-slot-test.true))
+    (omega (arith, c.at_pair.ensures), omega (arith, c.at_pair.ensures, few, c.loop-slot-test.true))
 
 pub returns-then-pc-load_node-clause-first : goal.returns-then-pc-load_node-clause-first
 returns-then-pc-load_node-clause-first c =
-    let n = c.args.node in
-    let s = c.args.outline.now in
-    let v = c.args.me.now.log in
-    let slot = c.loop-slot.slot in
-    let x = known n s v c.requires.spells in
-    let count = (few_slots n c.count-count.result s v c.requires.spells c.requires.inner c.count-count.ensures).0 in
-    let here = pair_here x.lock.words s (inner_of x.lock.words s x.spells c.requires.inner) slot (omega (arith, c.loop-slot-test.true, count)) in
-    let word = told n (7 + 2 * slot) c.load_node.result s v c.loop-slot.me.log x (loads_hold c.args.me.now c.loop-slot.me c.loop-slot.invariant.loads) c.load_node.ensures.held in
-    let next : 6 + 2 * slot + 1 ≡ 7 + 2 * slot = omega arith in
-    let separator = ap (node_word x.lock.words) next ∙ word in
-    slot_ends c.args.pc slot (pairs_of s) _ here.1 (omega (arith, separator, c.if-pc-load_node.true)) c.loop-slot.invariant.left
+    let count = (few_slots c.args.node c.count-count.result c.args.outline.now c.args.me.now.log c.requires.spells c.requires.inner c.count-count.ensures).0 in
+    let pair = separator_told c.args.node c.loop-slot.slot c.load_node.result c.args.outline.now c.args.me.now.log c.loop-slot.me.log c.requires.spells c.requires.inner (omega (arith, c.loop-slot-test.true, count)) (loads_hold c.args.me.now c.loop-slot.me c.loop-slot.invariant.loads) (subst (λ at. HeldTells c.args.node at c.load_node.result c.loop-slot.me.log) (ap (λ at. at + 1) c.at_pair.ensures) c.load_node.ensures.held) in
+    slot_ends c.args.pc c.loop-slot.slot (pairs_of c.args.outline.now) pair.0 pair.1.0 (omega (arith, pair.1.1, c.if-pc-load_node.true)) c.loop-slot.invariant.left
 
 pub returns-then-pc-load_node-clause-loads : goal.returns-then-pc-load_node-clause-loads
 returns-then-pc-load_node-clause-loads c =
-    one_load c.args.node (7 + 2 * c.loop-slot.slot) c.load_node.result c.args.me.now c.loop-slot.me c.load_node.new.me
+    one_load c.args.node _ c.load_node.result c.args.me.now c.loop-slot.me c.load_node.new.me
     (is_held c.args.node c.args.outline.now c.args.me.now.log c.requires.spells) c.loop-slot.invariant.loads c.load_node.ensures.log
 
 pub loop-slot-preserved : goal.loop-slot-preserved
 loop-slot-preserved c =
-    let n = c.args.node in
-    let s = c.args.outline.now in
-    let v = c.args.me.now.log in
-    let slot = c.loop-slot.slot in
-    let x = known n s v c.requires.spells in
-    let count = (few_slots n c.count-count.result s v c.requires.spells c.requires.inner c.count-count.ensures).0 in
-    let here = pair_here x.lock.words s (inner_of x.lock.words s x.spells c.requires.inner) slot (omega (arith, c.loop-slot-test.true, count)) in
-    let word = told n (7 + 2 * slot) c.load_node.result s v c.loop-slot.me.log x (loads_hold c.args.me.now c.loop-slot.me c.loop-slot.invariant.loads) c.load_node.ensures.held in
-    let next : 6 + 2 * slot + 1 ≡ 7 + 2 * slot = omega arith in
-    let separator = ap (node_word x.lock.words) next ∙ word in
+    let count = (few_slots c.args.node c.count-count.result c.args.outline.now c.args.me.now.log c.requires.spells c.requires.inner c.count-count.ensures).0 in
+    let pair = separator_told c.args.node c.loop-slot.slot c.load_node.result c.args.outline.now c.args.me.now.log c.loop-slot.me.log c.requires.spells c.requires.inner (omega (arith, c.loop-slot-test.true, count)) (loads_hold c.args.me.now c.loop-slot.me c.loop-slot.invariant.loads) (subst (λ at. HeldTells c.args.node at c.load_node.result c.loop-slot.me.log) (ap (λ at. at + 1) c.at_pair.ensures) c.load_node.ensures.held) in
     record {
-      loads = one_load n (7 + 2 * slot) c.load_node.result c.args.me.now c.loop-slot.me c.load_node.new.me
-          (is_held n s v c.requires.spells) c.loop-slot.invariant.loads c.load_node.ensures.log;
-      left = slot_next c.args.pc slot (pairs_of s) _ here.1 (omega (arith, separator, c.if-pc-load_node.false)) c.loop-slot.invariant.left;
+      loads = one_load c.args.node _ c.load_node.result c.args.me.now c.loop-slot.me c.load_node.new.me
+          (is_held c.args.node c.args.outline.now c.args.me.now.log c.requires.spells) c.loop-slot.invariant.loads c.load_node.ensures.log;
+      left = slot_next c.args.pc c.loop-slot.slot (pairs_of c.args.outline.now) pair.0 pair.1.0 (omega (arith, pair.1.1, c.if-pc-load_node.false)) c.loop-slot.invariant.left;
     }
 
 pub unreachable-requires : goal.unreachable-requires

@@ -5,13 +5,9 @@ use Rattle.node_store.proofs.shaping.inner_from.Goals as goal
 
 pub loop-slot-preserved : goal.loop-slot-preserved
 loop-slot-preserved c =
-    let inv = c.loop-slot.invariant in
-    let less = c.loop-slot-test.true in
-    let count = c.short_word-count.result in
-    let words = c.args.words.now in
-    let known = inner_known words count (subst (λ n. IsSome (body_of_kind words 0 n)) (sym c.short_word-count.ensures) c.requires) in
-    let short = pair_next words c.loop-slot.pairs count c.loop-slot.slot less known.1 inv.left in
+    let known = inner_known c.args.words.now c.short_word-count.result (subst (λ n. IsSome (body_of_kind c.args.words.now 0 n)) (sym c.short_word-count.ensures) c.requires) in
+    let pair = pair_next c.args.words.now c.loop-slot.pairs c.short_word-count.result c.loop-slot.slot c.loop-slot-test.true known.1 c.loop-slot.invariant.left in
     record {
-      room = length-set _ _ _ ∙ inv.room;
-      left = pair_made words c.loop-slot.pairs count c.loop-slot.slot c.pair_from.result less (omega (arith, less, known.0, inv.room)) short c.pair_from.ensures inv.left;
+      room = length-set _ _ _ ∙ c.loop-slot.invariant.room;
+      left = pair_made c.args.words.now c.loop-slot.pairs c.short_word-count.result c.loop-slot.slot c.pair_from.result c.loop-slot-test.true (omega (arith, c.loop-slot-test.true, known.0, c.loop-slot.invariant.room)) pair c.pair_from.ensures c.loop-slot.invariant.left;
     }
