@@ -61,25 +61,18 @@ answered s (update.Load m) n fit = (
   receipt.Load m (loading.Done (n + 1)),
   record { is_done = refl; accepts = refl; number = refl; makes = refl; one_step = record { right = tt; changes = (fit, refl, refl) }; no_full = λ st history nodes callers since. record { ten = tt; most = λ _. tt } },
 )
-answered s (update.Deregister base) n fit =
-    let m = some_of (at_base base s.registered) fit in
-    let done = some_and (λ x. receipt.Deregister base (removed.Done (n + 1) m.0) ≡ receipt.Deregister base (removed.Done (n + 1) x)) (at_base base s.registered) m.0 m.1 refl in (
-      receipt.Deregister base (removed.Done (n + 1) m.0),
-      record { is_done = done; accepts = refl; number = refl; makes = refl; one_step = record { right = m.1; changes = (fit, refl, refl) }; no_full = λ st history nodes callers since. record { ten = tt; most = λ _. tt } },
-    )
-answered s (update.Replace m) n fit =
-    let old = some_of (at_span m.span s.registered) fit in
-    let done = some_and (λ x. receipt.Replace m (replaced.Done (n + 1) old.0.payload) ≡ receipt.Replace m (replaced.Done (n + 1) x.payload)) (at_span m.span s.registered) old.0 old.1 refl in
-    let right = some_and (λ x. x.payload ≡ old.0.payload) (at_span m.span s.registered) old.0 old.1 refl in (
-      receipt.Replace m (replaced.Done (n + 1) old.0.payload),
-      record { is_done = done; accepts = refl; number = refl; makes = refl; one_step = record { right = right; changes = (fit, refl, refl) }; no_full = λ st history nodes callers since. record { ten = tt; most = λ _. tt } },
-    )
-answered s (update.Unload base) n fit =
-    let m = some_of (at_base base s.loaded) fit in
-    let done = some_and (λ x. receipt.Unload base (removed.Done (n + 1) m.0) ≡ receipt.Unload base (removed.Done (n + 1) x)) (at_base base s.loaded) m.0 m.1 refl in (
-      receipt.Unload base (removed.Done (n + 1) m.0),
-      record { is_done = done; accepts = refl; number = refl; makes = refl; one_step = record { right = m.1; changes = (fit, refl, refl) }; no_full = λ st history nodes callers since. record { ten = tt; most = λ _. tt } },
-    )
+answered s (update.Deregister base) n fit = let m = some_of (at_base base s.registered) fit in (
+  receipt.Deregister base (removed.Done (n + 1) m.0),
+  record { is_done = some_and _ (at_base base s.registered) m.0 m.1 refl; accepts = refl; number = refl; makes = refl; one_step = record { right = m.1; changes = (fit, refl, refl) }; no_full = λ st history nodes callers since. record { ten = tt; most = λ _. tt } },
+)
+answered s (update.Replace m) n fit = let old = some_of (at_span m.span s.registered) fit in (
+  receipt.Replace m (replaced.Done (n + 1) old.0.payload),
+  record { is_done = some_and _ (at_span m.span s.registered) old.0 old.1 refl; accepts = refl; number = refl; makes = refl; one_step = record { right = some_and _ (at_span m.span s.registered) old.0 old.1 refl; changes = (fit, refl, refl) }; no_full = λ st history nodes callers since. record { ten = tt; most = λ _. tt } },
+)
+answered s (update.Unload base) n fit = let m = some_of (at_base base s.loaded) fit in (
+  receipt.Unload base (removed.Done (n + 1) m.0),
+  record { is_done = some_and _ (at_base base s.loaded) m.0 m.1 refl; accepts = refl; number = refl; makes = refl; one_step = record { right = m.1; changes = (fit, refl, refl) }; no_full = λ st history nodes callers since. record { ten = tt; most = λ _. tt } },
+)
 
 -- what a log has observed stays where it gets receipts: they end what its loads told of fullness
 pub observations_received : (t : Terms) (m : Memory) (history : List Update) (callers : ℕ) (shadow : Shadow) (v w : Log) (more : List Receipt) → 0 < length more → w.receipts.own ≡ v.receipts.own ++ more → w.sights ≡ v.sights → w.trace.loads ≡ v.trace.loads → turns v.trace ≤ turns w.trace

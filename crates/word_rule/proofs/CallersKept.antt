@@ -1,17 +1,9 @@
 -- What a caller keeps over one part of a call after another.
-use Rattle.std.proofs.Common.{refl, ◌∙◌}
+use Rattle.std.proofs.Common.{refl, rules, ◌∙◌}
 use Rattle.word_rule.specs.CallerData.{CallerData, KeepsCaller, KeepsCalls}
 
 pub kept_caller : (k : CallerData) → KeepsCaller k k
-kept_caller k = record {
-  table = refl;
-  left = refl;
-  terms = refl;
-  role = refl;
-  loader = refl;
-  made = refl;
-  lineage = refl;
-}
+kept_caller k = search rules
 
 pub kept_caller_on : {k l m : CallerData} → KeepsCaller k l → KeepsCaller l m → KeepsCaller k m
 kept_caller_on p q = record {
