@@ -53,6 +53,10 @@ with_member xs m k h span free place = record {
   kept = λ x. subst (λ z. Contains (take k xs ++ m ∷ drop k xs) x ↔ (Contains z x ⊎ (m ≡ x))) (take-append-drop k xs) (contains_with (take k xs) (drop k xs) m x);
 }
 
+-- the same of a list that is known to be another, by the address
+pub with_member_at : (xs ys : List Member) (m : Member) (k pc : ℕ) → xs ≡ ys → AscendFrom 0 ys → m.span.first ≤ m.span.last → IsFree m.span ys → IsPlaceOf pc xs k → pc ≡ m.span.first → IsWithMember m xs (take k xs ++ m ∷ drop k xs)
+with_member_at xs ys m k pc same h span free place is = with_member xs m k (subst (AscendFrom 0) (sym same) h) span (subst (IsFree m.span) (sym same) free) (subst (λ z. IsPlaceOf z xs k) is place)
+
 -- ---- a full segment
 
 last_of : (ys : List Member) (n : ℕ) (d : Member) → length ys ≡ suc n → ys ≡ take n ys ++ get_or ys n d ∷ []
