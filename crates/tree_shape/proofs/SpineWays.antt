@@ -12,11 +12,11 @@ use Rattle.tree_shape.specs.Trees.{Contents, Branch, branch, branches_from, bran
 use Rattle.tree_shape.specs.Trees.{within}
 use Rattle.tree_shape.specs.Trees.{leaving}
 use Rattle.tree_shape.specs.Steps.{last_child, first_child, last_spine, first_spine}
-use Rattle.tree_shape.proofs.Times.{In, times-append, times_flat_map_from, once_other, once_same}
+use Rattle.tree_shape.proofs.Times.{In, times-append, times_flat_map_from, once_other}
 use Rattle.tree_shape.proofs.Reach.{onward, outward, under_top}
 use Rattle.tree_shape.proofs.Family.{quiet_onward, quiet_outward}
 use Rattle.tree_shape.proofs.Slots.{some_left}
-use Rattle.tree_shape.proofs.Spines.{Stands, last_top, first_top, ordered_cut, last_of_pairs}
+use Rattle.tree_shape.proofs.Spines.{Stands, apart_from_top, last_top, first_top, ordered_cut, last_of_pairs}
 use Rattle.tree_shape.proofs.Spines.{ends_at_pairs, first_under}
 
 -- the ways inside the set are the spine, and they leave it by the same branches
@@ -41,6 +41,16 @@ past set f level b outside = (
   ap (λ v. cond v (leaving set f level b.child) (b ∷ [])) outside,
 )
 
+-- a node's ways are itself and those of its branches
+from_top : (set : ℕ → Bool) (f g : Contents) (level n : ℕ) {spine : List ℕ} {bs : List Branch} → branches level (g n) ≡ bs →
+    (flat_map (onward set f level) (branches level (f n)) ≡ spine) × (flat_map (onward set g level) bs ≡ spine)
+    × (flat_map (outward set g level) bs ≡ flat_map (outward set f level) (branches level (f n))) → WaysAlong set f g (suc level) n (n ∷ spine)
+from_top set f g level n now ways = record {
+  before = ap (λ l. n ∷ l) ways.0;
+  after = ap (λ l. n ∷ l) (ap (flat_map (onward set g level)) now ∙ ways.1);
+  exits = ap (flat_map (outward set g level)) now ∙ ways.2;
+}
+
 pub left_ways : (set : ℕ → Bool) (f g : Contents) (fence level n low high : ℕ) →
     Stands f level n low high →
     ((x : ℕ) → 0 < times x (last_spine f level n) → IsTrue (set x) × (g x ≡ ends_at_fence fence (f x))) →
@@ -57,26 +67,13 @@ left_ways set f g fence (suc level) n low high stands spine rest once' =
     (ends_at fence (pairs_of (f n))) =
     ap (branches level) now ∙ ap (branches_from level (f n).low) (ends_at_pairs fence (f n).body) in
     let cut = ordered_cut (f n) (f n).body stands.0.3 (omega (arith, stands.0.0)) high stands.0.2 in
-    let not_top : (x : ℕ) →
-    0 < times x (flat_map (λ (b : Branch). nodes_under f level b.child) (branches level (f n)))
-    → x ≢ n =
-    λ x there e. (let once_n = once' n in
-    let there_n : 0 < times n (flat_map (λ (b : Branch). nodes_under f level b.child)
-    (branches level (f n))) =
-    subst (λ y. 0 < times y (flat_map (λ (b : Branch). nodes_under f level b.child)
-    (branches level (f n)))) e there in
-    omega (arith, once_same n)) in
     let ways = of_pairs (f n).low (pairs_of (f n)) 0 cut (omega (arith, stands.0.1, stands.0.4))
     stands.1
     (λ m l h below sp re on. left_ways set f g fence level m l h below sp re on)
     (λ x there. spine x (omega arith))
-    (λ x there none. rest x (omega arith) (omega (arith, once_other x n (not_top x there))))
+    (λ x there none. rest x (omega arith) (omega (arith, once_other x n (apart_from_top f level n once' x there))))
     (λ x. omega (arith, once' x)) in
-    record {
-      before = ap (λ l. n ∷ l) ways.0;
-      after = ap (λ l. n ∷ l) (ap (flat_map (onward set g level)) pairs_now ∙ ways.1);
-      exits = ap (flat_map (outward set g level)) pairs_now ∙ ways.2;
-    }
+    from_top set f g level n pairs_now ways
   where
     of_pairs : (low : ℕ) (pairs : List Pair) (start : ℕ) → Cut low high pairs → low ≤ high →
         AllByRecursion (λ b. Stands f level b.child b.frame.low b.frame.high)
@@ -162,26 +159,13 @@ right_ways set f g fence (suc level) n low high stands spine rest once' =
     let pairs_now : branches level (g n) ≡ branches_from level (fence + 1) (pairs_of (f n)) =
     ap (branches level) now in
     let cut = ordered_cut (f n) (f n).body stands.0.3 (omega (arith, stands.0.0)) high stands.0.2 in
-    let not_top : (x : ℕ) →
-    0 < times x (flat_map (λ (b : Branch). nodes_under f level b.child) (branches level (f n)))
-    → x ≢ n =
-    λ x there e. (let once_n = once' n in
-    let there_n : 0 < times n (flat_map (λ (b : Branch). nodes_under f level b.child)
-    (branches level (f n))) =
-    subst (λ y. 0 < times y (flat_map (λ (b : Branch). nodes_under f level b.child)
-    (branches level (f n)))) e there in
-    omega (arith, once_same n)) in
     let ways = of_pairs (f n).low (pairs_of (f n)) cut (omega (arith, stands.0.1, stands.0.4))
     stands.1
     (λ m l h sp re on below. right_ways set f g fence level m l h below sp re on)
     (λ x there. spine x (omega arith))
-    (λ x there none. rest x (omega arith) (omega (arith, once_other x n (not_top x there))))
+    (λ x there none. rest x (omega arith) (omega (arith, once_other x n (apart_from_top f level n once' x there))))
     (λ x. omega (arith, once' x)) in
-    record {
-      before = ap (λ l. n ∷ l) ways.0;
-      after = ap (λ l. n ∷ l) (ap (flat_map (onward set g level)) pairs_now ∙ ways.1);
-      exits = ap (flat_map (outward set g level)) pairs_now ∙ ways.2;
-    }
+    from_top set f g level n pairs_now ways
   where
     of_pairs : (low : ℕ) (pairs : List Pair) → Cut low high pairs → low ≤ high →
         AllByRecursion (λ b. Stands f level b.child b.frame.low b.frame.high)

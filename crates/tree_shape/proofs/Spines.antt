@@ -200,6 +200,14 @@ ends_at_pairs fence (Pairs pairs) = refl
 ends_at_pairs fence (Entries es) = refl
 ends_at_pairs fence (Link next) = refl
 
+-- what a node's branches reach isn't the node itself
+pub apart_from_top : (f : Contents) (level n : ℕ) → ((x : ℕ) → times x (nodes_under f (suc level) n) ≤ 1) →
+    (x : ℕ) → 0 < times x (flat_map (λ (b : Branch). nodes_under f level b.child) (branches level (f n))) → x ≢ n
+apart_from_top f level n once' x there e =
+    let once_n = once' n in
+    let there_n = subst (λ y. 0 < times y (flat_map (λ (b : Branch). nodes_under f level b.child) (branches level (f n)))) e there in
+    omega (arith, once_same n, once_n, there_n)
+
 -- what stands, with the fence raised along the last spine
 pub left_stands : (f g : Contents) (fence level n low high : ℕ) → Stands f level n low high → high < fence →
     ((x : ℕ) → 0 < times x (last_spine f level n) → g x ≡ ends_at_fence fence (f x)) →
@@ -220,11 +228,7 @@ left_stands f g fence (suc level) n low high stands above spine rest once' =
     let order : (f n).low ≤ (f n).high = omega (arith, stands.0.1, stands.0.2, stands.0.4) in
     let cut = ordered_cut (f n) (f n).body stands.0.3 (omega (arith, stands.0.0)) high stands.0.2 in
     let pairs_now : branches level (g n) ≡ branches_from level (f n).low (ends_at fence (pairs_of (f n))) =
-    ap (branches level) now ∙ ap (branches_from level (f n).low) (ends_at_pairs fence (f n).body) in
-    let not_top : (x : ℕ) → 0 < times x (flat_map (λ (b : Branch). nodes_under f level b.child) (branches level (f n))) → x ≢ n =
-    λ x there e. (let once_n = once' n in
-    let there_n : 0 < times n (flat_map (λ (b : Branch). nodes_under f level b.child) (branches level (f n))) = subst (λ y. 0 < times y (flat_map (λ (b : Branch). nodes_under f level b.child) (branches level (f n)))) e there in
-    omega (arith, once_same n)) in (
+    ap (branches level) now ∙ ap (branches_from level (f n).low) (ends_at_pairs fence (f n).body) in (
       (
         ap (λ s. s.level) now ∙ stands.0.0,
         ap (λ s. s.low) now ∙ stands.0.1,
@@ -236,7 +240,7 @@ left_stands f g fence (suc level) n low high stands above spine rest once' =
           (of_pairs (f n).low (pairs_of (f n)) 0 cut (omega (arith, stands.0.2)) stands.1
           (λ m l h below higher sp re on. left_stands f g fence level m l h below higher sp re on)
           (λ x there. spine x (omega arith))
-          (λ x there none. rest x (omega arith) (omega (arith, once_other x n (not_top x there))))
+          (λ x there none. rest x (omega arith) (omega (arith, once_other x n (apart_from_top f level n once' x there))))
           (λ x. omega (arith, once' x))),
     )
   where
@@ -292,11 +296,7 @@ right_stands f g fence (suc level) n low high stands below spine rest once' =
     let now = spine n (times_head n (first_spine f level (first_child 0 (pairs_of (f n))))) in
     let order : (f n).low ≤ (f n).high = omega (arith, stands.0.1, stands.0.2, stands.0.4) in
     let cut = ordered_cut (f n) (f n).body stands.0.3 (omega (arith, stands.0.0)) high stands.0.2 in
-    let pairs_now : branches level (g n) ≡ branches_from level (fence + 1) (pairs_of (f n)) = ap (branches level) now in
-    let not_top : (x : ℕ) → 0 < times x (flat_map (λ (b : Branch). nodes_under f level b.child) (branches level (f n))) → x ≢ n =
-    λ x there e. (let once_n = once' n in
-    let there_n : 0 < times n (flat_map (λ (b : Branch). nodes_under f level b.child) (branches level (f n))) = subst (λ y. 0 < times y (flat_map (λ (b : Branch). nodes_under f level b.child) (branches level (f n)))) e there in
-    omega (arith, once_same n)) in (
+    let pairs_now : branches level (g n) ≡ branches_from level (fence + 1) (pairs_of (f n)) = ap (branches level) now in (
       (
         ap (λ s. s.level) now ∙ stands.0.0,
         ap (λ s. s.low) now,
@@ -309,7 +309,7 @@ right_stands f g fence (suc level) n low high stands below spine rest once' =
           (λ m l h b sp re on standing. right_stands f g fence level m l h standing b sp re on)
           below.1
           (λ x there. spine x (omega arith))
-          (λ x there none. rest x (omega arith) (omega (arith, once_other x n (not_top x there))))
+          (λ x there none. rest x (omega arith) (omega (arith, once_other x n (apart_from_top f level n once' x there))))
           (λ x. omega (arith, once' x))),
     )
   where
