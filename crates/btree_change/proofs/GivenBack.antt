@@ -1,4 +1,5 @@
 -- A node that left the tree is given back, where all else that is held has settled.
+use Rattle.std.proofs.Math.Bool.{and-false}
 use Rattle.std.proofs.Common.{◌≡◌, ◌≢◌, ℕ, List, [], ◌∷◌, ◌++◌, map, sym, refl, ap, ◌∙◌, subst, Bool, true, false, ◌==◌, not, ◌&&◌, ◌||◌, true≢false, Some, None, is_some, eq-eqb, ne_eqb, if◌then◌else◌, cond}
 use Rattle.std.specs.List.{AllByRecursion}
 use native.Mathlib.Decide.{ℕ_discrete}
@@ -61,10 +62,6 @@ unmarked n (h ∷ held) all = go (ℕ_discrete h.node n) (unmarked n held all.1)
     go (yes e) rest = ap (λ b. is_marked (cond b (Some h) (held_of n held))) (eq-eqb h.node n e) ∙ ap is_some (all.0.0 e)
     go (no ne) rest = ap (λ b. is_marked (cond b (Some h) (held_of n held))) (ne_eqb h.node n ne) ∙ rest
 
-and_no : (b : Bool) → (b && false) ≡ false
-and_no true = refl
-and_no false = refl
-
 pub there_then : (n : ℕ) (u v w : Log) → OnlyThere n u v → OnlyThere n v w → OnlyThere n u w
 there_then n u v w a b = record {
   held = b.held ∙ a.held;
@@ -75,7 +72,7 @@ there_then n u v w a b = record {
 
 pub stored_there : (n at value : ℕ) (v : Log) → AllByRecursion (IsGoneOrSettled n) v.holdings.held → OnlyThere n v (after_node_store n at value v)
 stored_there n at value v all =
-    let plain : after_node_store n at value v ≡ stored_log n at value v = ap (λ b. if ((at == 1) && (value == 2)) && b then settle None (stored_log n at value v) else stored_log n at value v) (unmarked n v.holdings.held all) ∙ ap (λ b. if b then settle None (stored_log n at value v) else stored_log n at value v) (and_no ((at == 1) && (value == 2))) in
+    let plain : after_node_store n at value v ≡ stored_log n at value v = ap (λ b. if ((at == 1) && (value == 2)) && b then settle None (stored_log n at value v) else stored_log n at value v) (unmarked n v.holdings.held all) ∙ ap (λ b. if b then settle None (stored_log n at value v) else stored_log n at value v) (and-false ((at == 1) && (value == 2))) in
     subst (OnlyThere n v) (sym plain) (record {
       held = edited_without n (store_in at value) v.holdings.held (λ h. refl);
       ready = edited_ready n (store_in at value) v.holdings.held (λ h. refl) (λ h. refl) all;
@@ -113,7 +110,7 @@ unchanged n h s = go (ℕ_discrete h.node n)
   where
     go : Dec (h.node ≡ n) → is_changed None h ≡ false
     go (yes e) = ap (λ o. is_some o && (not (are_spelled (spelled h.words) h.settled) || false)) (s.0 e)
-    go (no ne) = ap (λ b. is_some h.mark && (not b || false)) ((spelled_decides (spelled h.words) h.settled).1 (s.1 ne)) ∙ and_no (is_some h.mark)
+    go (no ne) = ap (λ b. is_some h.mark && (not b || false)) ((spelled_decides (spelled h.words) h.settled).1 (s.1 ne)) ∙ and-false (is_some h.mark)
 
 settled_rest : (n : ℕ) (held : List Holding) → AllByRecursion (IsGoneOrSettled n) held → without_lock n (map (exchange nothing_reached nothing_reached) held) ≡ without_lock n held
 settled_rest n [] all = refl

@@ -30,19 +30,6 @@ same_test true b to from = sym (to refl)
 same_test false true to from = from refl
 same_test false false to from = refl
 
--- a test and its answer
-pub tested : (b : Bool) → (b ≡ true) ⊎ (b ≡ false)
-tested true = inl refl
-tested false = inr refl
-
-pub and_parts : (a b : Bool) → (a && b) ≡ true → (a ≡ true) × (b ≡ true)
-and_parts true b e = (refl, e)
-and_parts false b e = absurd (true≢false (sym e))
-
-pub or_parts : (a b : Bool) → (a || b) ≡ true → (a ≡ true) ⊎ (b ≡ true)
-or_parts true b e = inl refl
-or_parts false b e = inr e
-
 -- what stands in a filtered and in a mapped list
 pub in_filter : (test : Holding → Bool) (held : List Holding) (h : Holding) → In h (filter test held) → In h held × (test h ≡ true)
 in_filter test [] h there = absurd there

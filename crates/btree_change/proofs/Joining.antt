@@ -30,13 +30,14 @@ use Rattle.btree_change.specs.Siblings.{HoldsGone, HoldsSiblings, both_of}
 use Rattle.btree_change.specs.declared.sibling.Siblings.{Siblings}
 use Rattle.btree_change.proofs.Descents.{steps_of_load}
 use Rattle.btree_change.proofs.Loading.{none_more}
-use Rattle.btree_change.proofs.Pairings.{AreThree, AreWritten, IsNow, are_written, at_slot_is, both_high, both_left, both_low, both_more, family, group_of, here, in_l, in_r, later, next_slot_is, not_in, parent_told, settles, three}
+use Rattle.btree_change.proofs.Pairings.{AreThree, AreWritten, IsNow, are_written, at_slot_is, both_high, both_left, both_low, both_more, family, group_of, in_l, in_r, later, next_slot_is, not_in, parent_told, settles, three}
 use Rattle.btree_change.proofs.Settling.{SettlingLaws, settled_gone, settled_group}
 use Rattle.btree_change.proofs.Storing.{IsWrittenAs}
 use Rattle.btree_change.proofs.Written.{edit_high, spells_freed, write_low, write_upper}
 use Rattle.btree_change.proofs.Lowering.{settled_live}
 use Rattle.btree_change.proofs.HeldLists.{found_head}
 use Rattle.btree_change.proofs.NodeSteps.{steps_so, steps_then}
+use Rattle.btree_change.proofs.HeldParts.{is_first}
 
 -- what is found in a list has a place there
 pub inside_of : (xs : List Pair) (i : ℕ) (p : Pair) → slice_get xs i ≡ Some p → i < length xs
@@ -206,10 +207,10 @@ module _ (t : Terms) (x : Siblings) (k k1 : CallerData) (found : ℕ) (hs : Hold
           now_high = record { node = refl; mark = refl; settled = refl; spells = spells_freed hs.high.words x.right.content wide hs.right.spells ∙ ap Some (sym written.right); stored = refl }
 
           on_n : is_among (x.above.node ∷ x.left.node ∷ []) x.above.node ≡ true
-          on_n = here x.above.node (x.left.node ∷ [])
+          on_n = is_first x.above.node (x.left.node ∷ [])
 
           on_l : is_among (x.above.node ∷ x.left.node ∷ []) x.left.node ≡ true
-          on_l = later x.left.node x.above.node (x.left.node ∷ []) (here x.left.node [])
+          on_l = later x.left.node x.above.node (x.left.node ∷ []) (is_first x.left.node [])
 
           off_r : is_among (x.above.node ∷ x.left.node ∷ []) x.right.node ≡ false
           off_r = not_in x.right.node x.above.node (x.left.node ∷ []) apart.right_above (not_in x.right.node x.left.node [] (λ e. apart.left_right (sym e)) refl)

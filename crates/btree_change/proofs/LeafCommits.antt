@@ -1,8 +1,8 @@
 -- The commit of an update that changes one held leaf is lawful, where all else that is held stays.
+use Rattle.std.proofs.Math.Bool.{and-false}
 use Rattle.std.proofs.Common.{◌≡◌, ◌≢◌, ℕ, ◌≤◌, List, [], ◌∷◌, length, map, sym, refl, ap, ◌∙◌, subst, arith, Bool, true, false, ◌&&◌, ◌||◌, not, IsTrue, true≢false, Option, Some, None, IsSome, is_some, eq-eqb, ne_eqb, if◌then◌else◌, cond}
 use Rattle.std.specs.Bool.{Decides}
 use Rattle.std.specs.List.{AllByRecursion, filter}
-use native.Mathlib.Decide.{ℕ_discrete}
 use Rattle.reg_model.specs.declared.answer.Update.{Update}
 use Rattle.tree_shape.specs.Numbers.{is_among}
 use Rattle.tree_shape.specs.NodeData.{NodeData, frame_of}
@@ -17,16 +17,13 @@ use Rattle.word_rule.specs.Held.{held_of, settled_in, now_of, marked_in}
 use Rattle.word_rule.proofs.Exchanges.{spelled_decides}
 use Rattle.word_rule.specs.Exchange.{IsLawfulExchange, address_of, after_exchange, are_spelled, changed_of, exchange, exchanged_in, group_of, highest_of, is_changed, is_fresh, is_lawful, is_leaf_at, is_reached, node_of, out_after, reached_in, settle, settle_free, top_of}
 use Rattle.word_rule.proofs.Each.{all_map}
+use Rattle.tree_shape.proofs.Halves.{only}
 
 -- The laws that it rests on.
 pub record LeafLaws : Type 0 where
   pub decided : (v : Log) (update : Option Update) → Decides (is_lawful v update) (IsLawfulExchange v update (top_of v update) (is_among (group_of v update)))
   pub transfer : (top : ℕ) (group fresh : ℕ → Bool) (f : Contents) (live : ℕ → Bool) (g f' : Contents) (live' : ℕ → Bool) (g' : Contents) (update : Option Update) → IsLawfulChange f live top group fresh g update → IsSameChange top group fresh f g f' live' g' → IsLawfulChange f' live' top group fresh g' update
   pub tests : (f : Contents) (live : ℕ → Bool) (top : ℕ) (group fresh group' fresh' : ℕ → Bool) (g : Contents) (update : Option Update) → ((n : ℕ) → group n ≡ group' n) → ((n : ℕ) → fresh n ≡ fresh' n) → IsLawfulChange f live top group fresh g update → IsLawfulChange f live top group' fresh' g update
-
-pub and_false : (b : Bool) → (b && false) ≡ false
-and_false true = refl
-and_false false = refl
 
 or_true : (b : Bool) → (b || true) ≡ true
 or_true true = refl
@@ -37,13 +34,6 @@ alone_here n k e = rw (eq-eqb k n e) refl
 
 alone_else : (n k : ℕ) → k ≢ n → is_among (n ∷ []) k ≡ false
 alone_else n k far = rw (ne_eqb k n far) refl
-
-alone_is : (n k : ℕ) → is_among (n ∷ []) k ≡ true → k ≡ n
-alone_is n k e = go (ℕ_discrete k n)
-  where
-    go : Dec (k ≡ n) → k ≡ n
-    go (yes is) = is
-    go (no far) = absurd (true≢false (sym e ∙ alone_else n k far))
 
 -- a lock that an update leaves as it is: its words spell its settled content, which is no leaf
 pub record StaysAs (n : ℕ) (g : Holding) : Type 0 where
@@ -79,14 +69,14 @@ module _ (laws : LeafLaws) (v : Log) (u : Update) (h : Holding) (rest : List Hol
   fresh = is_fresh (h ∷ rest) []
 
   no_fresh : (k : ℕ) → fresh k ≡ false
-  no_fresh k = and_false (is_some (held_of k (h ∷ rest)))
+  no_fresh k = and-false (is_some (held_of k (h ∷ rest)))
 
   -- the leaf alone was changed
   changed_here : is_changed (Some u) h ≡ true
   changed_here = rw (marked, spells, is_leaf) (or_true (not (are_spelled (Some now) h.settled)))
 
   unchanged : (a : Holding) → StaysAs h.node a → is_changed (Some u) a ≡ false
-  unchanged a s = ap (λ b. is_some a.mark && b) (parts (are_spelled (spelled a.words) a.settled) (is_leaf_at (address_of u) (spelled a.words)) same_as other) ∙ and_false (is_some a.mark)
+  unchanged a s = ap (λ b. is_some a.mark && b) (parts (are_spelled (spelled a.words) a.settled) (is_leaf_at (address_of u) (spelled a.words)) same_as other) ∙ and-false (is_some a.mark)
     where
       parts : (x y : Bool) → x ≡ true → y ≡ false → (not x || y) ≡ false
       parts true y e f = f
@@ -111,7 +101,7 @@ module _ (laws : LeafLaws) (v : Log) (u : Update) (h : Holding) (rest : List Hol
   marked_here = rw (eq-eqb h.node h.node refl) marked
 
   in_group : (k : ℕ) → IsTrue (group k) → k ≡ h.node
-  in_group k e = alone_is h.node k e
+  in_group k e = only h.node k e
 
   -- what the leaf reaches is itself
   reaches_itself : (contents : Contents) → (contents h.node).level ≡ 0 → reached_nodes h.node group fresh contents ≡ h.node ∷ []
@@ -141,7 +131,7 @@ module _ (laws : LeafLaws) (v : Log) (u : Update) (h : Holding) (rest : List Hol
 
   nothing_out : out_after w h.node group ≡ []
   nothing_out =
-      ap (λ b. cond b (h.node ∷ filter (λ k. group k && not (is_reached w h.node group k)) (map node_of rest)) (filter (λ k. group k && not (is_reached w h.node group k)) (map node_of rest))) (ap (λ b. group h.node && not b) reached_here ∙ and_false (group h.node))
+      ap (λ b. cond b (h.node ∷ filter (λ k. group k && not (is_reached w h.node group k)) (map node_of rest)) (filter (λ k. group k && not (is_reached w h.node group k)) (map node_of rest))) (ap (λ b. group h.node && not b) reached_here ∙ and-false (group h.node))
       ∙ none_out (λ k. group k && not (is_reached w h.node group k)) (StaysAs h.node) (λ a s. ap (λ b. b && not (is_reached w h.node group a.node)) (alone_else h.node a.node s.far)) rest all
 
   some_spelled : (o : Option NodeData) (s : NodeData) → o ≡ Some s → IsSome o

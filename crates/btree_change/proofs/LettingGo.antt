@@ -1,4 +1,5 @@
 -- Where all that is held has settled, nothing settles.
+use Rattle.std.proofs.Math.Bool.{and-false}
 use Rattle.std.proofs.Common.{◌≡◌, [], map, sym, refl, ap, ◌∙◌, Bool, true, false, not, ◌&&◌, ◌||◌, true≢false, None, is_some, if◌then◌else◌}
 use Rattle.std.specs.List.{AllByRecursion}
 use Rattle.tree_shape.specs.Numbers.{is_among}
@@ -9,14 +10,14 @@ use Rattle.word_rule.specs.declared.log.Holding.{Holding}
 use Rattle.word_rule.specs.declared.log.Log.{Log}
 use Rattle.word_rule.proofs.Exchanges.{spelled_decides}
 use Rattle.node_store.proofs.Settled.{ExchangeLaw}
-use Rattle.btree_change.proofs.LeafCommits.{all_nothing, all_stay, and_false}
+use Rattle.btree_change.proofs.LeafCommits.{all_nothing, all_stay}
 
 -- a lock whose words spell its settled content
 abbrev pub IsSettled : Holding → Type 0
 IsSettled h = SpellsNode h.words h.settled
 
 unchanged : (h : Holding) → IsSettled h → is_changed None h ≡ false
-unchanged h s = ap (λ b. is_some h.mark && (not b || false)) ((spelled_decides (spelled h.words) h.settled).1 s) ∙ and_false (is_some h.mark)
+unchanged h s = ap (λ b. is_some h.mark && (not b || false)) ((spelled_decides (spelled h.words) h.settled).1 s) ∙ and-false (is_some h.mark)
 
 still : (h : Holding) → IsSettled h → exchange nothing_reached nothing_reached h ≡ h
 still h s = (λ i. record h { settled = go (is_some h.mark) i })

@@ -19,13 +19,14 @@ use Rattle.btree_change.specs.Releases.{HaveSettled, LetsGo, MayGo, Spends}
 use Rattle.btree_change.specs.Siblings.{ReturnsNode, HoldsGone, HoldsSiblings, HoldsUnder, IsGoneOrSettled, KeepsOut, LeavesParent, MendsSiblings, both_of}
 use Rattle.node_store.specs.declared.locking.Busy.{Busy}
 use Rattle.btree_change.specs.declared.sibling.Siblings.{Siblings}
-use Rattle.btree_change.proofs.Pairings.{IsNow, both_all, both_high, here}
+use Rattle.btree_change.proofs.Pairings.{IsNow, both_all, both_high}
 use Rattle.btree_change.proofs.Loading.{found_between, none_more}
 use Rattle.btree_change.proofs.Spending.{spends_same, steps_after, surplus_steps}
 use Rattle.btree_change.proofs.HeldLists.{found_head}
 use Rattle.btree_change.proofs.Descents.{steps_of_load}
 use Rattle.btree_change.proofs.NodeSteps.{steps_so}
 use Rattle.word_rule.specs.Places.{CALL_CREDIT}
+use Rattle.btree_change.proofs.HeldParts.{is_first}
 
 -- the only lock is let go of
 pub without_one : (n : ℕ) (h : Holding) → h.node ≡ n → without_lock n (h ∷ []) ≡ []
@@ -123,7 +124,7 @@ module _ (t : Terms) (x : Siblings) (k : CallerData) (gone : HoldsGone t x k.log
   gone_held = subst IsSome (sym (ap (held_of x.right.node) gone.held ∙ both_high gone.left_first gone.low gone.high (gone.upper ∷ []) x.right.node gone.right (λ e. gone.different (sym gone.left ∙ e)))) refl
 
   pub gone_out : IsTrue (is_among k.log.holdings.out x.right.node)
-  gone_out = subst (λ os. IsTrue (is_among os x.right.node)) (sym gone.out) (here x.right.node [])
+  gone_out = subst (λ os. IsTrue (is_among os x.right.node)) (sym gone.out) (is_first x.right.node [])
 
   pub settled_back : (k' : CallerData) → ReturnsNode x.right.node k k' → AreSettled x.above.node x.left.node (joined x.left.content x.right.content) k'.log.holdings
   settled_back k' back = record {

@@ -1,5 +1,6 @@
 -- Two neighbouring children that are held under their parent, in the tree of which they are, and what
 -- becomes of the three locks where all three nodes change.
+use Rattle.std.proofs.Math.Bool.{and-false}
 use Rattle.std.proofs.Common.{◌≡◌, ◌≢◌, ℕ, ◌+◌, ◌<◌, ◌≤◌, List, [], ◌∷◌, length, map, sym, refl, ap, ◌∙◌, subst, arith, Bool, true, false, ◌==◌, not, ◌&&◌, IsTrue, true≢false, Some, None, IsSome, is_some, eq-eqb, ne_eqb, cond}
 use Rattle.std.proofs.lemmas.Bool.{ltb-true, ltb-false}
 use Rattle.std.specs.List.{AllByRecursion, filter, slice_get}
@@ -24,10 +25,7 @@ use Rattle.btree_change.specs.Siblings.{HoldsSiblings, both_of}
 use Rattle.btree_change.specs.declared.sibling.Siblings.{Siblings}
 use Rattle.btree_change.proofs.HeldLists.{HeldOnce, found_head}
 use Rattle.btree_change.proofs.Settling.{FitsChange, IsHeldChange, SettlingLaws, left_out, settled_after, settled_group}
-
--- numbers of short lists
-pub here : (x : ℕ) (xs : List ℕ) → is_among (x ∷ xs) x ≡ true
-here x xs = let e : once (x == x) ≡ 1 = ap once (eq-eqb x x refl) in among (x ∷ xs) x (omega (arith, e))
+use Rattle.btree_change.proofs.HeldParts.{is_first}
 
 pub later : (x y : ℕ) (xs : List ℕ) → is_among xs x ≡ true → is_among (y ∷ xs) x ≡ true
 later x y xs e = let l : 0 < times x xs = ltb-true 0 (times x xs) e in among (y ∷ xs) x (omega (arith, l))
@@ -81,10 +79,6 @@ both_few false false false l r = omega arith
 
 two : (test : ℕ → Bool) (a b : ℕ) (ta tb : Bool) (l r : ℕ) → a ≡ l → b ≡ r → test a ≡ ta → test b ≡ tb → (tail : List ℕ) → filter test tail ≡ [] → filter test (a ∷ b ∷ tail) ≡ cond ta (l ∷ cond tb (r ∷ []) []) (cond tb (r ∷ []) [])
 two test a b ta tb l r ea eb at bt tail none = (λ i. cond (at i) (ea i ∷ cond (bt i) (eb i ∷ none i) (none i)) (cond (bt i) (eb i ∷ none i) (none i)))
-
-and_no : (b : Bool) → (b && false) ≡ false
-and_no true = refl
-and_no false = refl
 
 -- a lock in which a node was written
 pub record IsNow (h : Holding) (s : NodeData) (h' : Holding) : Type 0 where
@@ -150,13 +144,13 @@ module _ (t : Terms) (x : Siblings) (k : CallerData) (hs : HoldsSiblings t x k.l
   family = neighbours tree.contents tree.live tree.lawful.tree x.above.node x.slot p q parent_told.0 at_slot_is next_slot_is
 
   pub in_n : is_among (group_of x) x.above.node ≡ true
-  in_n = here x.above.node (x.left.node ∷ x.right.node ∷ [])
+  in_n = is_first x.above.node (x.left.node ∷ x.right.node ∷ [])
 
   pub in_l : is_among (group_of x) x.left.node ≡ true
-  in_l = later x.left.node x.above.node (x.left.node ∷ x.right.node ∷ []) (here x.left.node (x.right.node ∷ []))
+  in_l = later x.left.node x.above.node (x.left.node ∷ x.right.node ∷ []) (is_first x.left.node (x.right.node ∷ []))
 
   pub in_r : is_among (group_of x) x.right.node ≡ true
-  in_r = later x.right.node x.above.node (x.left.node ∷ x.right.node ∷ []) (later x.right.node x.left.node (x.right.node ∷ []) (here x.right.node []))
+  in_r = later x.right.node x.above.node (x.left.node ∷ x.right.node ∷ []) (later x.right.node x.left.node (x.right.node ∷ []) (is_first x.right.node []))
 
   pub three : AreThree x.left.node x.right.node x.above.node
   three = record {
@@ -218,7 +212,7 @@ module _ (t : Terms) (x : Siblings) (k : CallerData) (hs : HoldsSiblings t x k.l
     high_test = ap test high_node ∙ ap (λ b. b && not (is_among reached x.right.node)) in_r
 
     tail : filter test (upper.node ∷ []) ≡ []
-    tail = ap (λ b. cond b (upper.node ∷ []) []) (ap test upper_node ∙ (ap (λ b. is_among (group_of x) x.above.node && not b) on ∙ and_no (is_among (group_of x) x.above.node)))
+    tail = ap (λ b. cond b (upper.node ∷ []) []) (ap test upper_node ∙ (ap (λ b. is_among (group_of x) x.above.node && not b) on ∙ and-false (is_among (group_of x) x.above.node)))
 
     filtered : (o : Bool) → filter (λ m. is_among (group_of x) m && not (is_among reached m)) (map node_of (both_of o low high (upper ∷ []))) ≡ both_left o (not (is_among reached x.left.node)) (not (is_among reached x.right.node)) x.left.node x.right.node
     filtered true = two test low.node high.node (not (is_among reached x.left.node)) (not (is_among reached x.right.node)) x.left.node x.right.node low_node high_node low_test high_test (upper.node ∷ []) tail

@@ -1,6 +1,6 @@
 -- What held nodes settle to at a release, where they change the tree lawfully: for any exchange.
 use Rattle.std.proofs.Common.{◌≡◌, ◌≢◌, ℕ, ◌<◌, ◌≤◌, List, [], ◌∷◌, ◌++◌, length, map, sym, refl, ap, ◌∙◌, subst, Bool, true, false, not, ◌&&◌, ◌||◌, IsTrue, true≢false, Option, Some, None, IsSome, IsSomeAnd, is_some, eq-eqb, ne_eqb, inl, inr, ◌⊎◌, if◌then◌else◌, cond}
-use Rattle.std.proofs.lemmas.Bool.{ltb-true}
+use Rattle.std.proofs.lemmas.Bool.{ltb-true, cases_Bool, and_parts, or_cases}
 use Rattle.std.proofs.lemmas.Option.{same_Some}
 use Rattle.std.specs.Bool.{Decides}
 use Rattle.std.specs.List.{AllByRecursion, filter}
@@ -24,7 +24,7 @@ use Rattle.word_rule.specs.Spelling.{spelled, SpellsNode}
 use Rattle.word_rule.specs.Steps.{MayRelease, after_node_release, after_node_release_same}
 use Rattle.word_rule.proofs.Each.{some_of}
 use Rattle.word_rule.proofs.Exchanges.{filtered, mapped, spelled_decides}
-use Rattle.btree_change.proofs.HeldLists.{HeldOnce, IsBelow, and_parts, filter_none, filter_same, found_is, highest_of_is, in_filter, in_list, in_nodes, marked_is, once_found, or_parts, same_test, tested}
+use Rattle.btree_change.proofs.HeldLists.{HeldOnce, IsBelow, filter_none, filter_same, found_is, highest_of_is, in_filter, in_list, in_nodes, marked_is, once_found, same_test}
 
 -- The laws that it rests on: `exchange_decided`, and `transfer` and `widen` of tree_shape.
 pub record SettlingLaws : Type 0 where
@@ -68,7 +68,7 @@ module _ (laws : SettlingLaws) (v : Log) (f : Contents) (live : ℕ → Bool) (t
   more = is_fresh held v.holdings.out
 
   outside_fresh : (n : ℕ) → IsTrue (live n) → is_among fresh n ≡ false
-  outside_fresh n alive = go (tested (is_among fresh n))
+  outside_fresh n alive = go (cases_Bool (is_among fresh n))
     where
       go : (is_among fresh n ≡ true) ⊎ (is_among fresh n ≡ false) → is_among fresh n ≡ false
       go (inr e) = e
@@ -97,7 +97,7 @@ module _ (laws : SettlingLaws) (v : Log) (f : Contents) (live : ℕ → Bool) (t
 
   -- what was changed is the group
   in_group : (h : Holding) → In h held → is_changed None h ≡ true → is_among group h.node ≡ true
-  in_group h there changed = go (tested (is_among group h.node))
+  in_group h there changed = go (cases_Bool (is_among group h.node))
     where
       go : (is_among group h.node ≡ true) ⊎ (is_among group h.node ≡ false) → is_among group h.node ≡ true
       go (inl e) = e
@@ -110,7 +110,7 @@ module _ (laws : SettlingLaws) (v : Log) (f : Contents) (live : ℕ → Bool) (t
       let p = found_is n held m.0 m.1.0 in (m.0, (m.1.0, (m.1.1, p)))
 
   group_changed : (h : Holding) → In h held → IsSome h.mark → is_among group h.node ≡ true → is_changed None h ≡ true
-  group_changed h there marked inside = go (tested (are_spelled (spelled h.words) h.settled))
+  group_changed h there marked inside = go (cases_Bool (are_spelled (spelled h.words) h.settled))
     where
       go : (are_spelled (spelled h.words) h.settled ≡ true) ⊎ (are_spelled (spelled h.words) h.settled ≡ false) → is_changed None h ≡ true
       go (inr e) = is_changed_if h marked e
@@ -170,7 +170,7 @@ module _ (laws : SettlingLaws) (v : Log) (f : Contents) (live : ℕ → Bool) (t
     where
       go : (n ≡ top) ⊎ IsTrue (either (is_among group) (is_among fresh) n) → (is_among group n ≡ true) ⊎ (is_among fresh n ≡ true)
       go (inl e) = inl (ap (is_among group) e ∙ c.change.lawful.change.top_grouped)
-      go (inr e) = or_parts (is_among group n) (is_among fresh n) e
+      go (inr e) = or_cases (is_among group n) (is_among fresh n) e
 
   wide : IsLawfulChange f live top (is_among group) more g None
   wide = laws.widen f live top (is_among group) (is_among fresh) more g None c.lawful.tree c.change.lawful more_fresh more_dead
@@ -206,7 +206,7 @@ module _ (laws : SettlingLaws) (v : Log) (f : Contents) (live : ℕ → Bool) (t
       ap settled_shape a.1.0 ∙ (sym ((fit a.0 a.1.1.1.0).marked a.1.1.0).1 ∙ ap f a.1.1.1.1)
 
   unmarked_more : (n : ℕ) → IsTrue (more n) → marked_in held n ≡ false
-  unmarked_more n e = go (tested (marked_in held n))
+  unmarked_more n e = go (cases_Bool (marked_in held n))
     where
       go : (marked_in held n ≡ true) ⊎ (marked_in held n ≡ false) → marked_in held n ≡ false
       go (inr e) = e
@@ -235,7 +235,7 @@ module _ (laws : SettlingLaws) (v : Log) (f : Contents) (live : ℕ → Bool) (t
       ++ filter (λ n. is_among group n && not (is_among (reached_is i) n)) (map node_of held))
     where
       each_out : (n : ℕ) → In n v.holdings.out → not (more n && is_reached v top (is_among group) n) ≡ not (is_among reached n)
-      each_out n there = ap (λ xs. not (more n && is_among xs n)) reached_is ∙ go (tested (is_among reached n))
+      each_out n there = ap (λ xs. not (more n && is_among xs n)) reached_is ∙ go (cases_Bool (is_among reached n))
         where
           out_there : is_among v.holdings.out n ≡ true
           out_there = among v.holdings.out n (in_times v.holdings.out n there)
@@ -253,7 +253,7 @@ module _ (laws : SettlingLaws) (v : Log) (f : Contents) (live : ℕ → Bool) (t
               fresh_one (inr new') = more_fresh n new'
 
   spelled_in : (h : Holding) → In h held → IsTrue (is_among group h.node || is_reached v top (is_among group) h.node) → IsSome (spelled h.words)
-  spelled_in h there e = go (or_parts (is_among group h.node) (is_among reached h.node) (subst (λ xs. IsTrue (is_among group h.node || is_among xs h.node)) reached_is e))
+  spelled_in h there e = go (or_cases (is_among group h.node) (is_among reached h.node) (subst (λ xs. IsTrue (is_among group h.node || is_among xs h.node)) reached_is e))
     where
       some_spelled : (s : NodeData) → SpellsNode h.words s → IsSome (spelled h.words)
       some_spelled s is = subst IsSome (sym is) refl
@@ -389,7 +389,7 @@ stay_settled f live group reached (h ∷ held) all = (λ i. settled_still group 
 
 -- where each node of the group stays in the tree, and each that is out enters it, none is out afterwards
 pub none_out : (group reached : List ℕ) (holdings : Holdings) → AllByRecursion (λ n. IsTrue (is_among reached n)) group → AllByRecursion (λ n. IsTrue (is_among reached n)) holdings.out → left_out group reached holdings ≡ []
-none_out group reached holdings kept entered = (λ i. filter_none (λ n. not (is_among reached n)) holdings.out gone_out i ++ filter_none (λ n. is_among group n && not (is_among reached n)) (map node_of holdings.held) (λ n there. gone_group n (tested (is_among group n))) i)
+none_out group reached holdings kept entered = (λ i. filter_none (λ n. not (is_among reached n)) holdings.out gone_out i ++ filter_none (λ n. is_among group n && not (is_among reached n)) (map node_of holdings.held) (λ n there. gone_group n (cases_Bool (is_among group n))) i)
   where
     gone_out : (n : ℕ) → In n holdings.out → not (is_among reached n) ≡ false
     gone_out n there = ap not (all_at (λ k. IsTrue (is_among reached k)) holdings.out n entered there)

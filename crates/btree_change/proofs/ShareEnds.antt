@@ -1,7 +1,7 @@
 -- Even shares of two neighbours of which one is small: how much each gets, and that the fence between
 -- them is another.
-use Rattle.std.proofs.Common.{◌≡◌, ◌≢◌, ℕ, zero, suc, ◌+◌, ◌/◌, ◌<◌, ◌⊎◌, inl, inr, List, [], ◌∷◌, ◌++◌, length, length-append, length-take-le, length-drop, take, drop, sym, refl, subst, arith, Bool, true, false, ◌||◌, IsTrue}
-use Rattle.std.proofs.lemmas.Bool.{ltb-true}
+use Rattle.std.proofs.Common.{◌≡◌, ◌≢◌, ℕ, zero, suc, ◌+◌, ◌/◌, ◌<◌, ◌⊎◌, inl, inr, List, [], ◌∷◌, ◌++◌, length, length-append, length-take-le, length-drop, take, drop, sym, subst, arith, true, ◌||◌, IsTrue}
+use Rattle.std.proofs.lemmas.Bool.{ltb-true, or_cases}
 use Rattle.std.specs.Prelude.{nat_lt}
 use Rattle.reg_model.specs.declared.span.Member.{Member}
 use Rattle.tree_shape.specs.Changes.{OverfillAs, body_end, both, entries_end, first_part, last_part, pairs_end, size}
@@ -16,10 +16,6 @@ use Rattle.btree_change.specs.Siblings.{is_small_body}
 abbrev pub half_of : Body → Body → ℕ
 half_of a b = (size a + size b) / 2
 
-one_of : (a b : Bool) → (a || b) ≡ true → (a ≡ true) ⊎ (b ≡ true)
-one_of true b e = inl refl
-one_of false b e = inr e
-
 one_less : (a b least : ℕ) → (nat_lt a least ≡ true) ⊎ (nat_lt b least ≡ true) → (a < least) ⊎ (b < least)
 one_less a b least (inl e) = inl (ltb-true a least e)
 one_less a b least (inr e) = inr (ltb-true b least e)
@@ -30,11 +26,11 @@ moves la lb most least over few (inl small) = inr (omega (arith, over, few, smal
 moves la lb most least over few (inr small) = inl (omega (arith, over, few, small))
 
 pub share_moves : (a b : Body) → OverfillAs a b → IsTrue (is_small_body a || is_small_body b) → (half_of a b < size a) ⊎ (size a < half_of a b)
-share_moves (Pairs left) (Pairs right) over small = moves (length left) (length right) 15 7 over (omega arith) (one_less (length left) (length right) 7 (one_of _ _ small))
+share_moves (Pairs left) (Pairs right) over small = moves (length left) (length right) 15 7 over (omega arith) (one_less (length left) (length right) 7 (or_cases _ _ small))
 share_moves (Pairs left) (Entries right) over small = absurd over
 share_moves (Pairs left) (Link next) over small = absurd over
 share_moves (Entries left) (Pairs right) over small = absurd over
-share_moves (Entries left) (Entries right) over small = moves (length left) (length right) 10 5 over (omega arith) (one_less (length left) (length right) 5 (one_of _ _ small))
+share_moves (Entries left) (Entries right) over small = moves (length left) (length right) 10 5 over (omega arith) (one_less (length left) (length right) 5 (or_cases _ _ small))
 share_moves (Entries left) (Link next) over small = absurd over
 share_moves (Link next) b over small = absurd over
 

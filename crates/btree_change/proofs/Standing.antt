@@ -1,6 +1,6 @@
 -- Where an insertion stands after a step down: what it holds is of one tree, and the node above both
 -- leaves is known where the span ends beyond the child.
-use Rattle.std.proofs.Common.{◌≡◌, ◌≢◌, ℕ, zero, suc, ◌+◌, ◌-◌, ◌<◌, ◌≤◌, List, [], ◌∷◌, ◌++◌, length, sym, refl, ap, ◌∙◌, subst, arith, inl, inr, Bool, Option, Some, None, Contains, if◌then◌else◌}
+use Rattle.std.proofs.Common.{◌≡◌, ◌≢◌, ℕ, zero, suc, ◌+◌, ◌-◌, ◌<◌, ◌≤◌, List, [], ◌∷◌, ◌++◌, length, sym, refl, ap, ◌∙◌, subst, arith, inl, inr, Bool, Option, Some, None, if◌then◌else◌}
 use Rattle.std.proofs.lemmas.Option.{same_Some}
 use Rattle.std.proofs.lemmas.Bool.{le-leb, lt-leb}
 use Rattle.std.specs.List.{AllByRecursion, slice_get}
@@ -9,7 +9,7 @@ use Rattle.tree_shape.specs.declared.pair.Pair.{Pair}
 use Rattle.tree_shape.specs.NodeData.{NodeData, Cut, pairs_of, slot_for}
 use Rattle.tree_shape.specs.Steps.{last_child}
 use Rattle.tree_shape.specs.Trees.{Branch, branches, branches_from}
-use Rattle.tree_shape.proofs.Leads.{branch_inside}
+use Rattle.tree_shape.proofs.Leads.{branch_inside, contains_in}
 use Rattle.tree_shape.proofs.Times.{In}
 use Rattle.word_rule.specs.CallerData.{CallerData}
 use Rattle.word_rule.specs.declared.log.Holding.{Holding}
@@ -42,12 +42,6 @@ use Rattle.btree_change.proofs.Releasing.{IsLowest}
 use Rattle.btree_change.proofs.Spending.{own_same, spends_same, steps_after}
 use Rattle.btree_change.proofs.Storing.{found_at}
 use Rattle.node_store.specs.Holding.{SpellsHeld}
-
--- an item of a list stands in it
-contains_in : {A : Type 0} (xs : List A) (x : A) → Contains xs x → In x xs
-contains_in [] x c = absurd (let l = c.1 in omega (arith, l))
-contains_in (y ∷ xs) x (zero, l, e) = inl e
-contains_in (y ∷ xs) x (suc k, l, e) = inr (contains_in xs x (k, omega (arith, l), e))
 
 -- the branch for an address is that of the slot for it
 pub record IsSlotOf (pc : ℕ) (pairs : List Pair) (b : Branch) : Type 0 where

@@ -24,7 +24,7 @@ use Rattle.btree_change.specs.Siblings.{HoldsSiblings, HoldsSunk, both_of, sunk_
 use Rattle.btree_change.specs.declared.sibling.Siblings.{Siblings}
 use Rattle.btree_change.proofs.Descents.{steps_of_load}
 use Rattle.btree_change.proofs.Loading.{none_more}
-use Rattle.btree_change.proofs.Pairings.{AreThree, IsNow, both_high, both_left, both_low, family, group_of, here, in_l, in_r, later, left_told, not_in, parent_told, right_told, settles, three}
+use Rattle.btree_change.proofs.Pairings.{AreThree, IsNow, both_high, both_left, both_low, family, group_of, in_l, in_r, later, left_told, not_in, parent_told, right_told, settles, three}
 use Rattle.btree_change.proofs.Settling.{SettlingLaws, settled_gone}
 use Rattle.btree_change.proofs.Storing.{IsWrittenAs}
 use Rattle.btree_change.proofs.Written.{edit_high, edit_low, spells_freed, write_upper}
@@ -32,6 +32,7 @@ use Rattle.btree_change.proofs.Joining.{fits_no_free, may_store, never_free, wid
 use Rattle.btree_change.proofs.Raised.{spells_raised}
 use Rattle.btree_change.proofs.Lowering.{settled_live}
 use Rattle.btree_change.proofs.NodeSteps.{steps_so, steps_then}
+use Rattle.btree_change.proofs.HeldParts.{is_first}
 
 abbrev pub SinkLaw : Type 0
 SinkLaw = (f : Contents) (live : ℕ → Bool) (p q : Pair) (g : Contents) → IsLawfulTree f live → IsSink f live p q g → IsChangeOf f live 0 (0 ∷ p.child ∷ q.child ∷ []) [] g None (0 ∷ [])
@@ -56,8 +57,8 @@ two_left l r true = refl
 two_left l r false = refl
 
 pub without_two : (l r : ℕ) (o : Bool) → l ≢ r → IsTrue (is_among (both_left o true true l r) l) × IsTrue (is_among (all_but l (both_left o true true l r)) r) × (all_but r (all_but l (both_left o true true l r)) ≡ [])
-without_two l r true far = (here l (r ∷ []), subst (λ os. IsTrue (is_among os r)) (sym (but_first l r far)) (here r []), ap (all_but r) (but_first l r far) ∙ but_one r)
-without_two l r false far = (later l r (l ∷ []) (here l []), subst (λ os. IsTrue (is_among os r)) (sym (but_second r l (λ e. far (sym e)))) (here r []), ap (all_but r) (but_second r l (λ e. far (sym e))) ∙ but_one r)
+without_two l r true far = (is_first l (r ∷ []), subst (λ os. IsTrue (is_among os r)) (sym (but_first l r far)) (is_first r []), ap (all_but r) (but_first l r far) ∙ but_one r)
+without_two l r false far = (later l r (l ∷ []) (is_first l []), subst (λ os. IsTrue (is_among os r)) (sym (but_second r l (λ e. far (sym e)))) (is_first r []), ap (all_but r) (but_second r l (λ e. far (sym e))) ∙ but_one r)
 
 module _ (t : Terms) (x : Siblings) (k k1 k2 : CallerData) (seen seen' : ℕ) (hs : HoldsSiblings t x k.log.holdings) (tree : KnowsTree k.log.holdings) (holder : HolderTells x.left.node k.log) (loads : k1 ≡ record k { log = after_node_load x.left.node 2 seen k.log })
     (holder' : HolderTells x.right.node k1.log) (loads' : k2 ≡ record k1 { log = after_node_load x.right.node 2 seen' k1.log }) (root : x.above.node ≡ 0) (two : length (pairs_of x.above.content) ≡ 2) (fit : Fit x.left.content x.right.content) where
@@ -185,7 +186,7 @@ module _ (t : Terms) (x : Siblings) (k k1 k2 : CallerData) (seen seen' : ℕ) (h
           out6 = ap (λ (z : CallerData). z.log.holdings.out) stores5 ∙ (ap (λ (z : CallerData). z.log.holdings.out) stores4 ∙ (w.out ∙ out2))
 
           on_n : is_among (x.above.node ∷ []) x.above.node ≡ true
-          on_n = here x.above.node []
+          on_n = is_first x.above.node []
 
           off_l : is_among (x.above.node ∷ []) x.left.node ≡ false
           off_l = not_in x.left.node x.above.node [] apart.left_above refl

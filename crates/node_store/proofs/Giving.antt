@@ -1,4 +1,5 @@
 -- A node that is out is made free, put onto the free list, and let go.
+use Rattle.std.proofs.Math.Bool.{and-false}
 use Rattle.std.proofs.Common.{◌≡◌, ◌≢◌, ℕ, ◌+◌, ◌-◌, ◌*◌, ◌^◌, ◌<◌, ◌≤◌, ◌⊎◌, inl, inr, append-nil, append_assoc, Bool, true, false, cond, true≢false, ◌&&◌, ◌==◌, not, List, [], ◌∷◌, ◌++◌, length, map, Option, Some, None, IfSome, IsSome, IsSomeAnd, IsTrue, is_some, option_map, set, length-set, nat_eq, if◌then◌else◌, refl, ap, sym, ◌∙◌, subst, arith, ne_eqb, get_or-set_same, get_or-set_other, eq-eqb}
 use native.Mathlib.Decide.{ℕ_discrete}
 use Rattle.std.proofs.lemmas.Bool.{eqb-true, lt-ltb}
@@ -23,7 +24,6 @@ use Rattle.node_store.specs.Locking.{FoundBusy}
 use Rattle.node_store.specs.declared.locking.Busy.TheVariants as busy
 use Rattle.node_store.proofs.Rounds.{contains_more}
 use Rattle.node_store.specs.Free.{GivesFree, IsSettled, IsUnlinked, LeavesOthers, LosesNode, PushesNode, StaysOut, after_freeing, after_links, after_setting, held_word, word_of_lock}
-use Rattle.word_rule.proofs.Exchanging.{and_false}
 use Rattle.node_store.proofs.HeldWrites.{held_changed, held_edited, plain_store}
 use Rattle.node_store.proofs.Settled.{ExchangeLaw, freed_settled, settles_free, without_settled}
 
@@ -42,7 +42,7 @@ record Sets (at value : ℕ) (words words' : List ℕ) : Type 0 where
   pub others : (k : ℕ) → 1 ≤ k → k ≢ at → node_word words' k ≡ node_word words k
 
 never_frees : (n at value : ℕ) (words : List ℕ) (v : Log) → HasOut n words v.holdings → frees n at value v ≡ false
-never_frees n at value words v h = ap (λ b. (at == 1) && (value == 2) && b) (ap is_marked h.is ∙ ap is_some h.unmarked) ∙ and_false ((at == 1) && (value == 2))
+never_frees n at value words v h = ap (λ b. (at == 1) && (value == 2) && b) (ap is_marked h.is ∙ ap is_some h.unmarked) ∙ and-false ((at == 1) && (value == 2))
 
 pub out_stored : (n at value : ℕ) (words : List ℕ) (v : Log) → HasOut n words v.holdings → HasOut n (set words (at - 1) value) (after_node_store n at value v).holdings
 out_stored n at value words v h =

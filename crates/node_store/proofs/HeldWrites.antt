@@ -1,4 +1,5 @@
 -- The stores that write a held node, and what they make of its holder's log.
+use Rattle.std.proofs.Math.Bool.{and-false}
 use Rattle.std.proofs.Common.{◌≡◌, ◌≢◌, ℕ, zero, suc, ◌+◌, ◌-◌, ◌<◌, ◌≤◌, ◌⊎◌, inl, inr, ⊎_elim, rules, Bool, true, false, cond, ◌&&◌, ◌==◌, List, [], ◌∷◌, ◌++◌, map, Option, Some, None, IsSome, IsSomeAnd, IsTrue, option_map, set, nat_eq, nat_le, if◌then◌else◌, refl, ap, sym, ◌∙◌, subst, arith, ne_eqb, leb-true, leb-false}
 use Rattle.std.specs.Option.{option_to_list}
 use Rattle.std.proofs.lemmas.Option.{none-some, cond_some}
@@ -11,7 +12,6 @@ use Rattle.word_rule.specs.Exchange.{after_exchange, group_of, is_lawful, settle
 use Rattle.word_rule.specs.Held.{edited, held_of, marked_in}
 use Rattle.word_rule.specs.Spelling.{node_word}
 use Rattle.word_rule.specs.Steps.{MayStore, after_node_store, frees, store_in, stored_log}
-use Rattle.word_rule.proofs.Exchanging.{and_false}
 use Rattle.node_store.specs.declared.writing.Store.{Store}
 use Rattle.node_store.specs.Holding.{AgreeUpto, after_node_stores}
 use Rattle.node_store.specs.Sights.{after_words}
@@ -121,7 +121,7 @@ frees_nothing n s words t x v less is still = go (ℕ_discrete x.at 1)
 
     go : Dec (x.at ≡ 1) → frees n x.at x.value v ≡ false
     go (no ne) = ap (λ b. b && (x.value == 2) && marked_in v.holdings.held n) (ne_eqb x.at 1 ne)
-    go (yes e) = ap (λ b. (x.at == 1) && b && marked_in v.holdings.held n) (ne_eqb x.value 2 (other e)) ∙ ap (λ b. b && marked_in v.holdings.held n) (and_false (x.at == 1))
+    go (yes e) = ap (λ b. (x.at == 1) && b && marked_in v.holdings.held n) (ne_eqb x.value 2 (other e)) ∙ ap (λ b. b && marked_in v.holdings.held n) (and-false (x.at == 1))
 
 -- one turn more
 pub turn_stored : (n : ℕ) (s : NodeData) (words : List ℕ) (t : ℕ) (v : Log) → after_node_stores n (stores_upto s words (t + 1)) v ≡ after_node_stores n (option_to_list (store_in_turn s words t)) (after_node_stores n (stores_upto s words t) v)

@@ -1,17 +1,14 @@
 -- Contents that agree on the live nodes of a lawful tree are lawful too.
-use Rattle.std.proofs.Common.{◌≡◌, ℕ, ◌-◌, ◌<◌, List, [], ◌∷◌, Bool, true, false, IsTrue, refl, ap, sym}
+use Rattle.std.proofs.Common.{◌≡◌, ℕ, ◌-◌, ◌<◌, List, [], ◌∷◌, Bool, IsTrue, ap, sym}
 use Rattle.std.proofs.Common.{◌∙◌, subst, arith}
 use Rattle.std.specs.List.{AllByRecursion}
-use Rattle.tree_shape.specs.Numbers.{times, once}
+use Rattle.tree_shape.specs.Numbers.{times}
 use Rattle.tree_shape.specs.Trees.{Contents, Branch, branches, nodes, nodes_under}
 use Rattle.tree_shape.specs.Lawful.{IsTree, IsLawfulTree, IsFilled, IsOrdered, FitsParent}
 use Rattle.tree_shape.specs.LocalChange.{AgreeOn}
 use Rattle.tree_shape.proofs.Reach.{same_under}
 use Rattle.tree_shape.proofs.Living.{root_live, live_children}
-
-is_live : (b : Bool) → 0 < once b → IsTrue b
-is_live true h = refl
-is_live false h = absurd (omega arith)
+use Rattle.tree_shape.proofs.Times.{once_true}
 
 module _ (f g : Contents) (live : ℕ → Bool) (lawful : IsLawfulTree f live)
     (agree : AgreeOn live f g) where
@@ -19,7 +16,7 @@ module _ (f g : Contents) (live : ℕ → Bool) (lawful : IsLawfulTree f live)
   tree = lawful.tree
 
   reached_live : (x : ℕ) → 0 < times x (nodes f) → IsTrue (live x)
-  reached_live x there = is_live (live x) (subst (λ k. 0 < k) (lawful.tree.reached x) there)
+  reached_live x there = once_true (live x) (subst (λ k. 0 < k) (lawful.tree.reached x) there)
 
   root_same : g 0 ≡ f 0
   root_same = agree 0 (root_live f live lawful.tree)

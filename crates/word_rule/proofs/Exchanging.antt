@@ -1,4 +1,5 @@
 -- An exchange of settled contents keeps the tree, seen from one log, and what is said of nodes.
+use Rattle.std.proofs.lemmas.Bool.{cases_Bool, and_parts, or_cases}
 use Rattle.std.proofs.Common.{◌≡◌, ◌≢◌, ℕ, ◌+◌, ◌<◌, ◌≤◌, ◌⊎◌, List, [], ◌∷◌, map, sym, refl, ap, ◌∙◌, subst, inl, inr, ⊎_elim, arith, ◌==◌, ◌&&◌, ◌||◌, not, nat_lt, Bool, true, false, IsTrue, true≢false, Option, Some, None, IfSome, IsSome, is_some, eq-eqb, ne_eqb, if◌then◌else◌}
 use Rattle.std.proofs.lemmas.Option.{none-some}
 use Rattle.std.proofs.lemmas.List.Sums.{sum_by-cons}
@@ -26,14 +27,6 @@ use Rattle.word_rule.proofs.Facts.{part_of_total}
 use Rattle.word_rule.proofs.Each.{held_is}
 use Rattle.word_rule.proofs.NodeLoads.{ltb_true}
 
-pub and_false : (b : Bool) → (b && false) ≡ false
-and_false true = refl
-and_false false = refl
-
-pub both_true : (a b : Bool) → (a && b) ≡ true → (a ≡ true) × (b ≡ true)
-both_true true b h = (refl, h)
-both_true false b h = absurd (true≢false (sym h))
-
 not_true : (b : Bool) → not b ≡ true → b ≡ false
 not_true true h = absurd (true≢false (sym h))
 not_true false h = refl
@@ -45,18 +38,9 @@ pub or_right : (a b : Bool) → b ≡ true → (a || b) ≡ true
 or_right true b h = refl
 or_right false b h = h
 
-pub or_cases : (a b : Bool) → (a || b) ≡ true → (a ≡ true) ⊎ (b ≡ true)
-or_cases true b h = inl refl
-or_cases false b h = inr h
-
 or_false : (a b : Bool) → (a || b) ≡ false → (a ≡ false) × (b ≡ false)
 or_false true b h = absurd (true≢false h)
 or_false false b h = (refl, h)
-
--- a test and its answer
-pub tested : (b : Bool) → (b ≡ true) ⊎ (b ≡ false)
-tested true = inl refl
-tested false = inr refl
 
 among : (xs : List ℕ) (n : ℕ) → is_among xs n ≡ true → 0 < times n xs
 among xs n h = ltb_true 0 (times n xs) h
@@ -178,12 +162,12 @@ module _ (laws : ChangeLaws) (t : Terms) (words : NodeWords) (views : List Log) 
   -- a node that is out isn't live, and is out once
   pub fresh_out : (k : ℕ) → fresh k ≡ true → (shadow.live k ≡ false) × (times k v.holdings.out ≡ 1) × (times k shadow.free ≡ 0) × (total (λ z. times k z.holdings.out) views ≡ 1) × (once (nat_lt k t.nodes) ≡ 1)
   fresh_out k f =
-      let parts = both_true (is_some (held_of k v.holdings.held)) (is_among v.holdings.out k) f in
+      let parts = and_parts (is_some (held_of k v.holdings.held)) (is_among v.holdings.out k) f in
       let some_times = among v.holdings.out k parts.1 in
       let below = part_of_total (λ z. times k z.holdings.out) views id v at in
       let all = r.each_once k in
       let most = once_most (nat_lt k t.nodes) in
-      (by_live (tested (shadow.live k)) some_times below all most, omega (arith, some_times, below, all, most), omega (arith, some_times, below, all, most), omega (arith, some_times, below, all, most), omega (arith, some_times, below, all, most))
+      (by_live (cases_Bool (shadow.live k)) some_times below all most, omega (arith, some_times, below, all, most), omega (arith, some_times, below, all, most), omega (arith, some_times, below, all, most), omega (arith, some_times, below, all, most))
     where
       by_live : (shadow.live k ≡ true) ⊎ (shadow.live k ≡ false) → 0 < times k v.holdings.out → times k v.holdings.out ≤ total (λ z. times k z.holdings.out) views → once (shadow.live k) + times k shadow.free + total (λ z. times k z.holdings.out) views ≡ once (nat_lt k t.nodes) → once (nat_lt k t.nodes) ≤ 1 → shadow.live k ≡ false
       by_live (inl l) a b c d = absurd (let one : once (shadow.live k) ≡ 1 = ap once l in omega (arith, a, b, c, d, one))
@@ -191,12 +175,12 @@ module _ (laws : ChangeLaws) (t : Terms) (words : NodeWords) (views : List Log) 
 
   pub fresh_loose : (k : ℕ) → fresh k ≡ true → loose k ≡ true
   fresh_loose k f =
-      let parts = both_true (is_some (held_of k v.holdings.held)) (is_among v.holdings.out k) f in
+      let parts = and_parts (is_some (held_of k v.holdings.held)) (is_among v.holdings.out k) f in
       let free = (fresh_out k f).0 in
       rw (parts.0, unmarked k free, free) refl
     where
       unmarked : (n : ℕ) → shadow.live n ≡ false → marked_in v.holdings.held n ≡ false
-      unmarked n free = go (tested (marked_in v.holdings.held n))
+      unmarked n free = go (cases_Bool (marked_in v.holdings.held n))
         where
           go : (marked_in v.holdings.held n ≡ true) ⊎ (marked_in v.holdings.held n ≡ false) → marked_in v.holdings.held n ≡ false
           go (inl m) = absurd (true≢false (sym (marked_lock n m).1.1 ∙ free))
@@ -204,7 +188,7 @@ module _ (laws : ChangeLaws) (t : Terms) (words : NodeWords) (views : List Log) 
 
   pub loose_parts : (k : ℕ) → loose k ≡ true → (is_some (held_of k v.holdings.held) ≡ true) × (marked_in v.holdings.held k ≡ false) × (shadow.live k ≡ false)
   loose_parts k l =
-      let a = both_true (is_some (held_of k v.holdings.held)) (not (marked_in v.holdings.held k) && not (shadow.live k)) l in let b = both_true (not (marked_in v.holdings.held k)) (not (shadow.live k)) a.1 in
+      let a = and_parts (is_some (held_of k v.holdings.held)) (not (marked_in v.holdings.held k) && not (shadow.live k)) l in let b = and_parts (not (marked_in v.holdings.held k)) (not (shadow.live k)) a.1 in
       (a.0, not_true (marked_in v.holdings.held k) b.0, not_true (shadow.live k) b.1)
 
   top_group : group top ≡ true
@@ -278,7 +262,7 @@ module _ (laws : ChangeLaws) (t : Terms) (words : NodeWords) (views : List Log) 
 
   -- a node that isn't held stays as it was
   pub unheld : (k : ℕ) → held_of k v.holdings.held ≡ None → either group loose k ≡ false
-  unheld k none_held = go (tested (group k))
+  unheld k none_held = go (cases_Bool (group k))
     where
       go : (group k ≡ true) ⊎ (group k ≡ false) → either group loose k ≡ false
       go (inl g) = absurd (none-some (group_lock k g).0 (sym none_held ∙ (group_lock k g).1.0))
@@ -293,7 +277,7 @@ module _ (laws : ChangeLaws) (t : Terms) (words : NodeWords) (views : List Log) 
 
     -- what becomes live is out no more, and what is live no more is out
     pub balance : (k : ℕ) → once (live' k) + times k (out_after v top group) ≡ once (shadow.live k) + times k v.holdings.out
-    balance k = go (tested (group k)) (tested (fresh k)) (tested (is_reached v top group k)) (out_now k)
+    balance k = go (cases_Bool (group k)) (cases_Bool (fresh k)) (cases_Bool (is_reached v top group k)) (out_now k)
       where
         group_case : group k ≡ true → once (shadow.live k) ≡ 1 → times k v.holdings.out ≡ 0 → times k (map node_of v.holdings.held) ≡ 1 → (is_reached v top group k ≡ true) ⊎ (is_reached v top group k ≡ false)
             → times k (out_after v top group) ≡ (if not (fresh k && is_reached v top group k) then times k v.holdings.out else 0) + (if group k && not (is_reached v top group k) then times k (map node_of v.holdings.held) else 0)
@@ -325,10 +309,10 @@ module _ (laws : ChangeLaws) (t : Terms) (words : NodeWords) (views : List Log) 
             let was : once (shadow.live k) ≡ 0 = ap once (fresh_out k f).0 in omega (arith, l, e, was)
         go (inr g) (inr f) reach o =
             let e : times k (out_after v top group) ≡ times k v.holdings.out + 0 = o ∙ rw (f, g) refl in
-            let l : once (live' k) ≡ once (shadow.live k) = ap once (stays (tested (loose k))) in omega (arith, e, l)
+            let l : once (live' k) ≡ once (shadow.live k) = ap once (stays (cases_Bool (loose k))) in omega (arith, e, l)
           where
             stays : (loose k ≡ true) ⊎ (loose k ≡ false) → live' k ≡ shadow.live k
-            stays (inl loosely) = live_new k (or_right (group k) (loose k) loosely) ∙ (not_reached (tested (is_reached v top group k)) ∙ sym (loose_parts k loosely).2)
+            stays (inl loosely) = live_new k (or_right (group k) (loose k) loosely) ∙ (not_reached (cases_Bool (is_reached v top group k)) ∙ sym (loose_parts k loosely).2)
               where
                 not_reached : (is_reached v top group k ≡ true) ⊎ (is_reached v top group k ≡ false) → is_reached v top group k ≡ false
                 not_reached (inl reached) = absurd (true≢false (sym (reached_inside k reached) ∙ rw (g, f) refl))

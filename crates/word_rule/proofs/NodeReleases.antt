@@ -1,4 +1,5 @@
 -- A node is let go, with the version that it had or with the next one, at which what its holder changed settles: the rule is kept.
+use Rattle.std.proofs.lemmas.Bool.{cases_Bool}
 use Rattle.std.proofs.Common.{◌≡◌, ◌≢◌, ℕ, ◌+◌, ◌*◌, ◌/◌, ◌%◌, ◌<◌, ◌≤◌, ◌⊎◌, List, [], ◌∷◌, get_or, set, map, sym, refl, ap, ◌∙◌, subst, inl, inr, ⊎_elim, arith, ◌==◌, Bool, true, false, IsTrue, true≢false, Option, Some, None, IfSome, IsSome, IsSomeAnd, is_some, option_map, eq-eqb, ne_eqb, if◌then◌else◌}
 use Rattle.std.proofs.lemmas.Option.{same_Some}
 use Rattle.std.proofs.lemmas.List.Sums.{sum_by-cons}
@@ -32,7 +33,6 @@ use Rattle.word_rule.proofs.Memories.{load_version_at}
 use Rattle.word_rule.proofs.Standing.{locked_is_odd, held_by}
 use Rattle.word_rule.proofs.Frames.{Sit}
 use Rattle.word_rule.proofs.NodeLocks.{updated_here, updated_other}
-use Rattle.word_rule.proofs.Exchanging.{tested}
 use Rattle.word_rule.proofs.Exchanges.{DecidedLaw, exchange_decides, spelled_decides}
 use Rattle.word_rule.proofs.NodesFrame.{lock_over}
 use Rattle.word_rule.proofs.VersionSteps.{stepped_version}
@@ -196,7 +196,7 @@ module _ (t : Terms) (slots id : ℕ) (me : Seated) (caller : me.0.role ≡ role
         after group reached = mapped_held (exchange group reached) (λ _. refl) n me.0.holdings.held ∙ ap (option_map (exchange group reached)) found
 
         free_spells : is_lawful me.0 None ≡ false → SpellsNode hn.words (exchange nothing_reached nothing_reached hn).settled
-        free_spells not_lawful = by_mark (tested (is_some hn.mark)) (spelled hn.words) refl spells (tested (are_spelled (spelled hn.words) hn.settled))
+        free_spells not_lawful = by_mark (cases_Bool (is_some hn.mark)) (spelled hn.words) refl spells (cases_Bool (are_spelled (spelled hn.words) hn.settled))
           where
             by_mark : (is_some hn.mark ≡ true) ⊎ (is_some hn.mark ≡ false) → (o : Option NodeData) → spelled hn.words ≡ o → IsSome o → (are_spelled (spelled hn.words) hn.settled ≡ true) ⊎ (are_spelled (spelled hn.words) hn.settled ≡ false)
                 → SpellsNode hn.words (exchange nothing_reached nothing_reached hn).settled

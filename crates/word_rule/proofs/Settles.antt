@@ -1,4 +1,6 @@
 -- The settled contents of what a caller holds become what its words spell, by a lawful exchange or freely: the rule is kept, and no word changes.
+use Rattle.std.proofs.lemmas.Bool.{cases_Bool, or_cases}
+use Rattle.std.proofs.Math.Bool.{and-false}
 use Rattle.std.proofs.Common.{◌≡◌, ℕ, ◌⊎◌, List, set, sym, refl, ap, ◌∙◌, subst, inl, inr, ⊎_elim, arith, ◌&&◌, Bool, true, false, IsTrue, true≢false, Option, Some, None, IfSome, IsSome, is_some, not, Contains, ◌↔◌, if◌then◌else◌}
 use Rattle.std.proofs.lemmas.Option.{none-some}
 use mathlib.Core.Option.{some}
@@ -27,7 +29,7 @@ use Rattle.word_rule.specs.TableInvariant.{TableInvariant}
 use Rattle.word_rule.proofs.Each.{not_some, all_map, held_is}
 use Rattle.word_rule.proofs.Standing.{held_by}
 use Rattle.word_rule.proofs.Settling.{AgreementLaw, OnSettling, mapped_all, mapped_once, mapped_kept, settled_table}
-use Rattle.word_rule.proofs.Exchanging.{loose, settled', live', marked_lock, group_lock, fresh_out, fresh_loose, loose_parts, reached_inside, loose_inside, lawful_after, entries_after, live_new, live_kept, settled_new, settled_kept, unheld, balance, all_found, and_false, or_left, or_right, or_cases, tested}
+use Rattle.word_rule.proofs.Exchanging.{loose, settled', live', marked_lock, group_lock, fresh_out, fresh_loose, loose_parts, reached_inside, loose_inside, lawful_after, entries_after, live_new, live_kept, settled_new, settled_kept, unheld, balance, all_found, or_left, or_right}
 
 module _ (t : Terms) (id : ℕ) (v : Log) (caller : v.role ≡ role.Caller) (words : List ℕ) (views : List Log) (r : TableInvariant t words views) (at : get_elem? views id ≡ some v) where
   mine_of : (k : ℕ) (h : Holding) → held_of k v.holdings.held ≡ Some h → HoldsNode t (memory_of t words).nodes r.memory.shadow id h × (h.node ≡ k)
@@ -80,7 +82,7 @@ module _ (t : Terms) (id : ℕ) (v : Log) (caller : v.role ≡ role.Caller) (wor
 
     -- a loose node that isn't reached isn't live before or after; a reached one is of the group or out
     not_reached : (k : ℕ) → group k ≡ false → is_fresh v.holdings.held v.holdings.out k ≡ false → reached k ≡ false
-    not_reached k g f = go (tested (reached k))
+    not_reached k g f = go (cases_Bool (reached k))
       where
         go : (reached k ≡ true) ⊎ (reached k ≡ false) → reached k ≡ false
         go (inl yes_reached) = absurd (true≢false (sym (inside k yes_reached) ∙ rw (g, f) refl))
@@ -121,7 +123,7 @@ module _ (t : Terms) (id : ℕ) (v : Log) (caller : v.role ≡ role.Caller) (wor
 
       -- where the words spell the settled content, it stays
       stays : SpellsNode h.words h.settled → (changed h).settled ≡ h.settled
-      stays sp = go (tested (group k)) (tested (is_some h.mark))
+      stays sp = go (cases_Bool (group k)) (cases_Bool (is_some h.mark))
         where
           same_now : now_of h (spelled h.words) ≡ h.settled
           same_now = ap (now_of h) sp
@@ -136,22 +138,22 @@ module _ (t : Terms) (id : ℕ) (v : Log) (caller : v.role ≡ role.Caller) (wor
 
       -- the tree has the content that the lock has
       agrees : (changed h).settled ≡ now k
-      agrees = go (tested (group k)) (tested (is_some h.mark)) (tested (r.memory.shadow.live k))
+      agrees = go (cases_Bool (group k)) (cases_Bool (is_some h.mark)) (cases_Bool (r.memory.shadow.live k))
         where
           was : h.settled ≡ r.memory.shadow.settled k
           was = own.settled ∙ ap r.memory.shadow.settled node
 
           go : (group k ≡ true) ⊎ (group k ≡ false) → (is_some h.mark ≡ true) ⊎ (is_some h.mark ≡ false) → (r.memory.shadow.live k ≡ true) ⊎ (r.memory.shadow.live k ≡ false) → (changed h).settled ≡ now k
           go (inl g) m l = by_group g ∙ (sym now_here ∙ sym (new_content k (or_left (group k) (loosely k) g)))
-          go (inr g) (inl m) l = by_mark g m ∙ (was ∙ sym (old_content k (rw (g, mark_test ∙ m) (and_false (is_some (held_of k v.holdings.held))))))
+          go (inr g) (inl m) l = by_mark g m ∙ (was ∙ sym (old_content k (rw (g, mark_test ∙ m) (and-false (is_some (held_of k v.holdings.held))))))
           go (inr g) (inr m) (inl l) =
               let sp = own.unmarked (no_mark m) (ap r.memory.shadow.live node ∙ l) in
-              stays sp ∙ (was ∙ sym (old_content k (rw (g, mark_test ∙ m, l) (and_false (is_some (held_of k v.holdings.held))))))
+              stays sp ∙ (was ∙ sym (old_content k (rw (g, mark_test ∙ m, l) (and-false (is_some (held_of k v.holdings.held))))))
           go (inr g) (inr m) (inr l) = by_none g m ∙ (sym now_here ∙ sym (new_content k (or_right (group k) (loosely k) (let there : is_some (held_of k v.holdings.held) ≡ true = ap is_some is in rw (there, mark_test ∙ m, l) refl))))
 
       -- a node that spells something spells what it then settles to
       pub spells_now : IsSome (spelled h.words) → SpellsNode h.words (changed h).settled
-      spells_now some_content = go (spelled h.words) refl some_content (tested (group k)) (tested (is_some h.mark))
+      spells_now some_content = go (spelled h.words) refl some_content (cases_Bool (group k)) (cases_Bool (is_some h.mark))
         where
           go : (o : Option NodeData) → spelled h.words ≡ o → IsSome o → (group k ≡ true) ⊎ (group k ≡ false) → (is_some h.mark ≡ true) ⊎ (is_some h.mark ≡ false) → SpellsNode h.words (changed h).settled
           go None e some_one g m = absurd (true≢false (sym some_one))
@@ -161,7 +163,7 @@ module _ (t : Terms) (id : ℕ) (v : Log) (caller : v.role ≡ role.Caller) (wor
 
       -- where it is live, and not marked afterwards, it was live and unmarked
       kept_life : reached k ≡ false → group k ≡ false → is_some h.mark ≡ false → alive k ≡ true → r.memory.shadow.live k ≡ true
-      kept_life gone g m l = go (tested (loosely k))
+      kept_life gone g m l = go (cases_Bool (loosely k))
         where
           go : (loosely k ≡ true) ⊎ (loosely k ≡ false) → r.memory.shadow.live k ≡ true
           go (inl e) = absurd (true≢false (sym l ∙ (new_life k (or_right (group k) (loosely k) e) ∙ gone)))
@@ -177,12 +179,12 @@ module _ (t : Terms) (id : ℕ) (v : Log) (caller : v.role ≡ role.Caller) (wor
         settled = agrees ∙ ap now (sym node);
         stored = own.stored;
         clean = λ c. let sp = own.clean c in sp ∙ ap Some (sym (stays sp));
-        marked = mark_of_it (tested (reached k)) (tested (group k));
-        unmarked = λ e l. no_mark_of_it (tested (reached k)) (tested (group k)) (tested (is_some h.mark)) e (sym (ap alive node) ∙ l);
+        marked = mark_of_it (cases_Bool (reached k)) (cases_Bool (group k));
+        unmarked = λ e l. no_mark_of_it (cases_Bool (reached k)) (cases_Bool (group k)) (cases_Bool (is_some h.mark)) e (sym (ap alive node) ∙ l);
       }
         where
           frame_case : (reached k ≡ true) → (changed h).settled ≡ now_of h (spelled h.words)
-          frame_case re = ⊎_elim (λ (g : group k ≡ true). by_group g) (λ (f : is_fresh v.holdings.held v.holdings.out k ≡ true). by_test (tested (group k)) (fresh_unmarked f)) (or_cases (group k) (is_fresh v.holdings.held v.holdings.out k) (inside k re))
+          frame_case re = ⊎_elim (λ (g : group k ≡ true). by_group g) (λ (f : is_fresh v.holdings.held v.holdings.out k ≡ true). by_test (cases_Bool (group k)) (fresh_unmarked f)) (or_cases (group k) (is_fresh v.holdings.held v.holdings.out k) (inside k re))
             where
               by_test : (group k ≡ true) ⊎ (group k ≡ false) → is_some h.mark ≡ false → (changed h).settled ≡ now_of h (spelled h.words)
               by_test (inl g) m = by_group g
@@ -201,7 +203,7 @@ module _ (t : Terms) (id : ℕ) (v : Log) (caller : v.role ≡ role.Caller) (wor
           old_mark g None e told = tt
           old_mark g (Some f) e told =
               let m : is_some h.mark ≡ true = ap is_some e in
-              let keeps_life : alive k ≡ r.memory.shadow.live k = old_life k (rw (g, mark_test ∙ m) (and_false (is_some (held_of k v.holdings.held)))) in
+              let keeps_life : alive k ≡ r.memory.shadow.live k = old_life k (rw (g, mark_test ∙ m) (and-false (is_some (held_of k v.holdings.held)))) in
               (ap alive node ∙ (keeps_life ∙ live_marked m), subst (λ c. IsPlaced c f) (sym (by_mark g m)) told.1)
 
           mark_of_it : (reached k ≡ true) ⊎ (reached k ≡ false) → (group k ≡ true) ⊎ (group k ≡ false) → IfSome (changed h).mark (λ f. IsTrue (alive h.node) × IsPlaced (changed h).settled f)
@@ -226,7 +228,7 @@ module _ (t : Terms) (id : ℕ) (v : Log) (caller : v.role ≡ role.Caller) (wor
       clean_content = let l = my_lock k h is in sym (agrees k h is) ∙ (stays k h is (l.0.clean clean) ∙ (l.0.settled ∙ ap r.memory.shadow.settled l.1))
 
       clean_life : alive k ≡ r.memory.shadow.live k
-      clean_life = go (tested (group k)) (tested (is_fresh v.holdings.held v.holdings.out k)) (tested (reached k)) (tested (loosely k))
+      clean_life = go (cases_Bool (group k)) (cases_Bool (is_fresh v.holdings.held v.holdings.out k)) (cases_Bool (reached k)) (cases_Bool (loosely k))
         where
           go : (group k ≡ true) ⊎ (group k ≡ false) → (is_fresh v.holdings.held v.holdings.out k ≡ true) ⊎ (is_fresh v.holdings.held v.holdings.out k ≡ false) → (reached k ≡ true) ⊎ (reached k ≡ false) → (loosely k ≡ true) ⊎ (loosely k ≡ false) → alive k ≡ r.memory.shadow.live k
           go (inl g) f (inl re) l = new_life k (or_left (group k) (loosely k) g) ∙ (re ∙ sym (group_lock laws t (memory_of t words).nodes views r.memory.history r.memory.shadow r.memory.nodes id v at update top group ex k g).1.1)
@@ -292,10 +294,10 @@ module _ (t : Terms) (id : ℕ) (v : Log) (caller : v.role ≡ role.Caller) (wor
       was_settled = mine_k.0.settled ∙ ap r.memory.shadow.settled mine_k.1
 
       freed_is : (freed h).settled ≡ free_now k
-      freed_is = ⊎_elim (λ (m : is_some h.mark ≡ true). freed_marked m ∙ (was_settled ∙ sym (now_marked m))) (λ (m : is_some h.mark ≡ false). freed_free m ∙ sym (now_free m)) (tested (is_some h.mark))
+      freed_is = ⊎_elim (λ (m : is_some h.mark ≡ true). freed_marked m ∙ (was_settled ∙ sym (now_marked m))) (λ (m : is_some h.mark ≡ false). freed_free m ∙ sym (now_free m)) (cases_Bool (is_some h.mark))
 
       freed_stays : SpellsNode h.words h.settled → (freed h).settled ≡ h.settled
-      freed_stays sp = ⊎_elim (λ (m : is_some h.mark ≡ true). freed_marked m) (λ (m : is_some h.mark ≡ false). freed_free m ∙ ap (now_of h) sp) (tested (is_some h.mark))
+      freed_stays sp = ⊎_elim (λ (m : is_some h.mark ≡ true). freed_marked m) (λ (m : is_some h.mark ≡ false). freed_free m ∙ ap (now_of h) sp) (cases_Bool (is_some h.mark))
 
       now_stays : SpellsNode h.words h.settled → free_now k ≡ r.memory.shadow.settled k
       now_stays sp = sym freed_is ∙ (freed_stays sp ∙ was_settled)
@@ -330,7 +332,7 @@ module _ (t : Terms) (id : ℕ) (v : Log) (caller : v.role ≡ role.Caller) (wor
         go : (o : Option Holding) → held_of k v.holdings.held ≡ o → free_now k ≡ r.memory.shadow.settled k
         go None e = free_unheld k e
         go (Some h) e = ⊎_elim (λ (m : is_some h.mark ≡ true). now_marked k h e m)
-            (λ (m : is_some h.mark ≡ false). now_stays k h e ((mine_of k h e).0.unmarked (unmarked_none k h e m) (ap r.memory.shadow.live (mine_of k h e).1 ∙ alive))) (tested (is_some h.mark))
+            (λ (m : is_some h.mark ≡ false). now_stays k h e ((mine_of k h e).0.unmarked (unmarked_none k h e m) (ap r.memory.shadow.live (mine_of k h e).1 ∙ alive))) (cases_Bool (is_some h.mark))
 
     pub freely : TableInvariant t words (set views id (settle_free v))
     freely = settled_table t id v caller words views r at free_now r.memory.shadow.live free_holdings (record {
