@@ -4,7 +4,7 @@ use Rattle.std.proofs.lemmas.Bool.{leb-true, leb-false}
 use Rattle.std.specs.List.{AllByRecursion}
 use native.Mathlib.Decide.{ℕ_discrete}
 use Rattle.tree_shape.specs.declared.pair.Pair.{Pair}
-use Rattle.tree_shape.specs.declared.node.Frame.{Frame}
+use Rattle.tree_shape.specs.declared.node.NodeBounds.{NodeBounds}
 use Rattle.tree_shape.specs.Decisions.{is_entries}
 use Rattle.tree_shape.specs.NodeData.{NodeData, Body, Pairs, Entries, Link, InOrder, InOrderAs, IsInner, pairs_of, pairs_in, slot_for}
 use Rattle.tree_shape.specs.Lawful.{IsFilledAs, IsOrderedAs}
@@ -68,7 +68,7 @@ is_inner s = go s.body refl
     go (Link next) e ordered above = absurd ordered
 
 -- a child that is there is found, and all that are found have its place
-pub found_child : (c : ℕ) (places : ℕ → Frame) (bs : List Branch) (b : Branch) → AllByRecursion (λ x. places x.child ≡ x.frame) bs → Contains bs b → b.child ≡ c → place_in c bs ≡ Some (places c)
+pub found_child : (c : ℕ) (places : ℕ → NodeBounds) (bs : List Branch) (b : Branch) → AllByRecursion (λ x. places x.child ≡ x.frame) bs → Contains bs b → b.child ≡ c → place_in c bs ≡ Some (places c)
 found_child c places [] b all there is = absurd (let l = there.1 in omega (arith, l))
 found_child c places (x ∷ bs) b all there is = go (ℕ_discrete x.child c) there (λ later. found_child c places bs b all.1 later is)
   where
@@ -77,13 +77,13 @@ found_child c places (x ∷ bs) b all there is = go (ℕ_discrete x.child c) the
     go (no ne) (zero, l, e) rest = absurd (ne (ap (λ (z : Branch). z.child) e ∙ is))
     go (no ne) (suc k, l, e) rest = rw (ne_eqb x.child c ne) (rest (k, omega (arith, l), e))
 
-pub weaken : (t : Terms) (places : ℕ → Frame) (bs : List Branch) → AllByRecursion (λ b. (b.child < t.nodes) × (b.child ≢ 0) × (places b.child ≡ b.frame)) bs → AllByRecursion (λ x. places x.child ≡ x.frame) bs
+pub weaken : (t : Terms) (places : ℕ → NodeBounds) (bs : List Branch) → AllByRecursion (λ b. (b.child < t.nodes) × (b.child ≢ 0) × (places b.child ≡ b.frame)) bs → AllByRecursion (λ x. places x.child ≡ x.frame) bs
 weaken t places [] all = tt
 weaken t places (b ∷ bs) all = (all.0.2, weaken t places bs all.1)
 
 -- what a child is, seen from a live node
 pub record IsChildOf (t : Terms) (n : ℕ) (s : NodeData) (pc c : ℕ) : Type 0 where
-  pub frame : Frame
+  pub frame : NodeBounds
   pub placed : place_in c (branches (s.level - 1) s) ≡ Some frame
   pub low : frame.low ≤ pc
   pub high : pc ≤ frame.high
@@ -97,7 +97,7 @@ level_of level low [] b c = absurd (let l = c.1 in omega (arith, l))
 level_of level low (p ∷ pairs) b (zero, l, e) = ap (λ (z : Branch). z.frame.level) (sym e)
 level_of level low (p ∷ pairs) b (suc k, l, e) = level_of level (p.separator + 1) pairs b (k, omega (arith, l), e)
 
-pub child_of : (t : Terms) (n : ℕ) (s : NodeData) (f : Frame) (pc c : ℕ) → IsLiveNode t n s f → 0 < s.level → HasChildFor s pc c → IsChildOf t n s pc c
+pub child_of : (t : Terms) (n : ℕ) (s : NodeData) (f : NodeBounds) (pc c : ℕ) → IsLiveNode t n s f → 0 < s.level → HasChildFor s pc c → IsChildOf t n s pc c
 child_of t n s f pc c live above (b, (there, is, low, high)) =
     let told = all_with (λ x. (x.child < t.nodes) × (x.child ≢ 0) × (live.places x.child ≡ x.frame)) (branches (s.level - 1) s) b live.children there in
     let frame : live.places c ≡ b.frame = ap live.places (sym is) ∙ told.2 in
@@ -109,7 +109,7 @@ child_of t n s f pc c live above (b, (there, is, low, high)) =
       level = level;
       within = subst (λ k. k < t.nodes) is told.0;
       never_root = λ e. told.1 (is ∙ e);
-      never_parent = λ e. (let same : s.level ≡ b.frame.level = ap (λ (z : Frame). z.level) (sym live.own ∙ (ap live.places (sym e) ∙ frame)) in omega (arith, same, level, above));
+      never_parent = λ e. (let same : s.level ≡ b.frame.level = ap (λ (z : NodeBounds). z.level) (sym live.own ∙ (ap live.places (sym e) ∙ frame)) in omega (arith, same, level, above));
     }
 
 pub steps_equal : (k l m : CallerData) → m ≡ l → StepsOnNodes k l → StepsOnNodes k m

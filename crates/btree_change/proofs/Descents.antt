@@ -2,7 +2,7 @@
 use Rattle.std.proofs.Common.{◌≡◌, ℕ, ◌<◌, [], ◌∷◌, sym, refl, ap, ◌∙◌, subst, Some, false, ◌++◌, append-nil, IsTrue, IsSome, IsSomeAnd}
 use Rattle.tree_shape.specs.NodeData.{NodeData}
 use Rattle.word_rule.specs.CallerData.{CallerData}
-use Rattle.tree_shape.specs.declared.node.Frame.{Frame}
+use Rattle.tree_shape.specs.declared.node.NodeBounds.{NodeBounds}
 use Rattle.word_rule.specs.declared.log.Holding.{Holding}
 use Rattle.word_rule.specs.NodeTells.{IsLiveNode, KnowsTree}
 use Rattle.word_rule.specs.Sights.{after_node_load, after_node_version, receipts_after_version, sight_of}
@@ -28,7 +28,7 @@ at_the_root t shape k k1 k2 k3 found some_nodes terms nothing locks tree loads s
   where
     go : Locks (lock.Node 0) k k1 → HoldsRoot t (record { node = 0; content = shape; changed = false }) k3.log.holdings
     go (more, marks, nodes, version, settled, words, (tries, taken, is)) =
-        let place : Frame = record { level = settled.level; low = settled.low; high = settled.high } in
+        let place : NodeBounds = record { level = settled.level; low = settled.low; high = settled.high } in
         let new : Holding = record { node = 0; version = version; settled = settled; words = words; stored = false; mark = Some place } in
         let held : k1.log.holdings.held ≡ new ∷ [] = ap (λ (z : CallerData). z.log.holdings.held) is ∙ ap (λ hs. new ∷ hs) nothing.0 in
         let kept : k2.log.holdings ≡ k1.log.holdings = ap (λ (z : CallerData). z.log.holdings) loads in

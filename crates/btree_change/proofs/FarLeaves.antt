@@ -9,7 +9,7 @@ use Rattle.reg_model.specs.declared.span.Member.{Member}
 use Rattle.tree_shape.specs.Changes.{ends_at_as, ends_at_fence}
 use Rattle.tree_shape.specs.NodeData.{NodeData, Body, Pairs, Entries, Link, IsInFences, IsLeaf, entries_in, entries_of}
 use Rattle.tree_shape.specs.Steps.{LiesAbove}
-use Rattle.tree_shape.specs.declared.node.Frame.{Frame}
+use Rattle.tree_shape.specs.declared.node.NodeBounds.{NodeBounds}
 use Rattle.word_rule.specs.CallerData.{CallerData, WordsData, surplus}
 use Rattle.word_rule.specs.Held.{held_of}
 use Rattle.word_rule.specs.NodeTells.{IsLiveNode}
@@ -54,7 +54,7 @@ use Rattle.btree_change.proofs.HeldOutlines.{alone_spells}
 use Rattle.btree_change.specs.Removing.{HoldsAlone}
 
 -- No member overlaps in two leaves, and there was no room.
-module _ (t : Terms) (n : ℕ) (s : NodeData) (r : ℕ) (u : NodeData) (m : Member) (k : CallerData) (pair : HoldsLeafPair n s r u k.log.holdings) (live : (place : Frame) × IsLiveNode t r u place) (here : IsInFences m.span.first s) (high : m.span.last < u.high) (free : IsFree m.span (entries_of s)) (free_right : IsFree m.span (entries_of u)) (cause : HadNoRoom m.span.first (length k.log.receipts.own) k.log.trace.loads) where
+module _ (t : Terms) (n : ℕ) (s : NodeData) (r : ℕ) (u : NodeData) (m : Member) (k : CallerData) (pair : HoldsLeafPair n s r u k.log.holdings) (live : (place : NodeBounds) × IsLiveNode t r u place) (here : IsInFences m.span.first s) (high : m.span.last < u.high) (free : IsFree m.span (entries_of s)) (free_right : IsFree m.span (entries_of u)) (cause : HadNoRoom m.span.first (length k.log.receipts.own) k.log.trace.loads) where
   pub shows_full_next : ShowsFull m k.log
   shows_full_next = record {
     leaves = n ∷ r ∷ [];
@@ -375,7 +375,7 @@ module _ (t : Terms) (m : Member) (far : Far) (k : CallerData) (stands : StandsF
   way_here = (here_way, at.here.node, at.here.settled)
 
   -- and the next leaf was locked
-  pub at_next_so : (right : Held) (k1 : CallerData) (next : HoldsNext t far.beyond.node far.beyond.slot k1.log.holdings) → next.base ≡ k.log.holdings → next.right.node ≡ right.node → next.right.settled ≡ right.content → HoldsLeafPair far.leaf.node far.leaf.content right.node right.content k1.log.holdings → (place : Frame) × IsLiveNode t right.node right.content place
+  pub at_next_so : (right : Held) (k1 : CallerData) (next : HoldsNext t far.beyond.node far.beyond.slot k1.log.holdings) → next.base ≡ k.log.holdings → next.right.node ≡ right.node → next.right.settled ≡ right.content → HoldsLeafPair far.leaf.node far.leaf.content right.node right.content k1.log.holdings → (place : NodeBounds) × IsLiveNode t right.node right.content place
       → StepsOnNodes k k1 → IsFree m.span (entries_of far.leaf.content) → IsAtNext t m (record { far = far; right = right }) k1.log
   at_next_so right k1 next is node content pair place same free = record {
     holds = record { next = next; leaf = under.0; kept = under.1; alone = subst (λ hs. (w : HoldsWay t far.beyond.node far.beyond.slot hs) → w.rest ≡ []) (sym is) alone_way next.way };

@@ -1,7 +1,7 @@
 -- Both spines beside a fence, as the held locks and as the tree have them.
 use Rattle.std.proofs.Common.{◌≡◌, ◌≢◌, ℕ, zero, suc, ◌+◌, ◌-◌, ◌<◌, ◌≤◌, List, [], ◌∷◌, ◌++◌, length, append_assoc, refl, ap, sym, ◌∙◌, subst, arith, Bool, true, false, Option, Some, None, IfSome, IsSome, inl, inr, ◌⊎◌, true≢false}
 use Rattle.std.specs.List.{AllByRecursion}
-use Rattle.tree_shape.specs.declared.node.Frame.{Frame}
+use Rattle.tree_shape.specs.declared.node.NodeBounds.{NodeBounds}
 use Rattle.tree_shape.specs.declared.pair.Pair.{Pair}
 use Rattle.tree_shape.specs.Decisions.{is_entries}
 use Rattle.tree_shape.specs.Lawful.{IsFilledAs, IsLawfulTree, IsOrderedAs}
@@ -135,7 +135,7 @@ module _ (f : Contents) (live : ℕ → Bool) (lawful : IsLawfulTree f live) whe
   child_inside : (t : Terms) (h : Holding) (b : Branch) → IsLiveLock t h → In b (branches (h.settled.level - 1) h.settled) → b.child < t.nodes
   child_inside t h b is there = go h.mark is.marked is.live
     where
-      go : (o : Option Frame) → IsSome o → IfSome o (IsLiveNode t h.node h.settled) → b.child < t.nodes
+      go : (o : Option NodeBounds) → IsSome o → IfSome o (IsLiveNode t h.node h.settled) → b.child < t.nodes
       go None some_mark live' = absurd (true≢false (sym some_mark))
       go (Some m) some_mark live' = (all_at (λ (z : Branch). (z.child < t.nodes) × (z.child ≢ 0) × (live'.places z.child ≡ z.frame)) (branches (h.settled.level - 1) h.settled) b live'.children there).0
 

@@ -3,7 +3,7 @@ use Rattle.std.proofs.Common.{◌≡◌, ◌≢◌, ℕ, ◌+◌, ◌-◌, ◌<�
 use Rattle.std.specs.List.{AllByRecursion}
 use Rattle.reg_model.specs.declared.span.Member.{Member}
 use Rattle.tree_shape.specs.NodeData.{NodeData, IsInFences, frame_of}
-use Rattle.tree_shape.specs.declared.node.Frame.{Frame}
+use Rattle.tree_shape.specs.declared.node.NodeBounds.{NodeBounds}
 use Rattle.word_rule.specs.CallerData.{CallerData}
 use Rattle.word_rule.specs.Spelling.{SpellsNode}
 use Rattle.word_rule.specs.declared.log.Holding.{Holding}
@@ -49,12 +49,12 @@ beyond_same t b a c above node level is = record {
     go (h ∷ spine) climb = ((node ∙ climb.0.0, climb.0.1 ∙ ap (λ l. l + 1) (sym level)), climb.1)
 
 pub reaches_same : (t : Terms) (last : ℕ) (s u : NodeData) (o : Option Beyond) (a c : Holding) (above : List Holding) → c.node ≡ a.node → c.settled.level ≡ a.settled.level → frame_of u ≡ frame_of s → Reaches t last s o a above → Reaches t last u o c above
-reaches_same t last s u None a c above node level frame r = ((let e = ap (λ (f : Frame). f.high) frame in let l = r.0 in omega (arith, e, l)), r.1)
-reaches_same t last s u (Some b) a c above node level frame r = ((let e = ap (λ (f : Frame). f.high) frame in let l = r.0 in omega (arith, e, l)), beyond_same t b a c above node level r.1)
+reaches_same t last s u None a c above node level frame r = ((let e = ap (λ (f : NodeBounds). f.high) frame in let l = r.0 in omega (arith, e, l)), r.1)
+reaches_same t last s u (Some b) a c above node level frame r = ((let e = ap (λ (f : NodeBounds). f.high) frame in let l = r.0 in omega (arith, e, l)), beyond_same t b a c above node level r.1)
 
 -- what has the same frame has the same addresses
 pub split_here : (pc : ℕ) (s after : NodeData) → frame_of after ≡ frame_of s → IsInFences pc s → IsInFences pc after
-split_here pc s after frame (low, high) = let l = ap (λ (f : Frame). f.low) frame in let h = ap (λ (f : Frame). f.high) frame in (omega (arith, l, low), omega (arith, h, high))
+split_here pc s after frame (low, high) = let l = ap (λ (f : NodeBounds). f.low) frame in let h = ap (λ (f : NodeBounds). f.high) frame in (omega (arith, l, low), omega (arith, h, high))
 
 module _ (t : Terms) (m : Member) (stand : Stand) (k : CallerData) (stands : StandsOnWay t m stand k.log) where
   abbrev above : List Holding
@@ -81,7 +81,7 @@ module _ (t : Terms) (m : Member) (stand : Stand) (k : CallerData) (stands : Sta
     pub split_reaches : (after : Step) (k2 : CallerData) → (s : HasSplit t m.span.first step after k1 k2) → (p : HoldsPair t m.span.first after.parent after.child (drop 2 k2.log.holdings.held) k2.log.holdings) × Reaches t m.span.last after.parent.content stand.beyond p.upper (drop 2 k2.log.holdings.held)
     split_reaches after k2 s =
         let rest : drop 2 k2.log.holdings.held ≡ drop 2 k1.log.holdings.held = ap (drop 2) s.pair.held in
-        let level : s.pair.upper.settled.level ≡ stands.at.lock.settled.level = ap (λ (z : NodeData). z.level) s.pair.parent_is.settled ∙ (ap (λ (f : Frame). f.level) s.frame ∙ ap (λ (z : NodeData). z.level) (sym stands.at.here.settled)) in
+        let level : s.pair.upper.settled.level ≡ stands.at.lock.settled.level = ap (λ (z : NodeData). z.level) s.pair.parent_is.settled ∙ (ap (λ (f : NodeBounds). f.level) s.frame ∙ ap (λ (z : NodeData). z.level) (sym stands.at.here.settled)) in
         let reach = reaches_same t m.span.last stand.at.content after.parent.content stand.beyond stands.at.lock s.pair.upper stands.at.above (s.pair.parent_is.node ∙ (s.node ∙ sym stands.at.here.node)) level s.frame stands.reach in
         subst (λ hs. (p : HoldsPair t m.span.first after.parent after.child hs k2.log.holdings) × Reaches t m.span.last after.parent.content stand.beyond p.upper hs) (sym rest)
         (s.pair, subst (λ hs. Reaches t m.span.last after.parent.content stand.beyond s.pair.upper hs) (sym (rest_is ∙ above_is)) reach)

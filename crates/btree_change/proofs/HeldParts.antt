@@ -1,7 +1,7 @@
 -- Single locks among those that are held: dropped, told apart, and at their places in the tree.
 use Rattle.std.proofs.Common.{◌≡◌, ◌≢◌, ℕ, ◌≤◌, List, [], ◌∷◌, ◌++◌, sym, refl, ap, ◌∙◌, subst, arith, Bool, true, false, ◌==◌, not, IsTrue, true≢false, Option, Some, None, IfSome, IsSome, is_some, eq-eqb, ne_eqb, cond}
 use Rattle.std.specs.List.{AllByRecursion}
-use Rattle.tree_shape.specs.declared.node.Frame.{Frame}
+use Rattle.tree_shape.specs.declared.node.NodeBounds.{NodeBounds}
 use Rattle.tree_shape.specs.NodeData.{NodeData}
 use Rattle.tree_shape.specs.Numbers.{is_among, once, times}
 use Rattle.tree_shape.specs.Trees.{Contents}
@@ -54,7 +54,7 @@ IsTold f live a = IsSome a.mark → IsTrue (live a.node) × (f a.node ≡ a.sett
 pub told_unmarked : (f : Contents) (live : ℕ → Bool) (a : Holding) → IsTold f live a → live a.node ≡ false → a.mark ≡ None
 told_unmarked f live a told dead = go a.mark refl
   where
-    go : (o : Option Frame) → a.mark ≡ o → a.mark ≡ None
+    go : (o : Option NodeBounds) → a.mark ≡ o → a.mark ≡ None
     go None e = e
     go (Some place) e = absurd (true≢false (sym (told (ap is_some e)).0 ∙ dead))
 
@@ -88,10 +88,10 @@ higher_stay t f live group reached level (a ∷ held) higher told outside =
     (record { mark = higher.0.marked; spells = higher.0.spells; lives = is.0; content = is.1; outside = outside.0.0; off = outside.0.1 }, higher_stay t f live group reached a.settled.level held higher.2 told.1 outside.1)
 
 -- the place of a lock's node, and what a load of a word tells of it
-pub place_of_lock : (t : Terms) (n : ℕ) (s : NodeData) (changed : Bool) (h : Holding) → IsSettledLock t n s changed h → (f : Frame) × IsLiveNode t n s f
+pub place_of_lock : (t : Terms) (n : ℕ) (s : NodeData) (changed : Bool) (h : Holding) → IsSettledLock t n s changed h → (f : NodeBounds) × IsLiveNode t n s f
 place_of_lock t n s changed h l = go h.mark l.marked l.live
   where
-    go : (o : Option Frame) → IsSome o → IfSome o (IsLiveNode t n s) → (f : Frame) × IsLiveNode t n s f
+    go : (o : Option NodeBounds) → IsSome o → IfSome o (IsLiveNode t n s) → (f : NodeBounds) × IsLiveNode t n s f
     go None is live = absurd (true≢false (sym is))
     go (Some f) is live = (f, live)
 

@@ -2,7 +2,7 @@
 use Rattle.std.proofs.Common.{◌≡◌, ◌≢◌, ℕ, zero, suc, ◌+◌, ◌-◌, ◌<◌, ◌≤◌, List, [], ◌∷◌, length, refl, ap, sym, ◌∙◌, subst, arith, Bool, IsTrue, Option, Some, None, IsSome, inl, inr, ◌⊎◌, eq-eqb, ne_eqb}
 use Rattle.std.specs.List.{AllByRecursion, slice_get}
 use native.Mathlib.Decide.{ℕ_discrete}
-use Rattle.tree_shape.specs.declared.node.Frame.{Frame}
+use Rattle.tree_shape.specs.declared.node.NodeBounds.{NodeBounds}
 use Rattle.tree_shape.specs.declared.pair.Pair.{Pair}
 use Rattle.tree_shape.specs.Lawful.{FitsParent, IsFilledAs, IsLawfulTree, IsOrderedAs}
 use Rattle.tree_shape.specs.NodeData.{NodeData, Body, Pairs, Entries, Link, Cut, frame_of, pairs_of, pairs_in}
@@ -167,7 +167,7 @@ module _ (f : Contents) (live : ℕ → Bool) (lawful : IsLawfulTree f live) whe
   placed_in_tree c h b (a ∷ held) on there names is =
       go a.mark refl on.0.marked (find_child c (branches (a.settled.level - 1) a.settled) (λ x at. (child a x on.0 at).fits)) there (λ later. placed_in_tree c h b held on.1 later names is)
     where
-      go : (o : Option Frame) → a.mark ≡ o → IsSome o → ((place_in c (branches (a.settled.level - 1) a.settled) ≡ None) × ((x : Branch) → In x (branches (a.settled.level - 1) a.settled) → x.child ≢ c)) ⊎ (place_in c (branches (a.settled.level - 1) a.settled) ≡ Some (frame_of (f c)))
+      go : (o : Option NodeBounds) → a.mark ≡ o → IsSome o → ((place_in c (branches (a.settled.level - 1) a.settled) ≡ None) × ((x : Branch) → In x (branches (a.settled.level - 1) a.settled) → x.child ≢ c)) ⊎ (place_in c (branches (a.settled.level - 1) a.settled) ≡ Some (frame_of (f c)))
           → (a ≡ h) ⊎ In h held → (In h held → place_by_held c held ≡ Some (frame_of (f c))) → place_by_held c (a ∷ held) ≡ Some (frame_of (f c))
       go None e some_mark found there later = absurd (cc)
       go (Some m) e some_mark (inr found) there later =

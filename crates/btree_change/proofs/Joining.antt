@@ -9,13 +9,13 @@ use Rattle.tree_shape.specs.NodeData.{NodeData, Body, Pairs, Entries, Link, fram
 use Rattle.tree_shape.specs.Numbers.{is_among}
 use Rattle.tree_shape.specs.Steps.{IsJoin}
 use Rattle.tree_shape.specs.Trees.{Contents}
-use Rattle.tree_shape.specs.declared.node.Frame.{Frame}
+use Rattle.tree_shape.specs.declared.node.NodeBounds.{NodeBounds}
 use Rattle.tree_shape.specs.declared.pair.Pair.{Pair}
 use Rattle.tree_shape.proofs.Halves.{fewest_below}
 use Rattle.word_rule.specs.CallerData.{CallerData}
 use Rattle.word_rule.specs.Exchange.{exchange, settle}
 use Rattle.word_rule.specs.Held.{edited, held_of, is_marked}
-use Rattle.word_rule.specs.Memory.{updated}
+use Rattle.word_rule.specs.SharedWords.{updated}
 use Rattle.word_rule.specs.NodeTells.{HolderTells, IsHeldNode, IsLiveNode, KnowsTree}
 use Rattle.word_rule.specs.Sights.{after_node_load}
 use Rattle.word_rule.specs.Steps.{MayStore, after_node_store, store_in, stored_log}
@@ -73,7 +73,7 @@ spare_of zero s spare = tt
 spare_of (suc n) s spare = spare
 
 -- a node of a tree is no free one
-pub never_free : (t : Terms) (n : ℕ) (s : NodeData) (f : Frame) (next : ℕ) → IsLiveNode t n s f → s.body ≢ Link next
+pub never_free : (t : Terms) (n : ℕ) (s : NodeData) (f : NodeBounds) (next : ℕ) → IsLiveNode t n s f → s.body ≢ Link next
 never_free t n s f next live e = subst (IsOrderedAs s) e live.ordered
 
 pub wide_of : (t : Terms) (n : ℕ) (h : Holding) (v : Log) → held_of n v.holdings.held ≡ Some h → HolderTells n v → length h.words ≡ 35

@@ -11,7 +11,7 @@ use Rattle.word_rule.specs.CallerData.{CallerData}
 use Rattle.word_rule.specs.Callers.{IsOfTerms}
 use Rattle.word_rule.specs.Commits.{MayCommit, after_commit}
 use Rattle.word_rule.specs.Exchange.{address_of, is_lawful, is_leaf_at, settle}
-use Rattle.word_rule.specs.Memory.{updated}
+use Rattle.word_rule.specs.SharedWords.{updated}
 use Rattle.word_rule.specs.NodeTells.{KnowsTree}
 use Rattle.word_rule.specs.Steps.{after_update, place_by}
 use Rattle.word_rule.specs.declared.log.Budget.{Budget}

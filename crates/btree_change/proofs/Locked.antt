@@ -6,7 +6,7 @@ use Rattle.std.specs.List.{AllByRecursion, slice_get}
 use Rattle.tree_shape.specs.Lawful.{FitsParent, IsOrderedAs, IsTree}
 use Rattle.tree_shape.specs.NodeData.{NodeData, Body, Pairs, Entries, Link, IsInFences, pairs_in, pairs_of, slot_for}
 use Rattle.tree_shape.specs.Trees.{Branch, Contents, branches, branches_from}
-use Rattle.tree_shape.specs.declared.node.Frame.{Frame}
+use Rattle.tree_shape.specs.declared.node.NodeBounds.{NodeBounds}
 use Rattle.tree_shape.specs.declared.pair.Pair.{Pair}
 use Rattle.word_rule.specs.CallerData.{CallerData, surplus}
 use Rattle.word_rule.specs.Held.{held_of}
@@ -64,14 +64,14 @@ pub record Names (t : Terms) (n : ℕ) (s : NodeData) (c : ℕ) (b : Branch) : T
   pub no_parent : b.frame.level < s.level → c ≢ n
   pub place : (other : Branch) → Contains (branches (s.level - 1) s) other → other.child ≡ c → other.frame ≡ b.frame
 
-pub names : (t : Terms) (n : ℕ) (s : NodeData) (f : Frame) (c : ℕ) (b : Branch) → IsLiveNode t n s f → Contains (branches (s.level - 1) s) b → b.child ≡ c → Names t n s c b
+pub names : (t : Terms) (n : ℕ) (s : NodeData) (f : NodeBounds) (c : ℕ) (b : Branch) → IsLiveNode t n s f → Contains (branches (s.level - 1) s) b → b.child ≡ c → Names t n s c b
 names t n s f c b live there is =
     let told = all_with (λ x. (x.child < t.nodes) × (x.child ≢ 0) × (live.places x.child ≡ x.frame)) (branches (s.level - 1) s) b live.children there in
     let frame : live.places c ≡ b.frame = ap live.places (sym is) ∙ told.2 in record {
       placed = found_child c live.places (branches (s.level - 1) s) b (weaken t live.places (branches (s.level - 1) s) live.children) there is ∙ ap Some frame;
       within = subst (λ k. k < t.nodes) is told.0;
       no_root = λ e. told.1 (is ∙ e);
-      no_parent = λ lower e. (let same : s.level ≡ b.frame.level = ap (λ (z : Frame). z.level) (sym live.own ∙ (ap live.places (sym e) ∙ frame)) in omega (arith, same, lower));
+      no_parent = λ lower e. (let same : s.level ≡ b.frame.level = ap (λ (z : NodeBounds). z.level) (sym live.own ∙ (ap live.places (sym e) ∙ frame)) in omega (arith, same, lower));
       place = λ other at same. sym (all_with (λ x. (x.child < t.nodes) × (x.child ≢ 0) × (live.places x.child ≡ x.frame)) (branches (s.level - 1) s) other live.children at).2 ∙ (ap live.places same ∙ frame);
     }
 
@@ -120,8 +120,8 @@ child_so t above pc slot p k k1 k2 shape terms alone inner fences first at locks
     let exact = branch_at (above.content.level - 1) above.content.low (pairs_of above.content) slot p at in
     let named = names t above.node above.content own.0 p.child holds.0 own.1.1 holds.1.0 holds.1.1 in
     let frame : exact.0.frame ≡ holds.0.frame = named.place exact.0 exact.1.0 exact.1.1 in
-    let high : holds.0.frame.high ≡ p.separator = ap (λ (z : Frame). z.high) (sym frame) ∙ exact.1.2 in
-    let level : holds.0.frame.level ≡ above.content.level - 1 = ap (λ (z : Frame). z.level) (sym frame) ∙ exact.1.3 in
+    let high : holds.0.frame.high ≡ p.separator = ap (λ (z : NodeBounds). z.high) (sym frame) ∙ exact.1.2 in
+    let level : holds.0.frame.level ≡ above.content.level - 1 = ap (λ (z : NodeBounds). z.level) (sym frame) ∙ exact.1.3 in
     let taken = taken_at t p.child holds.0.frame (alone.lock ∷ []) k k1 terms alone.held alone.out named.no_root (ap (λ o. first_mark o None) (by_parent t above.node p.child above.content above.changed alone.lock holds.0 alone.here named)) locks in
     let is : taken.content ≡ shape = read_first p.child taken.content shape taken.new (alone.lock ∷ []) k1.log taken.held taken.here.node taken.here.spells spells in
     let top : taken.content.high ≡ p.separator = taken.high ∙ high in

@@ -2,7 +2,7 @@
 use Rattle.std.proofs.Common.{◌≡◌, ◌≢◌, ℕ, suc, ◌-◌, ◌<◌, List, [], ◌∷◌, ◌++◌, append_assoc, refl, ap, sym, ◌∙◌, subst, arith, false, not, Option, Some, None, IfSome, IsSome, IsSomeAnd, eq-eqb, ne_eqb, cond, true≢false}
 use Rattle.std.proofs.lemmas.Option.{same_Some}
 use Rattle.std.specs.List.{AllByRecursion}
-use Rattle.tree_shape.specs.declared.node.Frame.{Frame}
+use Rattle.tree_shape.specs.declared.node.NodeBounds.{NodeBounds}
 use Rattle.tree_shape.specs.NodeData.{NodeData, pairs_of}
 use Rattle.tree_shape.specs.Steps.{first_child}
 use Rattle.tree_shape.specs.Trees.{Branch, branch, branches, branches_from}
@@ -126,7 +126,7 @@ module _ (t : Terms) (n level : ℕ) (before after : Holdings) (c : NamesChild t
   placed : place_by_held (first_child 0 (pairs_of l.new.settled)) (l.new ∷ before.held) ≡ Some b.frame
   placed = go l.new.mark refl l.fresh.live.marked
     where
-      go : (o : Option Frame) → l.new.mark ≡ o → IsSome o → place_by_held (first_child 0 (pairs_of l.new.settled)) (l.new ∷ before.held) ≡ Some b.frame
+      go : (o : Option NodeBounds) → l.new.mark ≡ o → IsSome o → place_by_held (first_child 0 (pairs_of l.new.settled)) (l.new ∷ before.held) ≡ Some b.frame
       go None e some_mark = absurd (true≢false (sym some_mark))
       go (Some m) e some_mark =
           ap (λ o. first_mark (place_by (first_child 0 (pairs_of l.new.settled)) o l.new) (place_by_held (first_child 0 (pairs_of l.new.settled)) before.held)) e
@@ -135,7 +135,7 @@ module _ (t : Terms) (n level : ℕ) (before after : Holdings) (c : NamesChild t
   child_here : (first_child 0 (pairs_of l.new.settled) < t.nodes) × (first_child 0 (pairs_of l.new.settled) ≢ 0)
   child_here = go l.new.mark refl l.fresh.live.marked l.fresh.live.live
     where
-      go : (o : Option Frame) → l.new.mark ≡ o → IsSome o → IfSome o (IsLiveNode t l.new.node l.new.settled) → (first_child 0 (pairs_of l.new.settled) < t.nodes) × (first_child 0 (pairs_of l.new.settled) ≢ 0)
+      go : (o : Option NodeBounds) → l.new.mark ≡ o → IsSome o → IfSome o (IsLiveNode t l.new.node l.new.settled) → (first_child 0 (pairs_of l.new.settled) < t.nodes) × (first_child 0 (pairs_of l.new.settled) ≢ 0)
       go None e some_mark live = absurd (true≢false (sym some_mark))
       go (Some m) e some_mark live = (let told = all_at (λ (x : Branch). (x.child < t.nodes) × (x.child ≢ 0) × (live.places x.child ≡ x.frame)) (branches (l.new.settled.level - 1) l.new.settled) b live.children found in (told.0, told.1))
 
@@ -168,7 +168,7 @@ module _ (t : Terms) (n level : ℕ) (before after : Holdings) (c : NamesChild t
         held = held;
         apart = λ all. s.apart (subst AreApart (sym l.held) (subst (λ m. AllByRecursion (λ (a : Holding). a.node ≢ m) before.held) (sym l.node) c.apart, all));
         same = s.same ∙ ap (λ (z : Holdings). record z { held = last.held }) l.same;
-        low = λ place there. low' ∙ (l.low_is ∙ ap (λ (z : Frame). z.low) (same_Some _ _ (sym c.placed ∙ there)));
+        low = λ place there. low' ∙ (l.low_is ∙ ap (λ (z : NodeBounds). z.low) (same_Some _ _ (sym c.placed ∙ there)));
       }
     where
       all_more : (xs : List Holding) → AllByRecursion (IsFreshLock t) xs → AllByRecursion (IsFreshLock t) (xs ++ l.new ∷ [])
@@ -188,7 +188,7 @@ locks_leaf t n level shape before after c l content zero_level = record {
   held = l.held;
   apart = λ all. subst AreApart (sym l.held) (subst (λ m. AllByRecursion (λ (a : Holding). a.node ≢ m) before.held) (sym l.node) c.apart, all);
   same = l.same ∙ ap (λ hs. record before { held = hs }) (sym l.held);
-  low = λ frame placed. ap (λ (s : NodeData). s.low) (sym content) ∙ (l.low_is ∙ ap (λ (z : Frame). z.low) (same_Some _ _ (sym c.placed ∙ placed)));
+  low = λ frame placed. ap (λ (s : NodeData). s.low) (sym content) ∙ (l.low_is ∙ ap (λ (z : NodeBounds). z.low) (same_Some _ _ (sym c.placed ∙ placed)));
 }
 
 pub without_head : (n : ℕ) (h : Holding) (held : List Holding) → h.node ≡ n → AllByRecursion (λ (a : Holding). a.node ≢ n) held → without_lock n (h ∷ held) ≡ held

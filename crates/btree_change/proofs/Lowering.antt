@@ -1,6 +1,6 @@
 -- From a node that is held down to its child for an address.
 use Rattle.std.proofs.Common.{◌≡◌, ◌≢◌, ℕ, ◌-◌, ◌<◌, List, [], ◌∷◌, drop, sym, refl, ap, ◌∙◌, subst, arith, Bool, false, true≢false, Option, Some, None, IfSome, IsSome, IsSomeAnd, eq-eqb, ne_eqb, cond}
-use Rattle.tree_shape.specs.declared.node.Frame.{Frame}
+use Rattle.tree_shape.specs.declared.node.NodeBounds.{NodeBounds}
 use Rattle.tree_shape.specs.NodeData.{NodeData, InOrder, IsInFences, IsInner}
 use Rattle.tree_shape.specs.Trees.{branches}
 use Rattle.word_rule.specs.CallerData.{CallerData}
@@ -24,10 +24,10 @@ use Rattle.btree_change.proofs.Outlining.{spells_same, steps_of_loads}
 use Rattle.btree_change.proofs.NodeSteps.{steps_so, steps_then}
 
 -- what is marked has its place
-pub settled_live : (t : Terms) (n : ℕ) (s : NodeData) (changed : Bool) (h : Holding) → IsSettledLock t n s changed h → (f : Frame) × ((h.mark ≡ Some f) × IsLiveNode t n s f)
+pub settled_live : (t : Terms) (n : ℕ) (s : NodeData) (changed : Bool) (h : Holding) → IsSettledLock t n s changed h → (f : NodeBounds) × ((h.mark ≡ Some f) × IsLiveNode t n s f)
 settled_live t n s changed h c = go h.mark refl c.marked c.live
   where
-    go : (o : Option Frame) → h.mark ≡ o → IsSome o → IfSome o (IsLiveNode t n s) → (f : Frame) × ((h.mark ≡ Some f) × IsLiveNode t n s f)
+    go : (o : Option NodeBounds) → h.mark ≡ o → IsSome o → IfSome o (IsLiveNode t n s) → (f : NodeBounds) × ((h.mark ≡ Some f) × IsLiveNode t n s f)
     go None e is live = absurd (true≢false (sym is))
     go (Some f) e is live = (f, (e, live))
 
@@ -41,7 +41,7 @@ pub pair_inner : (t : Terms) (pc : ℕ) (parent child : Held) (above : List Hold
 pair_inner t pc parent child above holdings pair = settled_inner t parent.node parent.content parent.changed pair.upper pair.parent_is pair.inner
 
 -- A node was locked, and its lock is marked with a place.
-pub record IsTakenAt (t : Terms) (c : ℕ) (f : Frame) (before : List Holding) (holdings : Holdings) : Type 0 where
+pub record IsTakenAt (t : Terms) (c : ℕ) (f : NodeBounds) (before : List Holding) (holdings : Holdings) : Type 0 where
   pub new : Holding
   pub content : NodeData
   pub held : holdings.held ≡ new ∷ before
@@ -51,7 +51,7 @@ pub record IsTakenAt (t : Terms) (c : ℕ) (f : Frame) (before : List Holding) (
   pub high : content.high ≡ f.high
   pub out : holdings.out ≡ []
 
-pub taken_at : (t : Terms) (c : ℕ) (f : Frame) (before : List Holding) (k k' : CallerData) → k.log.terms ≡ t → k.log.holdings.held ≡ before → k.log.holdings.out ≡ [] → c ≢ 0 → place_by_held c before ≡ Some f → Locks (lock.Node c) k k' → IsTakenAt t c f before k'.log.holdings
+pub taken_at : (t : Terms) (c : ℕ) (f : NodeBounds) (before : List Holding) (k k' : CallerData) → k.log.terms ≡ t → k.log.holdings.held ≡ before → k.log.holdings.out ≡ [] → c ≢ 0 → place_by_held c before ≡ Some f → Locks (lock.Node c) k k' → IsTakenAt t c f before k'.log.holdings
 taken_at t c f before k k' terms held out some placed (more, marks, nodes, version, settled, words, (tries, taken, is)) =
     subst (λ (z : CallerData). IsTakenAt t c f before z.log.holdings) (sym is) (record {
       new = record { node = c; version = version; settled = settled; words = words; stored = false; mark = mark_at_lock c settled k.log.holdings.held };
@@ -79,7 +79,7 @@ taken_at t c f before k k' terms held out some placed (more, marks, nodes, versi
 
 -- A child was locked.
 module _ (t : Terms) (at : Held) (pc c : ℕ) (k k1 : CallerData) (terms : k.log.terms ≡ t) (stands : StandsAt t at k.log.holdings) (inner : 0 < at.content.level) (leads : HasChildFor at.content pc c) (locks : Locks (lock.Node c) k k1) where
-  own : (f : Frame) × ((stands.lock.mark ≡ Some f) × IsLiveNode t at.node at.content f)
+  own : (f : NodeBounds) × ((stands.lock.mark ≡ Some f) × IsLiveNode t at.node at.content f)
   own = settled_live t at.node at.content at.changed stands.lock stands.here
 
   child : IsChildOf t at.node at.content pc c

@@ -2,7 +2,7 @@
 use Rattle.std.proofs.Common.{◌≡◌, ◌≢◌, ℕ, suc, ◌+◌, ◌-◌, ◌<◌, ◌≤◌, List, [], ◌∷◌, ◌++◌, length, refl, ap, sym, ◌∙◌, subst, arith, Option, Some, None, IfSome, IsSome, IsSomeAnd, inl, inr, true≢false}
 use Rattle.std.proofs.lemmas.Option.{slice_get_within}
 use Rattle.std.specs.List.{AllByRecursion, slice_get}
-use Rattle.tree_shape.specs.declared.node.Frame.{Frame}
+use Rattle.tree_shape.specs.declared.node.NodeBounds.{NodeBounds}
 use Rattle.tree_shape.specs.declared.pair.Pair.{Pair}
 use Rattle.tree_shape.specs.NodeData.{NodeData, frame_of, pairs_of}
 use Rattle.tree_shape.specs.Steps.{first_child}
@@ -76,7 +76,7 @@ module _ (t : Terms) (x slot : ℕ) (holdings : Holdings) (way : HoldsWay t x sl
   pub right_child : IsChild tree.contents tree.live tree.lawful b
   right_child = child tree.contents tree.live tree.lawful way.top b on_parts.1.0 branch_in
 
-  abbrev place : Frame
+  abbrev place : NodeBounds
   place = frame_of (tree.contents fork.at.next.child)
 
   beside : AllByRecursion (λ (h : Holding). IsSome h.mark × (h.settled.low ≡ place.low → way.top.settled.level - 1 < h.settled.level)) (way.lock ∷ (way.spine ++ way.top ∷ way.rest))
@@ -112,7 +112,7 @@ module _ (t : Terms) (x slot : ℕ) (holdings : Holdings) (way : HoldsWay t x sl
   child_within : fork.at.next.child < t.nodes
   child_within = go way.top.mark refl top_live.marked top_live.live
     where
-      go : (o : Option Frame) → way.top.mark ≡ o → IsSome o → IfSome o (IsLiveNode t way.top.node way.top.settled) → fork.at.next.child < t.nodes
+      go : (o : Option NodeBounds) → way.top.mark ≡ o → IsSome o → IfSome o (IsLiveNode t way.top.node way.top.settled) → fork.at.next.child < t.nodes
       go None e some_mark live = absurd (true≢false (sym some_mark))
       go (Some m) e some_mark live = (all_at (λ (z : Branch). (z.child < t.nodes) × (z.child ≢ 0) × (live.places z.child ≡ z.frame)) (branches (way.top.settled.level - 1) way.top.settled) b live.children branch_in).0
 
@@ -177,11 +177,11 @@ module _ (t : Terms) (x slot : ℕ) (holdings : Holdings) (way : HoldsWay t x sl
         s.content,
       )
 
-      right_live : (o : Option Frame) → IsSome o → IfSome o (IsLiveNode t s.right.node s.right.settled) → (f : Frame) × IsLiveNode t r u f
+      right_live : (o : Option NodeBounds) → IsSome o → IfSome o (IsLiveNode t s.right.node s.right.settled) → (f : NodeBounds) × IsLiveNode t r u f
       right_live None some_mark live = absurd (true≢false (sym some_mark))
       right_live (Some f) some_mark live = (f, subst (λ m. IsLiveNode t m u f) s.node (subst (λ z. IsLiveNode t s.right.node z f) s.content live))
 
-      pub holds_pair : (n : ℕ) (content : NodeData) → way.lock.node ≡ n → way.lock.settled ≡ content → HoldsLeafPair n content r u last × ((f : Frame) × IsLiveNode t r u f)
+      pub holds_pair : (n : ℕ) (content : NodeData) → way.lock.node ≡ n → way.lock.settled ≡ content → HoldsLeafPair n content r u last × ((f : NodeBounds) × IsLiveNode t r u f)
       unfolding names_right
       holds_pair n content node is = (
         record {

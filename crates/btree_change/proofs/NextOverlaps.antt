@@ -8,7 +8,7 @@ use Rattle.reg_model.specs.State.{IsFree, IsLowestOverlap}
 use Rattle.reg_model.specs.declared.answer.Inserted.TheVariants as inserted
 use Rattle.reg_model.specs.declared.answer.Update.TheVariants as update
 use Rattle.reg_model.specs.declared.span.Member.{Member}
-use Rattle.tree_shape.specs.declared.node.Frame.{Frame}
+use Rattle.tree_shape.specs.declared.node.NodeBounds.{NodeBounds}
 use Rattle.tree_shape.specs.Lawful.{IsFilledAs, IsOrderedAs}
 use Rattle.tree_shape.specs.NodeData.{NodeData, Body, Pairs, Entries, Link, EntriesWithin, IsInFences, IsLeaf, InOrder, entries_of, entries_in}
 use Rattle.tree_shape.specs.Steps.{LiesAbove}
@@ -41,7 +41,7 @@ begins_above e first last order above free = go (nat_le e.span.first last) refl
     go true is = absurd (free (e.span.first, (both e.span.first e.span.first e.span.first e.span.last (omega arith) order, both first e.span.first e.span.first last above (leb-true e.span.first last is))))
     go false is = leb-false e.span.first last is
 
-module _ (t : Terms) (n : ℕ) (s : NodeData) (r : ℕ) (u : NodeData) (m : Member) (k : CallerData) (pair : HoldsLeafPair n s r u k.log.holdings) (live : (place : Frame) × IsLiveNode t r u place) (here : IsInFences m.span.first s) where
+module _ (t : Terms) (n : ℕ) (s : NodeData) (r : ℕ) (u : NodeData) (m : Member) (k : CallerData) (pair : HoldsLeafPair n s r u k.log.holdings) (live : (place : NodeBounds) × IsLiveNode t r u place) (here : IsInFences m.span.first s) where
   settled_left : settled_in k.log.holdings.held n ≡ s
   settled_left = ap settled_shape pair.found_left ∙ pair.left_is
 

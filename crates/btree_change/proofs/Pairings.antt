@@ -15,7 +15,7 @@ use Rattle.tree_shape.proofs.Joins.{Neighbours, neighbours}
 use Rattle.word_rule.specs.CallerData.{CallerData}
 use Rattle.word_rule.specs.Exchange.{exchange, node_of, settle}
 use Rattle.word_rule.specs.Held.{held_of, marked_in, is_marked}
-use Rattle.word_rule.specs.Memory.{updated}
+use Rattle.word_rule.specs.SharedWords.{updated}
 use Rattle.word_rule.specs.NodeTells.{KnowsTree}
 use Rattle.word_rule.specs.Spelling.{SpellsNode}
 use Rattle.word_rule.specs.declared.log.Holding.{Holding}

@@ -17,7 +17,7 @@ use Rattle.tree_shape.specs.Trees.{Contents}
 use Rattle.word_rule.specs.CallerData.{CallerData}
 use Rattle.word_rule.specs.NodeTells.{KnowsTree}
 use Rattle.word_rule.specs.declared.log.Terms.{Terms}
-use Rattle.word_rule.specs.Memory.{updated}
+use Rattle.word_rule.specs.SharedWords.{updated}
 use Rattle.btree_change.specs.Paths.{StepsOnNodes}
 use Rattle.btree_change.proofs.Lowering.{settled_live}
 use Rattle.word_rule.specs.Commits.{AfterCommit, MayCommit}

@@ -23,7 +23,7 @@ use Rattle.word_rule.specs.Clock.{AfterClock}
 use Rattle.word_rule.specs.Commits.{AfterCommit, MayCommit}
 use Rattle.word_rule.specs.Exchange.{is_leaf_at}
 use Rattle.word_rule.specs.Held.{held_of}
-use Rattle.word_rule.specs.Memory.{updated}
+use Rattle.word_rule.specs.SharedWords.{updated}
 use Rattle.word_rule.specs.NodeTells.{KnowsTree}
 use Rattle.word_rule.specs.Sights.{after_node_load}
 use Rattle.word_rule.specs.Steps.{MayStore}

@@ -5,7 +5,7 @@ use Rattle.std.proofs.lemmas.Option.{same_Some}
 use Rattle.std.specs.Bool.{Decides}
 use Rattle.std.specs.List.{AllByRecursion, filter}
 use Rattle.reg_model.specs.declared.answer.Update.{Update}
-use Rattle.tree_shape.specs.declared.node.Frame.{Frame}
+use Rattle.tree_shape.specs.declared.node.NodeBounds.{NodeBounds}
 use Rattle.tree_shape.specs.Numbers.{is_among, times}
 use Rattle.tree_shape.specs.NodeData.{NodeData, frame_of}
 use Rattle.tree_shape.specs.Trees.{Contents}
@@ -320,7 +320,7 @@ either_way : (b : Bool) (s : NodeData) → (if b then s else s) ≡ s
 either_way true s = refl
 either_way false s = refl
 
-no_mark : (b : Bool) (m : Option Frame) → m ≡ None → (if b then None else m) ≡ m
+no_mark : (b : Bool) (m : Option NodeBounds) → m ≡ None → (if b then None else m) ≡ m
 no_mark true m e = sym e
 no_mark false m e = refl
 

@@ -15,7 +15,7 @@ use Rattle.word_rule.specs.CallerData.{CallerData}
 use Rattle.word_rule.specs.Exchange.{settle}
 use Rattle.word_rule.specs.Held.{held_of}
 use Rattle.word_rule.specs.Logs.{after_spending}
-use Rattle.word_rule.specs.Memory.{updated}
+use Rattle.word_rule.specs.SharedWords.{updated}
 use Rattle.word_rule.specs.NodeTells.{HolderTells, KnowsTree}
 use Rattle.word_rule.specs.Sights.{after_node_load}
 use Rattle.word_rule.specs.Steps.{MayRelease, MayStore, after_node_release, after_node_release_same}

@@ -11,7 +11,7 @@ use Rattle.tree_shape.specs.declared.pair.Pair.{Pair}
 use Rattle.word_rule.specs.CallerData.{CallerData}
 use Rattle.word_rule.specs.Exchange.{exchange, settle}
 use Rattle.word_rule.specs.Held.{all_but, edited, held_of, is_marked}
-use Rattle.word_rule.specs.Memory.{updated}
+use Rattle.word_rule.specs.SharedWords.{updated}
 use Rattle.word_rule.specs.NodeTells.{HolderTells, KnowsTree}
 use Rattle.word_rule.specs.Sights.{after_node_load}
 use Rattle.word_rule.specs.Steps.{MayStore, after_node_store, store_in, stored_log}

@@ -7,7 +7,7 @@ pub use Rattle.tree_shape.specs.NodeData.{InOrder, IsInFences, IsInner, IsLeaf}
 pub use Rattle.tree_shape.specs.NodeData.{entries_of, pairs_of, place_for}
 pub use Rattle.tree_shape.specs.Steps.{IsFull, LiesAbove, middle}
 pub use Rattle.tree_shape.specs.declared.limits.TheConstants.{HIGHEST_LEVEL, PAIRS}
-pub use Rattle.tree_shape.specs.declared.node.Frame.{Frame}
+pub use Rattle.tree_shape.specs.declared.node.NodeBounds.{NodeBounds}
 pub use Rattle.word_rule.specs.CallerData.{due, surplus}
 pub use Rattle.word_rule.specs.Callers.{IsIdle}
 pub use Rattle.word_rule.specs.Held.{held_of}

@@ -4,7 +4,7 @@ use Rattle.reg_model.specs.State.{IsFree}
 use Rattle.reg_model.specs.declared.span.Member.{Member}
 use Rattle.tree_shape.specs.NodeData.{NodeData, IsInFences, entries_of}
 use Rattle.tree_shape.specs.Steps.{LiesAbove}
-use Rattle.tree_shape.specs.declared.node.Frame.{Frame}
+use Rattle.tree_shape.specs.declared.node.NodeBounds.{NodeBounds}
 use Rattle.word_rule.specs.NodeTells.{IsLiveNode}
 use Rattle.word_rule.specs.TreeRefusals.{HadNoRoom}
 use Rattle.word_rule.specs.declared.log.Holding.{Holding}
@@ -51,7 +51,7 @@ pub record IsAtNext (t : Terms) (m : Member) (n : Next) (v : Log) : Type 0 where
   pub content : holds.next.right.settled ≡ n.right.content
   pub pair : HoldsLeafPair n.far.leaf.node n.far.leaf.content n.right.node n.right.content
       v.holdings
-  pub place : (place : Frame) × IsLiveNode t n.right.node n.right.content place
+  pub place : (place : NodeBounds) × IsLiveNode t n.right.node n.right.content place
   pub cause : n.far.room ≡ room.NoneFree
       → HadNoRoom m.span.first (length v.receipts.own) v.trace.loads
   pub room : n.far.room ≡ room.Splitting → HasSpace n.far.leaf.content.body

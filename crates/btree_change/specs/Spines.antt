@@ -11,7 +11,7 @@ use Rattle.tree_shape.specs.Decisions.{is_entries}
 use Rattle.tree_shape.specs.NodeData.{NodeData, pairs_of}
 use Rattle.tree_shape.specs.Steps.{first_child, last_child}
 use Rattle.tree_shape.specs.declared.limits.TheConstants.{HIGHEST_LEVEL}
-use Rattle.tree_shape.specs.declared.node.Frame.{Frame}
+use Rattle.tree_shape.specs.declared.node.NodeBounds.{NodeBounds}
 use Rattle.tree_shape.specs.declared.pair.Pair.{Pair}
 use Rattle.word_rule.specs.CallerData.{CallerData, KeepsCalls}
 use Rattle.word_rule.specs.Exchange.{is_lawful, settle}
@@ -86,7 +86,7 @@ AreApart (h ∷ held) = AllByRecursion (λ a. a.node ≢ h.node) held × AreApar
 -- A held live node names a node as its child, of this level. It isn't held yet, and no held node of
 -- that level or below begins where it does.
 pub record NamesChild (t : Terms) (n level : ℕ) (holdings : Holdings) : Type 0 where
-  pub frame : Frame
+  pub frame : NodeBounds
   pub placed : place_by_held n holdings.held ≡ Some frame
   pub level_is : frame.level ≡ level
   pub never_root : n ≢ 0
@@ -108,7 +108,7 @@ pub record LocksSpine (t : Terms) (n level r : ℕ) (u : NodeData) (before after
     pub held : after.held ≡ (right ∷ more) ++ before.held
     pub apart : AreApart before.held → AreApart after.held
     pub same : after ≡ record before { held = after.held }
-    pub low : (frame : Frame) → place_by_held n before.held ≡ Some frame → u.low ≡ frame.low
+    pub low : (frame : NodeBounds) → place_by_held n before.held ≡ Some frame → u.low ≡ frame.low
 
 -- A spine is held, of whose locks each is such a one, and below it more.
 pub record HoldsSpine (P : Holding → Type 0) (n level : ℕ) (holdings : Holdings) : Type 0 where

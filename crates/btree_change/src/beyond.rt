@@ -1,6 +1,6 @@
 //! An insertion whose span ends beyond its leaf: in the next one.
 ghost use Rattle.std.specs.Prelude.{◌≡◌, ◌≢◌, ◌<◌, ◌≤◌, ◌+◌, true, IfSome, IfNone, None, length};
-ghost use Rattle.btree_change.specs.Below.{Frame, HadNoRoom, IsFree, IsInFences, IsLiveNode};
+ghost use Rattle.btree_change.specs.Below.{NodeBounds, HadNoRoom, IsFree, IsInFences, IsLiveNode};
 ghost use Rattle.btree_change.specs.Below.{IsSpan, LiesAbove, SpellsHeld, entries_of, surplus};
 ghost use Rattle.btree_change.specs.Paths.{HoldsNothing, StepsOnNodes};
 ghost use Rattle.btree_change.specs.Insertion.{IfFull, MayPut, RefusesMember};
@@ -48,7 +48,8 @@ fn refused_far(
     requires table { me.old.table ≡ words.now.table }
     requires leaves { HoldsLeafPair far.now.leaf.node far.now.leaf.content right.now.node
         right.now.content me.old.log.holdings
-        × ((place : Frame) × IsLiveNode words.now.terms right.now.node right.now.content place) }
+        × ((place : NodeBounds)
+        × IsLiveNode words.now.terms right.now.node right.now.content place) }
     requires here { IsInFences member.now.span.first far.now.leaf.content }
     requires inside { right.now.node < words.now.terms.nodes }
     requires spells { SpellsHeld right.now.node right.now.content me.old.log }

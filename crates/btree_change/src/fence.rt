@@ -1,8 +1,9 @@
 //! The fence between a leaf and the next one, where a span ends above it: the lowest that overlaps
 //! in the next leaf is named, or the fence is moved on both spines.
 ghost use Rattle.std.specs.Prelude.{◌≡◌, ◌≢◌, ◌<◌, ◌≤◌, true, IfNone, IfOk, IfErr, IfSome};
-ghost use Rattle.btree_change.specs.Below.{FoundBusy, Frame, HIGHEST_LEVEL, IsFree, IsInFences};
-ghost use Rattle.btree_change.specs.Below.{IsLiveNode, LiesAbove, SpellsHeld, entries_of, surplus};
+ghost use Rattle.btree_change.specs.Below.{FoundBusy, HIGHEST_LEVEL, IsFree, IsInFences};
+ghost use Rattle.btree_change.specs.Below.{IsLiveNode, LiesAbove, NodeBounds, SpellsHeld};
+ghost use Rattle.btree_change.specs.Below.{entries_of, surplus};
 ghost use Rattle.btree_change.specs.Insertion.{IfFull, RefusesMember};
 ghost use Rattle.btree_change.specs.Paths.{StepsOnNodes};
 ghost use Rattle.btree_change.specs.Loads.{KeepsLoads};
@@ -41,7 +42,7 @@ pub(crate) fn next_leaf<L: Locking>(
         × (next.right.node ≡ right.node) × (next.right.settled ≡ right.content)) }
     ensures leaves { IfOk result (λ right. HoldsLeafPair leaf.now.node leaf.now.content right.node
         right.content me.new.log.holdings
-        × ((place : Frame) × IsLiveNode words.now.terms right.node right.content
+        × ((place : NodeBounds) × IsLiveNode words.now.terms right.node right.content
         place)) }
     ensures busy { IfErr result (λ e. (me.new.log.holdings ≡ me.old.log.holdings)
         × (L.gives_up ≡ true)) }
@@ -71,7 +72,8 @@ pub(crate) fn refused_next(
     requires table { me.old.table ≡ words.now.table }
     requires leaves { HoldsLeafPair leaf.now.node leaf.now.content right.now.node
         right.now.content me.old.log.holdings
-        × ((place : Frame) × IsLiveNode words.now.terms right.now.node right.now.content place) }
+        × ((place : NodeBounds)
+        × IsLiveNode words.now.terms right.now.node right.now.content place) }
     requires here { IsInFences member.now.span.first leaf.now.content }
     requires inside { right.now.node < words.now.terms.nodes }
     requires spells { SpellsHeld right.now.node right.now.content me.old.log }

@@ -8,7 +8,7 @@ use native.Mathlib.Decide.{ℕ_discrete}
 use Rattle.tree_shape.specs.NodeData.{NodeData, Body, Pairs, Entries, Link, Cut, pairs_in}
 use Rattle.tree_shape.specs.Lawful.{IsOrderedAs, IsFilledAs}
 use Rattle.tree_shape.specs.Trees.{Branch, branches_from}
-use Rattle.tree_shape.specs.declared.node.Frame.{Frame}
+use Rattle.tree_shape.specs.declared.node.NodeBounds.{NodeBounds}
 use Rattle.tree_shape.specs.declared.pair.Pair.{Pair}
 use Rattle.word_rule.specs.declared.log.LoadedWord.{LoadedWord}
 use Rattle.word_rule.specs.declared.log.NodeSight.{NodeSight}
@@ -35,7 +35,7 @@ unrolled words at more ps e = go (is_short (node_word words at)) (pairs_at words
     go false o is f = absurd (none-some ps f)
 
 -- the pairs of an inner node that has the loaded words
-pub record InnerNode (t : Terms) (n : ℕ) (words : List ℕ) (shape : NodeData) (f : Frame) : Type 0 where
+pub record InnerNode (t : Terms) (n : ℕ) (words : List ℕ) (shape : NodeData) (f : NodeBounds) : Type 0 where
   pub live : IsLiveNode t n shape f
   pub pairs : List Pair
   pub is : shape.body ≡ Pairs pairs
@@ -44,7 +44,7 @@ pub record InnerNode (t : Terms) (n : ℕ) (words : List ℕ) (shape : NodeData)
   pub few : length pairs ≤ 15
   pub level : 0 < shape.level
 
-pub inner_node : (t : Terms) (s : NodeSight) (shape : NodeData) (a : Agrees t s shape) (f : Frame) → place_of s ≡ Some f → 0 < f.level → InnerNode t s.node a.words shape f
+pub inner_node : (t : Terms) (s : NodeSight) (shape : NodeData) (a : Agrees t s shape) (f : NodeBounds) → place_of s ≡ Some f → 0 < f.level → InnerNode t s.node a.words shape f
 inner_node t s shape a f placed above = go shape.body refl live.ordered live.filled
   where
     live : IsLiveNode t s.node shape f
@@ -225,7 +225,7 @@ module _ (t : Terms) (pc : ℕ) (k : CallerData) (visit : Visit) where
       abbrev low : (low : ℕ) × ((low_of w.sees.place slot words ≡ Some low) × (low ≤ pc))
       low = low_there slot refl
 
-      abbrev next : Frame
+      abbrev next : NodeBounds
       next = record { level = w.sees.place.level - 1; low = low.0; high = separator }
 
       gives : place_under child all.sight (place_of all.sight) ≡ Some next
@@ -270,12 +270,12 @@ module _ (t : Terms) (pc : ℕ) (k : CallerData) (visit : Visit) where
               let b = branch_there (λ x. (x.child < t.nodes) × (x.child ≢ 0) × (inner.live.places x.child ≡ x.frame)) a.words (shape.level - 1) 0 slot (node_word a.words 5) shape.low inner.pairs inner.read (omega (arith, number, slots)) kids in
               let here : 6 + 2 * (0 + slot) ≡ 6 + 2 * slot = omega arith in
               let is_child : b.0.child ≡ child = b.1.1 ∙ (ap (node_word a.words) here ∙ loaded_is a.words words (6 + 2 * slot) child a.loaded_so child_there) in
-              by_wrong wrong b.0.child inner.live.places b.1.0.0 b.1.0.1 is_child (ap (λ (f : Frame). f.level) b.1.0.2 ∙ b.1.2) (ap (λ (f : Frame). f.level) inner.live.own) shape.level inner.level
+              by_wrong wrong b.0.child inner.live.places b.1.0.0 b.1.0.1 is_child (ap (λ (f : NodeBounds). f.level) b.1.0.2 ∙ b.1.2) (ap (λ (f : NodeBounds). f.level) inner.live.own) shape.level inner.level
             where
               same_node : all.sight.node ≡ visit.node
               same_node = node_of_sight visit.node all.sights.nodes all.sight all.found
 
-              by_wrong : (child ≡ 0) ⊎ ((child ≡ visit.node) ⊎ (t.nodes ≤ child)) → (x : ℕ) (places : ℕ → Frame) → x < t.nodes → x ≢ 0 → x ≡ child → {level : ℕ} → (places x).level ≡ level - 1 → (places all.sight.node).level ≡ level → (own : ℕ) → 0 < level → ⊥
+              by_wrong : (child ≡ 0) ⊎ ((child ≡ visit.node) ⊎ (t.nodes ≤ child)) → (x : ℕ) (places : ℕ → NodeBounds) → x < t.nodes → x ≢ 0 → x ≡ child → {level : ℕ} → (places x).level ≡ level - 1 → (places all.sight.node).level ≡ level → (own : ℕ) → 0 < level → ⊥
               by_wrong (inl root) x places inside not_root e one self level positive = not_root (e ∙ root)
               by_wrong (inr (inl same)) x places inside not_root e one self level positive =
                   let is : (places x).level ≡ (places all.sight.node).level = ap (λ n. (places n).level) (e ∙ (same ∙ sym same_node)) in omega (arith, is, one, self, positive)

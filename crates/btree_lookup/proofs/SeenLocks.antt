@@ -1,7 +1,7 @@
 -- A node that is in sight, and what its lock at the visit's version tells.
 use Rattle.std.proofs.Common.{◌≡◌, ◌≢◌, ℕ, Bool, true, false, List, ◌∷◌, map, Option, Some, None, option_map, IfSome, IsSome, is_some, refl, ap, sym, ◌∙◌, subst, arith, eq-eqb, ne_eqb, if◌then◌else◌}
 use Rattle.tree_shape.specs.NodeData.{NodeData}
-use Rattle.tree_shape.specs.declared.node.Frame.{Frame}
+use Rattle.tree_shape.specs.declared.node.NodeBounds.{NodeBounds}
 use Rattle.word_rule.specs.declared.log.Holding.{Holding}
 use Rattle.word_rule.specs.declared.log.Terms.{Terms}
 use Rattle.word_rule.specs.CallerData.{CallerData}
@@ -60,11 +60,11 @@ module _ (pc : ℕ) (visit : Visit) (count : ℕ) (k : CallerData) (seen : IsInS
   live_there : IsLiveNode k.log.terms visit.node settled seen.place
   live_there = subst (λ o. IfSome o (IsLiveNode k.log.terms visit.node settled)) placed_there told.live
 
-  marked_by : (o : Option Frame) → IsSome (first_mark o (place_at visit.version (sight_of visit.node k.log.sights.nodes)))
+  marked_by : (o : Option NodeBounds) → IsSome (first_mark o (place_at visit.version (sight_of visit.node k.log.sights.nodes)))
   marked_by None = subst (λ p. IsSome p) (sym placed_there) refl
   marked_by (Some f) = refl
 
-  live_by : (o : Option Frame) → IfSome o (IsLiveNode k.log.terms visit.node settled) → IfSome (first_mark o (place_at visit.version (sight_of visit.node k.log.sights.nodes))) (IsLiveNode k.log.terms visit.node settled)
+  live_by : (o : Option NodeBounds) → IfSome o (IsLiveNode k.log.terms visit.node settled) → IfSome (first_mark o (place_at visit.version (sight_of visit.node k.log.sights.nodes))) (IsLiveNode k.log.terms visit.node settled)
   live_by None held = told.live
   live_by (Some f) held = held
 

@@ -5,7 +5,7 @@ use Rattle.std.specs.Prelude.{Contains, IfSome, IsSome, Option, Some, None, opti
 use Rattle.reg_model.specs.Query.{member_at}
 use Rattle.reg_model.specs.declared.span.Member.{Member}
 use Rattle.tree_shape.specs.NodeData.{NodeData, IsInFences, entries_of}
-use Rattle.tree_shape.specs.declared.node.Frame.{Frame}
+use Rattle.tree_shape.specs.declared.node.NodeBounds.{NodeBounds}
 use Rattle.word_rule.specs.declared.log.Holding.{Holding}
 use Rattle.word_rule.specs.declared.log.LoadedWord.{LoadedWord}
 use Rattle.word_rule.specs.declared.log.NodeSight.{NodeSight}
@@ -25,7 +25,7 @@ use Rattle.btree_lookup.specs.declared.entry.Entry.{Entry}
 use Rattle.btree_lookup.specs.declared.visit.Visit.{Visit}
 
 -- the address is inside a place's fences
-abbrev pub HoldsAddress : Frame → ℕ → Type 0
+abbrev pub HoldsAddress : NodeBounds → ℕ → Type 0
 HoldsAddress place pc = (place.low ≤ pc) × (pc ≤ place.high)
 
 -- A caller k that began a try is now k'. It made these loads alone, which lead to the node that it
@@ -45,7 +45,7 @@ pub record Sees (t : Terms) (pc : ℕ) (k : CallerData) (visit : Visit) (used : 
   pub sight : NodeSight
   pub found : sight_of visit.node sights.nodes ≡ Some sight
   pub same : sight.version ≡ visit.version
-  pub place : Frame
+  pub place : NodeBounds
   pub placed : place_of sight ≡ Some place
   pub level : place.level ≡ visit.level
   pub inside : HoldsAddress place pc
@@ -78,7 +78,7 @@ pub record IsInSight (pc : ℕ) (visit : Visit) (count : ℕ) (k : CallerData) :
   pub sight : NodeSight
   pub found : sight_of visit.node k.log.sights.nodes ≡ Some sight
   pub same : sight.version ≡ visit.version
-  pub place : Frame
+  pub place : NodeBounds
   pub placed : place_of sight ≡ Some place
   pub level : place.level ≡ visit.level
   pub inside : HoldsAddress place pc
@@ -117,7 +117,7 @@ pub record SeesChild (t : Terms) (pc : ℕ) (k : CallerData) (visit : Visit) (co
   pub other : child ≢ visit.node
   pub below : child ≢ 0
   pub way : IsLed pc sees.loaded child
-  pub next : Frame
+  pub next : NodeBounds
   pub placed : place_under child sees.sight (place_of sees.sight) ≡ Some next
   pub level : next.level + 1 ≡ visit.level
   pub inside : HoldsAddress next pc

@@ -7,7 +7,7 @@ use Rattle.std.proofs.lemmas.Option.{none-some, cond_some}
 use Rattle.tree_shape.specs.NodeData.{NodeData}
 use Rattle.word_rule.specs.declared.log.Ask.TheVariants as ask
 use Rattle.word_rule.specs.declared.log.Holding.{Holding}
-use Rattle.tree_shape.specs.declared.node.Frame.{Frame}
+use Rattle.tree_shape.specs.declared.node.NodeBounds.{NodeBounds}
 use Rattle.word_rule.specs.declared.log.Log.{Log}
 use Rattle.word_rule.specs.declared.log.NodeSight.{NodeSight}
 use Rattle.word_rule.specs.Callers.{IsLockedAt}
@@ -77,7 +77,7 @@ word_more n words at found v inside =
     ∙ ap (λ k. after_words n (set words at found) k v) (sym next)
 
 -- a parent's sight changes the mark of a child's alone
-marks_alone : {A : Type 0} (f : NodeSight → A) (parent s : NodeSight) → ((m : Option Frame) → f (record s { mark = m }) ≡ f s) → f (mark_child parent s) ≡ f s
+marks_alone : {A : Type 0} (f : NodeSight → A) (parent s : NodeSight) → ((m : Option NodeBounds) → f (record s { mark = m }) ≡ f s) → f (mark_child parent s) ≡ f s
 marks_alone f parent s same = go (nat_eq s.node parent.node)
   where
     go : (b : Bool) → f (if b then s else record s { mark = or_mark (place_under s.node parent (place_of parent)) s.mark }) ≡ f s

@@ -5,7 +5,7 @@ use Rattle.reg_model.specs.declared.span.Member.{Member}
 use Rattle.reg_model.specs.SpanData.{SpanData}
 use Rattle.segment_array.specs.Ascending.{AscendFrom}
 use Rattle.tree_shape.specs.declared.pair.Pair.{Pair}
-use Rattle.tree_shape.specs.declared.node.Frame.{Frame}
+use Rattle.tree_shape.specs.declared.node.NodeBounds.{NodeBounds}
 
 -- what a node holds: children with their separators, or members, or the next free node
 pub data Body : Type 0 where
@@ -21,7 +21,7 @@ pub record NodeData : Type 0 where
   pub body : Body
 
 -- its level and its fences
-abbrev pub frame_of : NodeData → Frame
+abbrev pub frame_of : NodeData → NodeBounds
 frame_of s = record { level = s.level; low = s.low; high = s.high }
 
 -- the pairs of an inner node, and none of another

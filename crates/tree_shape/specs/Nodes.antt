@@ -4,7 +4,7 @@ use Rattle.tree_shape.specs.NodeData.{NodeData, Body, Pairs, Entries, Link}
 use Rattle.tree_shape.specs.declared.node.Content.{Content}
 use Rattle.tree_shape.specs.declared.node.Content.TheVariants.{Inner, Leaf, Free}
 use Rattle.tree_shape.specs.declared.limits.TheConstants.{PAIRS, ENTRIES}
-use Rattle.tree_shape.specs.declared.node.Frame.{Frame}
+use Rattle.tree_shape.specs.declared.node.NodeBounds.{NodeBounds}
 use Rattle.tree_shape.specs.declared.node.Node.TheInside.{Inside}
 
 -- the first `count` pairs or entries
@@ -23,5 +23,5 @@ IsCounted (Leaf count entries) = count ≤ ENTRIES
 IsCounted (Free next) = Unit {0}
 
 -- the node of this level and these fences that holds this
-abbrev pub framed : Frame → Body → NodeData
+abbrev pub framed : NodeBounds → Body → NodeData
 framed frame body = record { level = frame.level; low = frame.low; high = frame.high; body = body }

@@ -5,7 +5,7 @@ use Rattle.std.specs.Prelude.{if◌then◌else◌}
 use Rattle.std.specs.List.{flat_map}
 use Rattle.reg_model.specs.declared.span.Member.{Member}
 use Rattle.tree_shape.specs.declared.pair.Pair.{Pair}
-use Rattle.tree_shape.specs.declared.node.Frame.{Frame}
+use Rattle.tree_shape.specs.declared.node.NodeBounds.{NodeBounds}
 use Rattle.tree_shape.specs.NodeData.{NodeData, pairs_of, entries_of}
 
 -- what each node holds, by its number
@@ -15,7 +15,7 @@ Contents = ℕ → NodeData
 -- a child as its parent names it: its number, and its level and fences
 pub record Branch : Type 0 where
   pub child : ℕ
-  pub frame : Frame
+  pub frame : NodeBounds
 
 -- a child with its level and its fences
 abbrev pub branch : ℕ → ℕ → ℕ → ℕ → Branch

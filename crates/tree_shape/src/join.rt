@@ -6,7 +6,7 @@ ghost use Rattle.tree_shape.specs.Nodes.{body_of, IsCounted};
 ghost use Rattle.tree_shape.specs.Changes.{both, Fit, Overfill, joined, first_half, last_half};
 ghost use Rattle.tree_shape.specs.Changes.{share_of, ends_at_as, ends_at_fence, begins_after};
 
-use crate::node::{Content, Frame, Node, inner_of, leaf_of};
+use crate::node::{Content, Node, NodeBounds, inner_of, leaf_of};
 use crate::pair::Pair;
 use crate::split::{cut_inner, cut_leaf};
 
@@ -47,7 +47,7 @@ pub fn even_pair(left: &Node, right: &Node) -> (Node, Node)
         ≡ last_half (share_of left.now right.now) (joined left.now right.now) }
 {
     let end = right.frame();
-    let frame = Frame {
+    let frame = NodeBounds {
         level: left.level,
         low: left.low,
         high: end.high,

@@ -23,6 +23,6 @@ pub use edits::{drop_pair, put_entry, put_pair, replace_entry, set_separator, ta
 pub use find::{first_overlap, inner_slot, leaf_slot};
 pub use join::{even_pair, join_pair, move_fence, sink_root};
 pub use limits::{ENTRIES, PAIRS};
-pub use node::{Content, Frame, Node};
+pub use node::{Content, Node, NodeBounds};
 pub use pair::Pair;
 pub use split::{lift_root, split_inner, split_leaf};

@@ -28,7 +28,7 @@ pub enum Content {
 
 /// A node's level and its two fences.
 #[derive(Clone, Copy)]
-pub struct Frame {
+pub struct NodeBounds {
     pub level: u32,
     pub low: u64,
     pub high: u64,
@@ -120,12 +120,12 @@ impl Node {
     }
 
     /// The level and the fences.
-    pub(crate) fn frame(&self) -> Frame
+    pub(crate) fn frame(&self) -> NodeBounds
         ensures value { result ≡ frame_of self.now }
         ensures low_fits { self.now.low ≤ 2 ^ 64 - 1 }
         ensures high_fits { self.now.high ≤ 2 ^ 64 - 1 }
     {
-        Frame {
+        NodeBounds {
             level: self.level,
             low: self.low(),
             high: self.high(),

@@ -7,13 +7,13 @@ ghost use Rattle.tree_shape.specs.Nodes.{framed};
 ghost use Rattle.tree_shape.specs.Changes.{first_half, last_half, pair, pairs_end};
 
 use crate::limits::{ENTRIES, HIGHEST_LEVEL, LEFT_ENTRIES, LEFT_PAIRS, PAIRS};
-use crate::node::{Frame, Node, inner_of, leaf_of};
+use crate::node::{Node, NodeBounds, inner_of, leaf_of};
 use crate::pair::Pair;
 use crate::row::{cut, item};
 use reg_model::Member;
 
 /// The two leaves that a leaf with these entries is cut into.
-pub fn cut_leaf(frame: Frame, first: &[Member], last: &[Member], n: usize) -> (Node, Node)
+pub fn cut_leaf(frame: NodeBounds, first: &[Member], last: &[Member], n: usize) -> (Node, Node)
     requires some { 0 < n }
     requires left { n ≤ ENTRIES }
     requires enough { n < length first.now + length last.now }
@@ -39,7 +39,7 @@ pub fn cut_leaf(frame: Frame, first: &[Member], last: &[Member], n: usize) -> (N
 }
 
 /// The two inner nodes that an inner node with these pairs is cut into.
-pub fn cut_inner(frame: Frame, first: &[Pair], last: &[Pair], n: usize) -> (Node, Node)
+pub fn cut_inner(frame: NodeBounds, first: &[Pair], last: &[Pair], n: usize) -> (Node, Node)
     requires some { 0 < n }
     requires left { n ≤ PAIRS }
     requires enough { n < length first.now + length last.now }

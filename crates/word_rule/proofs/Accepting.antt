@@ -26,7 +26,7 @@ use Rattle.word_rule.specs.declared.log.Holdings.{Holdings}
 use Rattle.word_rule.specs.declared.log.LoaderHolding.{LoaderHolding}
 use Rattle.word_rule.specs.declared.log.Log.{Log}
 use Rattle.word_rule.specs.Places.{lower, spare, upper}
-use Rattle.word_rule.specs.Memory.{Memory}
+use Rattle.word_rule.specs.SharedWords.{SharedWords}
 use Rattle.word_rule.specs.Logs.{is_gone, is_nameless, weight, turns, own_list}
 use Rattle.word_rule.specs.Steps.{IsDone, after_update}
 use Rattle.word_rule.specs.Callers.{total, CallersHold, LogHolds, ReceiptsHold, AtLoader, LoaderLock, NoneStored, IsOfTerms, dones_in, is_of_loader, number_of, publications, start}
@@ -75,7 +75,7 @@ answered s (update.Unload base) n fit = let m = some_of (at_base base s.loaded) 
 )
 
 -- what a log has observed stays where it gets receipts: they end what its loads told of fullness
-pub observations_received : (t : Terms) (m : Memory) (history : List Update) (callers : ℕ) (shadow : Shadow) (v w : Log) (more : List Receipt) → 0 < length more → w.receipts.own ≡ v.receipts.own ++ more → w.sights ≡ v.sights → w.trace.loads ≡ v.trace.loads → turns v.trace ≤ turns w.trace
+pub observations_received : (t : Terms) (m : SharedWords) (history : List Update) (callers : ℕ) (shadow : Shadow) (v w : Log) (more : List Receipt) → 0 < length more → w.receipts.own ≡ v.receipts.own ++ more → w.sights ≡ v.sights → w.trace.loads ≡ v.trace.loads → turns v.trace ≤ turns w.trace
     → ObservationsHold t m history callers shadow v → ObservationsHold t m history callers shadow w
 observations_received t m history callers shadow v w more some_more own sights loads turn r =
     let len : length w.receipts.own ≡ length v.receipts.own + length more = ap length own ∙ length-append v.receipts.own more in record {
@@ -91,7 +91,7 @@ observations_received t m history callers shadow v w more some_more own sights l
 prefix_all : (a b c : List Update) → IsPrefix a b → IsPrefix a (b ++ c)
 prefix_all a b c p = (p.0 ++ c, sym (append_assoc a p.0 c) ∙ ap (λ z. z ++ c) p.1)
 
-module _ (t : Terms) (m : Memory) (views : List Log) (history : List Update) (c : CallersHold t m views history) (id : ℕ) (v : Log) (caller : v.role ≡ role.Caller) (at : get_elem? views id ≡ some v)
+module _ (t : Terms) (m : SharedWords) (views : List Log) (history : List Update) (c : CallersHold t m views history) (id : ℕ) (v : Log) (caller : v.role ≡ role.Caller) (at : get_elem? views id ≡ some v)
     (u : Update) (due : 0 < v.budget.allowance) (member : IsOfTerms t u) (fit : Fits u (state_after (start t) history)) (answer : Receipt) (told : Accepts u (state_after (start t) history) (length history) answer) where
   stands : is_nameless v.role ≡ false
   stands = ap is_nameless caller

@@ -23,7 +23,7 @@ use Rattle.word_rule.specs.Callers.{total, CallersHold, LogHolds, IsRecord, Rece
 use Rattle.word_rule.specs.TableInvariant.{TableInvariant}
 use Rattle.word_rule.specs.Plays.{confirms}
 use Rattle.word_rule.proofs.Facts.{part_of_total, all_of_total}
-use Rattle.word_rule.specs.Memory.{Memory, memory_of}
+use Rattle.word_rule.specs.SharedWords.{SharedWords, memory_of}
 use Rattle.word_rule.proofs.Lineages.{others_nameless, not_gone}
 use Rattle.word_rule.proofs.Memories.{set_same}
 
@@ -51,7 +51,7 @@ history_front s (u ∷ front) rest h = (h.0, history_front (after u s) front res
 last_number : (n : ℕ) → 0 < n → number_of n n ≡ 1
 last_number n h = rw (le-leb 1 n h, le-leb n n (omega arith)) refl
 
-module _ (t : Terms) (m : Memory) (views : List Log) (history : List Update) (r : CallersHold t m views history) (id : ℕ) (v : Log) (at : get_elem? views id ≡ some v) (alone : IsAlone v.lineage) where
+module _ (t : Terms) (m : SharedWords) (views : List Log) (history : List Update) (r : CallersHold t m views history) (id : ℕ) (v : Log) (at : get_elem? views id ≡ some v) (alone : IsAlone v.lineage) where
   nameless_others : (j : ℕ) (u : Log) → j ≢ id → get_elem? views j ≡ some u → is_nameless u.role ≡ true
   nameless_others = others_nameless views r.lineages id v at alone
 

@@ -14,7 +14,7 @@ use Rattle.word_rule.specs.declared.log.ReceiptList.{ReceiptList}
 use Rattle.word_rule.specs.declared.log.LoadEvent.{LoadEvent}
 use Rattle.word_rule.specs.declared.log.Terms.{Terms}
 use Rattle.word_rule.specs.declared.log.Log.{Log}
-use Rattle.word_rule.specs.Memory.{Memory, memory_of}
+use Rattle.word_rule.specs.SharedWords.{SharedWords, memory_of}
 use Rattle.word_rule.specs.Logs.{is_nameless, weight, turns, own_list}
 use Rattle.word_rule.specs.Sights.{with_receipts}
 use Rattle.word_rule.specs.Callers.{total, CallersHold, LogHolds, IsRecord, AtLoader, LoaderLock, dones_in}
@@ -60,7 +60,7 @@ all_ended t history callers most own rs [] e h = tt
 all_ended t history callers most own rs (l ∷ ls) e h = (ended t history callers own rs l e.0.1 h.0, all_ended t history callers most own rs ls e.1 h.1)
 
 -- The callers where one log gets such receipts, and has seen more: all else of it is as before.
-module _ (t : Terms) (m : Memory) (views : List Log) (history : List Update) (c : CallersHold t m views history) (id : ℕ) (v w : Log) (at : get_elem? views id ≡ some v) (role : w.role ≡ v.role) (budget : w.budget ≡ v.budget) (loader : w.loader ≡ v.loader) (made : w.made ≡ v.made) (lineage : w.lineage ≡ v.lineage) (done : (n : ℕ) → dones_in n w ≡ dones_in n v) where
+module _ (t : Terms) (m : SharedWords) (views : List Log) (history : List Update) (c : CallersHold t m views history) (id : ℕ) (v w : Log) (at : get_elem? views id ≡ some v) (role : w.role ≡ v.role) (budget : w.budget ≡ v.budget) (loader : w.loader ≡ v.loader) (made : w.made ≡ v.made) (lineage : w.lineage ≡ v.lineage) (done : (n : ℕ) → dones_in n w ≡ dones_in n v) where
   made_same : total (λ u. u.made) (set views id w) ≡ total (λ u. u.made) views
   made_same = total_same (λ u. u.made) views id v w at made
 
@@ -82,7 +82,7 @@ module _ (t : Terms) (m : Memory) (views : List Log) (history : List Update) (c 
 
 -- A log that gets such receipts, and does nothing else.
 module _ (t : Terms) (words : List ℕ) (views : List Log) (r : TableInvariant t words views) (id : ℕ) (v : Log) (at : get_elem? views id ≡ some v) (rs : List Receipt) (told : Told t v.past (total (λ u. u.made) views + 1) (own_list v.receipts) rs) where
-  abbrev m : Memory
+  abbrev m : SharedWords
   m = memory_of t words
 
   abbrev w : Log

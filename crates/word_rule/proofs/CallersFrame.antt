@@ -8,7 +8,7 @@ use Rattle.word_rule.specs.declared.log.Role.TheVariants as role
 use Rattle.word_rule.specs.declared.log.LoaderHolding.{LoaderHolding}
 use Rattle.word_rule.specs.declared.log.Log.{Log}
 use Rattle.word_rule.specs.declared.log.Terms.{Terms}
-use Rattle.word_rule.specs.Memory.{Memory, counters}
+use Rattle.word_rule.specs.SharedWords.{SharedWords, counters}
 use Rattle.word_rule.specs.Places.{spare, upper}
 use Rattle.word_rule.specs.Copies.{IsBehind}
 use Rattle.word_rule.specs.Logs.{is_gone, is_nameless, weight}
@@ -45,7 +45,7 @@ lock_stays views word x id v w (Some j) at same free h = ⊎_elim
     mine is = some-injective v h.0 (sym at ∙ (ap (get_elem? views) (sym is) ∙ h.2.0))
 
 -- a log that isn't the holder's has no part in the lock, and stored nothing under it
-pub none_elsewhere : (m : Memory) (holder : Option ℕ) (j : ℕ) (o : Option LoaderHolding) → holder ≢ Some j → AtLoader m holder j o → IfSome o (λ h. h.stored ≡ false)
+pub none_elsewhere : (m : SharedWords) (holder : Option ℕ) (j : ℕ) (o : Option LoaderHolding) → holder ≢ Some j → AtLoader m holder j o → IfSome o (λ h. h.stored ≡ false)
 none_elsewhere m holder j None far h = tt
 none_elsewhere m holder j (Some g) far h = absurd (far h.0)
 
@@ -67,7 +67,7 @@ module _ (views : List Log) (lineages : LineagesHold views) (id : ℕ) (v w : Lo
     nameless = after_step (λ _ u. is_nameless u.role ≡ true → ((n : ℕ) → dones_in n u ≡ 0) × (u.made ≡ 0)) views id w gone (λ j u _ e. lineages.nameless j u e);
   }
 
-module _ (t : Terms) (m : Memory) (views : List Log) (history : List Update) (r : CallersHold t m views history) (id : ℕ) (v w : Log) (at : get_elem? views id ≡ some v) (like : IsLike v w) where
+module _ (t : Terms) (m : SharedWords) (views : List Log) (history : List Update) (r : CallersHold t m views history) (id : ℕ) (v w : Log) (at : get_elem? views id ≡ some v) (like : IsLike v w) where
   was_nameless : {b : Bool} → is_nameless w.role ≡ b → is_nameless v.role ≡ b
   was_nameless s = sym (ap is_nameless like.role) ∙ s
 
@@ -87,7 +87,7 @@ module _ (t : Terms) (m : Memory) (views : List Log) (history : List Update) (r 
       (λ s. let h = r.lineages.nameless id v at (was_nameless s) in ((λ n. ap (dones n) like.receipts ∙ h.0 n), like.made ∙ h.1))
 
   -- no counter rises by more than the credit falls
-  pub callers_step : (m' : Memory) (holder : Option ℕ) → m'.clock ≡ m.clock → counters t m' + w.budget.credit ≤ counters t m + v.budget.credit → LoaderLock m'.loader (set views id w) holder
+  pub callers_step : (m' : SharedWords) (holder : Option ℕ) → m'.clock ≡ m.clock → counters t m' + w.budget.credit ≤ counters t m + v.budget.credit → LoaderLock m'.loader (set views id w) holder
       → ((j : ℕ) (u : Log) → get_elem? (set views id w) j ≡ some u → AtLoader m' holder j u.loader) → (weight w.role ≡ 0 → IsIdle w)
       → (NoneStored (set views id w) → IsBehind t (m'.copies (upper m'.clock % 2)) (m'.copies (spare m'.clock))) → CallersHold t m' (set views id w) history
   callers_step m' holder clock fewer lock at_lock idle spare_copy =

@@ -25,7 +25,7 @@ use Rattle.word_rule.specs.declared.log.NodeSight.{NodeSight}
 use Rattle.word_rule.specs.declared.log.Terms.{Terms}
 use Rattle.word_rule.specs.declared.log.Log.{Log}
 use Rattle.word_rule.specs.Places.{lower, upper}
-use Rattle.word_rule.specs.Memory.{Memory, memory_of}
+use Rattle.word_rule.specs.SharedWords.{SharedWords, memory_of}
 use Rattle.word_rule.specs.Logs.{is_gone, turns, load_of, own_list}
 use Rattle.word_rule.specs.Sights.{after_clock, copies_after_clock, query_receipt, walk_receipts, with_clock}
 use Rattle.word_rule.specs.Callers.{total, CallersHold, LogHolds, IsMemberOf, AtLoader, start}
@@ -79,7 +79,7 @@ module _ (law : LeafLaw) (t : Terms) (slots id : ℕ) (me : Seated) (live : is_g
   Rule s = TableInvariant t s.words s.views
 
   module _ (s : Sit) (r : Rule s) (at : get_elem? s.views id ≡ some me.0) where
-    abbrev m : Memory
+    abbrev m : SharedWords
     m = memory_of t s.words
 
     abbrev found : ℕ

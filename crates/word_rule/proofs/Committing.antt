@@ -25,7 +25,7 @@ use Rattle.word_rule.specs.declared.log.Holdings.{Holdings}
 use Rattle.word_rule.specs.declared.log.LoaderHolding.{LoaderHolding}
 use Rattle.word_rule.specs.declared.log.Log.{Log}
 use Rattle.word_rule.specs.Places.{upper}
-use Rattle.word_rule.specs.Memory.{Memory, memory_of}
+use Rattle.word_rule.specs.SharedWords.{SharedWords, memory_of}
 use Rattle.word_rule.specs.Logs.{is_gone, is_nameless}
 use Rattle.word_rule.specs.Exchange.{ChangeLaws, IsLawfulExchange, after_exchange, group_of, settle_free, top_of}
 use Rattle.word_rule.specs.Steps.{IsDone, after_update}
@@ -62,7 +62,7 @@ module _ (t : Terms) (slots id : ℕ) (me : Seated) (caller : me.0.role ≡ role
   stands = ap is_nameless caller
 
   module _ (u : Update) (may : MayCommit t u me.0) (s : Sit) (r : Rule s) (at : get_elem? s.views id ≡ some me.0) where
-    abbrev m : Memory
+    abbrev m : SharedWords
     m = memory_of t s.words
 
     abbrev longer : List Update
@@ -71,7 +71,7 @@ module _ (t : Terms) (slots id : ℕ) (me : Seated) (caller : me.0.role ≡ role
     abbrev before : State
     before = state_after (start t) r.memory.history
 
-    abbrev m' : Memory
+    abbrev m' : SharedWords
     m' = record (memory_of t s.words) { clock = get_or s.words 0 0 + 1 }
 
     abbrev top : ℕ

@@ -12,7 +12,7 @@ use Rattle.word_rule.specs.declared.log.LoaderHolding.{LoaderHolding}
 use Rattle.word_rule.specs.declared.log.CopySight.{CopySight}
 use Rattle.word_rule.specs.declared.log.Log.{Log}
 use Rattle.word_rule.specs.Places.{copy_place, copy_words, upper, spare, word_count}
-use Rattle.word_rule.specs.Memory.{Memory, memory_of, updated}
+use Rattle.word_rule.specs.SharedWords.{SharedWords, memory_of, updated}
 use Rattle.word_rule.specs.Logs.{is_gone, is_nameless, after_write}
 use Rattle.word_rule.specs.Steps.{MayStoreCopy, store_in_copy, after_copy_store, spare_place}
 use Rattle.reg_model.specs.History.{state_after}
@@ -30,12 +30,12 @@ use Rattle.word_rule.proofs.Writes.{written}
 use Rattle.word_rule.proofs.NodeLocks.{updated_here, updated_other}
 
 -- where another holds the lock, a log has no part in it
-pub other_loader : (m m' : Memory) (holder : Option ℕ) (j : ℕ) (o : Option LoaderHolding) → holder ≢ Some j → AtLoader m holder j o → AtLoader m' holder j o
+pub other_loader : (m m' : SharedWords) (holder : Option ℕ) (j : ℕ) (o : Option LoaderHolding) → holder ≢ Some j → AtLoader m holder j o → AtLoader m' holder j o
 other_loader m m' holder j None far h = tt
 other_loader m m' holder j (Some g) far h = absurd (far h.0)
 
 -- a log that has the loader's lock
-pub loader_held : (m : Memory) (holder : Option ℕ) (id : ℕ) (o : Option LoaderHolding) (h : LoaderHolding) → o ≡ Some h → AtLoader m holder id o → (holder ≡ Some id) × HoldsLoader m h
+pub loader_held : (m : SharedWords) (holder : Option ℕ) (id : ℕ) (o : Option LoaderHolding) (h : LoaderHolding) → o ≡ Some h → AtLoader m holder id o → (holder ≡ Some id) × HoldsLoader m h
 loader_held m holder id o h is a = subst (AtLoader m holder id) is a
 
 -- the words that may be stored are in the table
@@ -63,7 +63,7 @@ module _ (t : Terms) (slots id : ℕ) (me : Seated) (caller : me.0.role ≡ role
   stands = ap is_nameless caller
 
   module _ (h : LoaderHolding) (is : me.0.loader ≡ Some h) (k x : ℕ) (inside : k < copy_words t) (s : Sit) (r : Holds s) (at : get_elem? s.views id ≡ some me.0) where
-    abbrev m : Memory
+    abbrev m : SharedWords
     m = memory_of t s.words
 
     -- the number of the copy that is not active
@@ -73,7 +73,7 @@ module _ (t : Terms) (slots id : ℕ) (me : Seated) (caller : me.0.role ≡ role
     abbrev copies' : ℕ → List ℕ
     copies' = updated (memory_of t s.words).copies (spare (get_or s.words 0 0)) (set ((memory_of t s.words).copies (spare (get_or s.words 0 0))) k x)
 
-    abbrev m' : Memory
+    abbrev m' : SharedWords
     m' = record (memory_of t s.words) { copies = copies' }
 
     abbrev w : Log

@@ -9,7 +9,7 @@ use Rattle.reg_model.specs.declared.answer.Update.{Update}
 use Rattle.tree_shape.specs.Numbers.{times, once}
 use Rattle.word_rule.specs.declared.log.Log.{Log}
 use Rattle.word_rule.specs.declared.log.Terms.{Terms}
-use Rattle.word_rule.specs.Memory.{Memory, memory_of}
+use Rattle.word_rule.specs.SharedWords.{SharedWords, memory_of}
 use Rattle.word_rule.specs.Places.{lower}
 use Rattle.word_rule.specs.Logs.{is_gone, is_nameless, weight, reader_log, reader_of}
 use Rattle.word_rule.specs.Callers.{total, CallersHold, IsAlone, LogHolds, LineagesHold, AtLoader, LoaderLock, dones_in}
@@ -20,7 +20,7 @@ use Rattle.word_rule.proofs.Facts.{total_snoc, behind}
 use Rattle.word_rule.proofs.SeatNodes.{holds_nothing}
 
 module _ (t : Terms) (words : List ℕ) (views : List Log) (r : TableInvariant t words views) (past : List Update) (begins : IsPrefix past r.memory.history) where
-  abbrev m : Memory
+  abbrev m : SharedWords
   m = memory_of t words
 
   abbrev one : Log

@@ -8,7 +8,7 @@ use mathlib.Core.Option.{some}
 use native.Mathlib.Decide.{ℕ_discrete}
 use lib.ListN.{get_elem?}
 use Rattle.reg_model.specs.declared.answer.Update.{Update}
-use Rattle.tree_shape.specs.declared.node.Frame.{Frame}
+use Rattle.tree_shape.specs.declared.node.NodeBounds.{NodeBounds}
 use Rattle.tree_shape.specs.Trees.{Contents, HasEntry}
 use Rattle.tree_shape.specs.Numbers.{times, once, is_among}
 use Rattle.tree_shape.specs.Lawful.{IsLawfulTree}
@@ -18,7 +18,7 @@ use Rattle.tree_shape.proofs.Times.{times-append, once_most}
 use Rattle.word_rule.specs.declared.log.Terms.{Terms}
 use Rattle.word_rule.specs.declared.log.Holding.{Holding}
 use Rattle.word_rule.specs.declared.log.Log.{Log}
-use Rattle.word_rule.specs.Memory.{NodeWords}
+use Rattle.word_rule.specs.SharedWords.{NodeWords}
 use Rattle.word_rule.specs.Held.{held_of, settled_shape, settled_in, now_in, is_marked, marked_in}
 use Rattle.word_rule.specs.Exchange.{ChangeLaws, is_fresh, exchanged_in, reached_in, is_reached, node_of, out_after, IsLawfulExchange}
 use Rattle.word_rule.specs.Callers.{total}
@@ -146,7 +146,7 @@ module _ (laws : ChangeLaws) (t : Terms) (words : NodeWords) (views : List Log) 
   pub marked_lock : (k : ℕ) → marked_in v.holdings.held k ≡ true → (h : Holding) × ((held_of k v.holdings.held ≡ Some h) × (shadow.live k ≡ true) × (shadow.settled k ≡ h.settled))
   marked_lock k marked = go (held_of k v.holdings.held) refl marked
     where
-      by_mark : (h : Holding) → held_of k v.holdings.held ≡ Some h → (o : Option Frame) → h.mark ≡ o → is_some o ≡ true → (shadow.live k ≡ true) × (shadow.settled k ≡ h.settled)
+      by_mark : (h : Holding) → held_of k v.holdings.held ≡ Some h → (o : Option NodeBounds) → h.mark ≡ o → is_some o ≡ true → (shadow.live k ≡ true) × (shadow.settled k ≡ h.settled)
       by_mark h is None e m = absurd (true≢false (sym m))
       by_mark h is (Some f) e m =
           let l = lock_of k h is in let told = subst (λ o. IfSome o (λ g. IsTrue (shadow.live h.node) × IsPlaced h.settled g)) e l.0.marked in

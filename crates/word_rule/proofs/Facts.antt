@@ -5,7 +5,7 @@ use native.Mathlib.Decide.{ℕ_discrete}
 use lib.ListN.{get_elem?}
 use Rattle.atomic_table.proofs.Lists.{at_set, at_snoc}
 use Rattle.word_rule.specs.declared.log.Log.{Log}
-use Rattle.word_rule.specs.Memory.{updated, node_counters}
+use Rattle.word_rule.specs.SharedWords.{updated, node_counters}
 use Rattle.word_rule.specs.Callers.{total}
 
 -- one log changes

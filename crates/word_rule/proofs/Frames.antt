@@ -7,7 +7,7 @@ use Rattle.atomic_table.specs.Table.{State}
 use Rattle.word_rule.specs.declared.log.Terms.{Terms}
 use Rattle.word_rule.specs.declared.log.LoadEvent.{LoadEvent}
 use Rattle.word_rule.specs.declared.log.Log.{Log}
-use Rattle.word_rule.specs.Memory.{Memory, memory_of}
+use Rattle.word_rule.specs.SharedWords.{SharedWords, memory_of}
 use Rattle.word_rule.specs.Logs.{is_nameless, turns}
 use Rattle.word_rule.specs.Callers.{total, CallersHold, IsAlone}
 use Rattle.word_rule.specs.Observations.{ObservationsHold}
@@ -47,10 +47,10 @@ module _ (t : Terms) (words : List ℕ) (views : List Log) (r : TableInvariant t
   load_step k holds still = subst (λ ws. TableInvariant t ws (set views id w)) (sym (set_same words k)) (no_word_step holds still)
 
 module _ (t : Terms) (words : List ℕ) (views : List Log) (r : TableInvariant t words views) (id : ℕ) (v w : Log) (at : get_elem? views id ≡ some v) (stands : is_nameless v.role ≡ false) where
-  abbrev m : Memory
+  abbrev m : SharedWords
   m = memory_of t words
 
-  pub table_step : (words' : List ℕ) (m' : Memory) → length words' ≡ length words → memory_of t words' ≡ m' → MemoryHolds t m' (set views id w) → (IsAlone w.lineage → IsStill words' w) → TableInvariant t words' (set views id w)
+  pub table_step : (words' : List ℕ) (m' : SharedWords) → length words' ≡ length words → memory_of t words' ≡ m' → MemoryHolds t m' (set views id w) → (IsAlone w.lineage → IsStill words' w) → TableInvariant t words' (set views id w)
   table_step words' m' wide is memory still = record {
     wide = wide ∙ r.wide;
     memory = subst (λ k. MemoryHolds t k (set views id w)) (sym is) memory;

@@ -10,7 +10,7 @@ use Rattle.tree_shape.specs.Lawful.{IsLawfulTree}
 use Rattle.word_rule.specs.declared.log.Role.TheVariants as role
 use Rattle.word_rule.specs.declared.log.Terms.{Terms}
 use Rattle.word_rule.specs.declared.log.Log.{Log}
-use Rattle.word_rule.specs.Memory.{Memory, memory_of}
+use Rattle.word_rule.specs.SharedWords.{SharedWords, memory_of}
 use Rattle.word_rule.specs.Logs.{is_gone, is_nameless, load_of, weight, own_list}
 use Rattle.word_rule.specs.Steps.{after_head_load}
 use Rattle.word_rule.specs.Callers.{total, IsIdle}
@@ -105,7 +105,7 @@ module _ (t : Terms) (slots id : ℕ) (me : Seated) (caller : me.0.role ≡ role
   looked entries_law order s r here =
       let found : ℕ = get_or s.words 1 0 in
       let w : Log = after_head_load found me.0 in
-      let m : Memory = memory_of t s.words in
+      let m : SharedWords = memory_of t s.words in
       let callers : ℕ = total (λ u. u.made) s.views + 1 in
       quiet t s.words s.views r id me.0 w here 1 (record { terms = refl; role = refl; past = refl; receipts = refl; allowance = refl; made = refl; lineage = refl }) refl refl (busy me.0 w caller)
       (r.memory.nodes.holdings id me.0 here) (λ _ k. k) (λ _. refl)

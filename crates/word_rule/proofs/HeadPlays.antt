@@ -13,7 +13,7 @@ use Rattle.word_rule.specs.declared.log.Role.TheVariants as role
 use Rattle.word_rule.specs.declared.log.Terms.{Terms}
 use Rattle.word_rule.specs.declared.log.Holding.{Holding}
 use Rattle.word_rule.specs.declared.log.Log.{Log}
-use Rattle.word_rule.specs.Memory.{NodeWords, Memory, memory_of}
+use Rattle.word_rule.specs.SharedWords.{NodeWords, SharedWords, memory_of}
 use Rattle.word_rule.specs.Spelling.{node_word, spelled}
 use Rattle.word_rule.specs.Held.{held_of, all_but}
 use Rattle.word_rule.specs.Logs.{is_gone, is_nameless, after_write}
@@ -114,7 +114,7 @@ module _ (t : Terms) (slots id : ℕ) (me : Seated) (caller : me.0.role ≡ role
     pub stored_head : length out ≤ 4 → IsChain (memory_of t s.words).nodes.contents x free → ((k : ℕ) → once (r.memory.shadow.live k) + times k free + total (λ v. times k v.holdings.out) (set s.views id w) ≡ once (nat_lt k t.nodes))
         → TableInvariant t (set s.words 1 x) (set s.views id w)
     stored_head few chain once_after =
-        let m : Memory = memory_of t s.words in
+        let m : SharedWords = memory_of t s.words in
         let like : IsLike me.0 w = record { terms = refl; role = refl; past = refl; receipts = refl; allowance = refl; made = refl; lineage = refl } in
         written t s.words s.views r id me.0 w at stands (set s.words 1 x) (record m { nodes = words' }) r.memory.history shadow' (length-set s.words 1 x) (set_head t s.words r.wide x) ([], append-nil r.memory.history)
         (callers_over_nodes t s.words s.views r id me.0 w at stands words' like refl (omega arith) (busy me.0 w caller))

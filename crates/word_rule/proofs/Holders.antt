@@ -4,13 +4,13 @@ use mathlib.Core.Option.{some}
 use lib.ListN.{get_elem?}
 use Rattle.reg_model.specs.declared.answer.Update.{Update}
 use Rattle.std.specs.List.{AllByRecursion}
-use Rattle.tree_shape.specs.declared.node.Frame.{Frame}
+use Rattle.tree_shape.specs.declared.node.NodeBounds.{NodeBounds}
 use Rattle.tree_shape.specs.Numbers.{once, times}
 use Rattle.tree_shape.proofs.Times.{once_most}
 use Rattle.word_rule.specs.declared.log.Terms.{Terms}
 use Rattle.word_rule.specs.declared.log.Holding.{Holding}
 use Rattle.word_rule.specs.declared.log.Log.{Log}
-use Rattle.word_rule.specs.Memory.{NodeWords}
+use Rattle.word_rule.specs.SharedWords.{NodeWords}
 use Rattle.word_rule.specs.Held.{held_of}
 use Rattle.word_rule.specs.Nodes.{Shadow, NodesHold, HoldsNode, IsPlaced}
 use Rattle.word_rule.specs.NodeTells.{KnowsTree, IsHeldNode, IsLiveNode, OutTells}
@@ -40,7 +40,7 @@ module _ (t : Terms) (words : NodeWords) (views : List Log) (history : List Upda
         all_map (HoldsNode t words shadow j) (λ h. h.node ≡ n → h.mark ≡ None) (λ h k e. no_mark h h.mark (ap shadow.live e ∙ dead) k.marked) u.holdings.held (r.holdings j u at).each,
       )
     where
-      no_mark : (h : Holding) (o : Option Frame) → shadow.live h.node ≡ false → IfSome o (λ f. IsTrue (shadow.live h.node) × IsPlaced h.settled f) → o ≡ None
+      no_mark : (h : Holding) (o : Option NodeBounds) → shadow.live h.node ≡ false → IfSome o (λ f. IsTrue (shadow.live h.node) × IsPlaced h.settled f) → o ≡ None
       no_mark h None dead told = refl
       no_mark h (Some f) dead told = absurd (true≢false (sym told.0 ∙ dead))
 
@@ -48,7 +48,7 @@ module _ (t : Terms) (words : NodeWords) (views : List Log) (history : List Upda
   pub holder_tells : ChildrenLaw → ((k : ℕ) → k < t.nodes → length (words.contents k) ≡ 35) → u.terms ≡ t → (n : ℕ) → IfSome (held_of n u.holdings.held) (IsHeldNode u.terms)
   holder_tells law wide terms n = go (held_of n u.holdings.held) refl
     where
-      live : (h : Holding) → HoldsNode t words shadow j h → (o : Option Frame) → IfSome o (λ f. IsTrue (shadow.live h.node) × IsPlaced h.settled f) → IfSome o (IsLiveNode u.terms h.node h.settled)
+      live : (h : Holding) → HoldsNode t words shadow j h → (o : Option NodeBounds) → IfSome o (λ f. IsTrue (shadow.live h.node) × IsPlaced h.settled f) → IfSome o (IsLiveNode u.terms h.node h.settled)
       live h k None told = tt
       live h k (Some f) told =
           subst (λ z. IsLiveNode z h.node h.settled f) (sym terms)
@@ -66,7 +66,7 @@ module _ (t : Terms) (words : NodeWords) (views : List Log) (history : List Upda
   pub marked_live : AllByRecursion (λ h. IsSome h.mark → IsTrue (shadow.live h.node) × (shadow.settled h.node ≡ h.settled)) u.holdings.held
   marked_live = all_map (HoldsNode t words shadow j) (λ h. IsSome h.mark → IsTrue (shadow.live h.node) × (shadow.settled h.node ≡ h.settled)) (λ h k is. (by_mark h h.mark is k.marked, sym k.settled)) u.holdings.held (r.holdings j u at).each
     where
-      by_mark : (h : Holding) (o : Option Frame) → IsSome o → IfSome o (λ f. IsTrue (shadow.live h.node) × IsPlaced h.settled f) → IsTrue (shadow.live h.node)
+      by_mark : (h : Holding) (o : Option NodeBounds) → IsSome o → IfSome o (λ f. IsTrue (shadow.live h.node) × IsPlaced h.settled f) → IsTrue (shadow.live h.node)
       by_mark h None is told = absurd (true≢false (sym is))
       by_mark h (Some f) is told = told.0
 

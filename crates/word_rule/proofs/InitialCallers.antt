@@ -6,7 +6,7 @@ use borrow.Author.Tests.{le-leb, lt-leb}
 use Rattle.word_rule.specs.declared.log.Log.{Log}
 use Rattle.word_rule.specs.declared.log.Terms.{Terms}
 use Rattle.word_rule.specs.Places.{word_count, copy_words, initial_node, initial_nodes, initial_words}
-use Rattle.word_rule.specs.Memory.{memory_of, node_counters, copy_of}
+use Rattle.word_rule.specs.SharedWords.{memory_of, node_counters, copy_of}
 use Rattle.word_rule.proofs.Memories.{load_version_at}
 use Rattle.word_rule.specs.Logs.{first_log, is_nameless}
 use Rattle.word_rule.specs.Callers.{dones_in, CallersHold, LogHolds, AreTerms, AtLoader, number_of}

@@ -12,7 +12,7 @@ use Rattle.tree_shape.specs.Numbers.{times, once}
 use Rattle.tree_shape.specs.Lawful.{IsLawfulTree, IsOrdered, IsFilled, FitsParent}
 use Rattle.word_rule.specs.declared.log.Terms.{Terms}
 use Rattle.word_rule.specs.Places.{copy_words, copy_place, initial_kind, initial_link, initial_node, initial_nodes, initial_words}
-use Rattle.word_rule.specs.Memory.{memory_of, part, copy_of}
+use Rattle.word_rule.specs.SharedWords.{memory_of, part, copy_of}
 use Rattle.word_rule.specs.Spelling.{node_word, spelled}
 use Rattle.word_rule.specs.Logs.{first_log}
 use Rattle.word_rule.specs.Callers.{AreTerms, start}

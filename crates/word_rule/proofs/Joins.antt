@@ -30,7 +30,7 @@ use Rattle.word_rule.specs.CallerInvariant.{IsNote}
 use Rattle.word_rule.proofs.CallersFrame.{none_before}
 use Rattle.word_rule.proofs.Facts.{total_set, total_snoc, total_set_two, after_step, within, decided, behind}
 use Rattle.word_rule.proofs.Shares.{part_less, part_some, part_within}
-use Rattle.word_rule.specs.Memory.{Memory, memory_of}
+use Rattle.word_rule.specs.SharedWords.{SharedWords, memory_of}
 use Rattle.word_rule.specs.Nodes.{Shadow}
 use Rattle.word_rule.specs.Copies.{CopySightHolds}
 use Rattle.word_rule.specs.Observations.{SightHolds, WasFull, ObservationsHold}
@@ -86,7 +86,7 @@ pub record Forks (v w : Log) : Type 0 where
   pub lineage : w.lineage ≡ after_fork v.lineage
   pub enough : 2 ≤ v.lineage.share
 
-module _ (t : Terms) (m : Memory) (views : List Log) (history : List Update) (r : CallersHold t m views history) (id : ℕ) (v w : Log) (role : Role) (budget : Budget) (at : get_elem? views id ≡ some v) (stands : is_nameless v.role ≡ false) (lives : is_nameless role ≡ false) (forks : Forks v w) (idle : weight w.role ≡ 0 → IsIdle w) where
+module _ (t : Terms) (m : SharedWords) (views : List Log) (history : List Update) (r : CallersHold t m views history) (id : ℕ) (v w : Log) (role : Role) (budget : Budget) (at : get_elem? views id ≡ some v) (stands : is_nameless v.role ≡ false) (lives : is_nameless role ≡ false) (forks : Forks v w) (idle : weight w.role ≡ 0 → IsIdle w) where
   abbrev child : Log
   child = child_log role budget v
 
@@ -194,7 +194,7 @@ pub record Gains (v u b : Log) (lists : List ReceiptList) : Type 0 where
   pub lineage : b.lineage ≡ joined_lineage v.lineage u.lineage
   pub counts : (n : ℕ) → dones_of_all n lists ≡ dones_in n u
 
-module _ (t : Terms) (m : Memory) (views : List Log) (history : List Update) (r : CallersHold t m views history) (id other : ℕ) (v u b : Log) (lists : List ReceiptList) (at : get_elem? views id ≡ some v) (ne : other ≢ id)
+module _ (t : Terms) (m : SharedWords) (views : List Log) (history : List Update) (r : CallersHold t m views history) (id other : ℕ) (v u b : Log) (lists : List ReceiptList) (at : get_elem? views id ≡ some v) (ne : other ≢ id)
     (there : get_elem? (set views id b) other ≡ some u) (stands : is_nameless v.role ≡ false) (stood : is_nameless u.role ≡ false) (free : u.loader ≡ None) (gains : Gains v u b lists) (idle : weight b.role ≡ 0 → IsIdle b) where
   abbrev one : List Log
   one = set views id b
@@ -306,7 +306,7 @@ module _ (t : Terms) (id : ℕ) (v : Log) (caller : v.role ≡ role.Caller) wher
     others j u far there alone = absurd (none_alone s.views r.memory.callers.lineages id j v u at stands there far alone)
 
   -- one that has observed nothing
-  fresh : (m : Memory) (history : List Update) (callers : ℕ) (shadow : Shadow) (u : Log) → u.sights ≡ record { nodes = []; copies = None } → u.trace.loads ≡ [] → ObservationsHold t m history callers shadow u
+  fresh : (m : SharedWords) (history : List Update) (callers : ℕ) (shadow : Shadow) (u : Log) → u.sights ≡ record { nodes = []; copies = None } → u.trace.loads ≡ [] → ObservationsHold t m history callers shadow u
   fresh m history callers shadow u sights loads = record {
     sights = subst (λ k. AllByRecursion (SightHolds t m.nodes history shadow) k.nodes) (sym sights) tt;
     copies = subst (λ k. IfSome k.copies (CopySightHolds t m.clock m.copies)) (sym sights) tt;

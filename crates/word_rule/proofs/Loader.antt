@@ -16,7 +16,7 @@ use Rattle.word_rule.specs.declared.log.Terms.{Terms}
 use Rattle.word_rule.specs.declared.log.LoadEvent.{LoadEvent}
 use Rattle.word_rule.specs.declared.log.LoaderHolding.{LoaderHolding}
 use Rattle.word_rule.specs.Places.{spare, upper}
-use Rattle.word_rule.specs.Memory.{Memory, memory_of, copy_of}
+use Rattle.word_rule.specs.SharedWords.{SharedWords, memory_of, copy_of}
 use Rattle.word_rule.specs.Logs.{is_gone, is_nameless, weight, turns, load_of, IsTaken, after_load, after_loader_lock, after_write, after_loader_release, after_loader_release_same, own_list}
 use Rattle.word_rule.specs.Callers.{total, AtLoader, LoaderLock, IsLockedAt}
 use Rattle.word_rule.specs.Observations.{ObservationsHold, WasFull}
@@ -30,7 +30,7 @@ use Rattle.word_rule.proofs.ObservationsFrame.{Loads, no_more, observations_same
 use Rattle.word_rule.proofs.Frames.{Sit, table_step, loader_memory, still_after_turn, still_after_load}
 
 -- a log's part in the lock stays where the word goes on to be its version, locked
-part_stays : (m : Memory) (x : ℕ) (holder : Option ℕ) (j : ℕ) (mine : Option LoaderHolding) → ((version : ℕ) → IsLockedAt version m.loader → IsLockedAt version x) → AtLoader m holder j mine → AtLoader (record m { loader = x }) holder j mine
+part_stays : (m : SharedWords) (x : ℕ) (holder : Option ℕ) (j : ℕ) (mine : Option LoaderHolding) → ((version : ℕ) → IsLockedAt version m.loader → IsLockedAt version x) → AtLoader m holder j mine → AtLoader (record m { loader = x }) holder j mine
 part_stays m x holder j None keeps_lock h = tt
 part_stays m x holder j (Some g) keeps_lock h = (h.0, record { locked = keeps_lock g.version h.1.locked; published = h.1.published; active = h.1.active; spare = h.1.spare })
 
@@ -70,7 +70,7 @@ module _ (t : Terms) (slots id : ℕ) (me : Seated) (caller : me.0.role ≡ role
   loaded s r at =
       let x : ℕ = get_or s.words 2 0 in
       let w : Log = after_load 2 x me.0 in
-      let m : Memory = memory_of t s.words in
+      let m : SharedWords = memory_of t s.words in
       let like : IsLike me.0 w = record { terms = refl; role = refl; past = refl; receipts = refl; allowance = refl; made = refl; lineage = refl } in
       table_step t s.words s.views r id me.0 w at stands (set s.words 2 x) (record m { loader = x }) (length-set s.words 2 x) (set_loader t s.words r.wide x)
       (loader_memory t s.words s.views r id me.0 w at stands x refl refl
@@ -101,11 +101,11 @@ module _ (t : Terms) (slots id : ℕ) (me : Seated) (caller : me.0.role ≡ role
           absurd (⊎_elim (λ (e : get_or s.words 2 0 ≡ h.1.version + 1). let z = locked.0 in omega (arith, e, z, even)) (λ (e : get_or s.words 2 0 ≡ h.1.version + 3). let z = locked.0 in omega (arith, e, z, even)) locked.1)
 
   -- where nobody holds it, no log has it
-  no_part : (m : Memory) (holder : Option ℕ) (j : ℕ) (mine : Option LoaderHolding) → holder ≢ Some j → AtLoader m holder j mine → mine ≡ None
+  no_part : (m : SharedWords) (holder : Option ℕ) (j : ℕ) (mine : Option LoaderHolding) → holder ≢ Some j → AtLoader m holder j mine → mine ≡ None
   no_part m holder j None other h = refl
   no_part m holder j (Some g) other h = absurd (other h.0)
 
-  nothing : (m : Memory) (holder : Option ℕ) (j : ℕ) (mine : Option LoaderHolding) → mine ≡ None → AtLoader m holder j mine
+  nothing : (m : SharedWords) (holder : Option ℕ) (j : ℕ) (mine : Option LoaderHolding) → mine ≡ None → AtLoader m holder j mine
   nothing m holder j mine is = subst (AtLoader m holder j) (sym is) tt
 
   counter_bound : (s : Sit) (r : Holds s) → get_or s.words 2 0 / 4 ≤ 2 ^ 60 + 2 ^ 32
@@ -121,7 +121,7 @@ module _ (t : Terms) (slots id : ℕ) (me : Seated) (caller : me.0.role ≡ role
       let free : r.memory.callers.holder ≡ None = even_is_free s r (rw hit even) in
       let four : seen % 4 ≡ 0 = rw hit at (subst (LoaderLock n s.views) free r.memory.callers.loader) in
       let bound = counter_bound s r in
-      let m : Memory = memory_of t s.words in
+      let m : SharedWords = memory_of t s.words in
       let u : ℕ = upper (get_or s.words 0 0) in
       let h : LoaderHolding = record { version = seen; published = u; active = copy_of t s.words (u % 2); spare = copy_of t s.words (spare (get_or s.words 0 0)); stored = false } in
       let w : Log = after_loader_lock h me.0 in
@@ -154,7 +154,7 @@ module _ (t : Terms) (slots id : ℕ) (me : Seated) (caller : me.0.role ≡ role
       (◌≡◌ {A = Seated} (w, carried_after me.1 a) (after_write me.0, me.1)) (◌≡◌ {A = Seated} (w, carried_after me.1 a) (after_load 2 n me.0, me.1)))
       (λ hit.
       let w : Log = after_write me.0 in
-      let m : Memory = memory_of t s.words in
+      let m : SharedWords = memory_of t s.words in
       let keeps_lock : (version : ℕ) → IsLockedAt version (get_or s.words 2 0) → IsLockedAt version (marked seen) = λ version h. (h.0, inr (⊎_elim (λ (e : get_or s.words 2 0 ≡ version + 1). let z = h.0 in omega (arith, e, z, hit)) (λ (e : get_or s.words 2 0 ≡ version + 3). let z = h.0 in omega (arith, e, z, hit)) h.1)) in (
         w,
         keeps,
@@ -177,7 +177,7 @@ module _ (t : Terms) (slots id : ℕ) (me : Seated) (caller : me.0.role ≡ role
       → x / 4 + w.budget.credit ≤ get_or s.words 2 0 / 4 + me.0.budget.credit → TableInvariant t (set s.words 2 x) (set s.views id w)
   lets_go s r h w x at is like holdings sights loads turn gone clean four fewer =
       let mine = mine_held s r h at is in
-      let m : Memory = memory_of t s.words in
+      let m : SharedWords = memory_of t s.words in
       writes s r w x None at like holdings sights loads turn fewer (λ _. subst (λ o. IfSome o (λ g. g.stored ≡ false)) (sym is) clean) four
       (after_step (λ j u. AtLoader (record m { loader = x }) None j u.loader) s.views id w (nothing (record m { loader = x }) None id w.loader gone)
       (λ j u other e. nothing (record m { loader = x }) None j u.loader (no_part m r.memory.callers.holder j u.loader (λ held. other (same_Some _ _ (sym held ∙ mine.0))) (r.memory.callers.at_loader j u e))))

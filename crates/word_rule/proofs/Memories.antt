@@ -4,7 +4,7 @@ use native.Mathlib.Decide.{ℕ_discrete, dec_le}
 use borrow.Author.Tests.{lt-ltb, le-ltb}
 use Rattle.word_rule.specs.declared.log.Terms.{Terms}
 use Rattle.word_rule.specs.Places.{copy_place, copy_words, word_count}
-use Rattle.word_rule.specs.Memory.{Memory, memory_of, part, copy_of, updated}
+use Rattle.word_rule.specs.SharedWords.{SharedWords, memory_of, part, copy_of, updated}
 
 -- a list with an item put where it stands already
 pub set_same : (words : List ℕ) (j : ℕ) → set words j (get_or words j 0) ≡ words
@@ -98,7 +98,7 @@ by_same n m P same other = go (ℕ_discrete n m)
     go (no ne) = subst P (sym (ne_eqb n m ne)) (other ne)
 
 module _ (t : Terms) (words : List ℕ) (wide : length words ≡ word_count t) (x : ℕ) where
-  abbrev m : Memory
+  abbrev m : SharedWords
   m = memory_of t words
 
   -- what a word at this place leaves of the nodes and of the copies

@@ -21,7 +21,7 @@ use Rattle.word_rule.specs.declared.log.Holding.{Holding}
 use Rattle.word_rule.specs.declared.log.CopySight.{CopySight}
 use Rattle.word_rule.specs.declared.log.Log.{Log}
 use Rattle.word_rule.specs.Places.{is_of_copy, copy_place, copy_words}
-use Rattle.word_rule.specs.Memory.{Memory, memory_of, copy_of}
+use Rattle.word_rule.specs.SharedWords.{SharedWords, memory_of, copy_of}
 use Rattle.word_rule.specs.Spelling.{node_word}
 use Rattle.word_rule.specs.Logs.{is_gone, load_of, own_list}
 use Rattle.word_rule.specs.Sights.{with_copy_word, after_copy_load}
@@ -117,7 +117,7 @@ module _ (t : Terms) (slots id : ℕ) (me : Seated) (live : is_gone me.0.role �
   loads_copy_word at far s r deep here small =
       let found : ℕ = get_or s.words at 0 in
       let w : Log = after_copy_load at found me.0 in
-      let m : Memory = memory_of t s.words in
+      let m : SharedWords = memory_of t s.words in
       let callers : ℕ = total (λ u. u.made) s.views + 1 in
       let terms : me.0.terms ≡ t = (r.memory.callers.each id me.0 here).terms live in
       let o = r.memory.observations id me.0 here in

@@ -7,14 +7,14 @@ use mathlib.Core.Option.{some}
 use native.Mathlib.Decide.{ℕ_discrete}
 use lib.ListN.{get_elem?}
 use Rattle.atomic_table.proofs.Lists.{set_here}
-use Rattle.tree_shape.specs.declared.node.Frame.{Frame}
+use Rattle.tree_shape.specs.declared.node.NodeBounds.{NodeBounds}
 use Rattle.tree_shape.specs.Numbers.{times, once}
 use Rattle.word_rule.specs.declared.log.Role.TheVariants as role
 use Rattle.word_rule.specs.declared.log.Terms.{Terms}
 use Rattle.word_rule.specs.declared.log.Holding.{Holding}
 use Rattle.word_rule.specs.declared.log.NodeSight.{NodeSight}
 use Rattle.word_rule.specs.declared.log.Log.{Log}
-use Rattle.word_rule.specs.Memory.{NodeWords, Memory, memory_of, updated, node_counters}
+use Rattle.word_rule.specs.SharedWords.{NodeWords, SharedWords, memory_of, updated, node_counters}
 use Rattle.word_rule.specs.Spelling.{SpellsNode}
 use Rattle.word_rule.specs.Held.{held_of}
 use Rattle.word_rule.specs.Logs.{is_nameless, load_of, after_load, own_list}
@@ -80,7 +80,7 @@ module _ (t : Terms) (slots id : ℕ) (me : Seated) (caller : me.0.role ≡ role
       (λ alone. still_after_load s.words me.0 w (load_of me.0 (4 + 36 * n) found) refl refl refl (r.alone id me.0 here alone))
 
   module _ (n seen : ℕ) (inside : n < t.nodes) (s : Sit) (r : Holds s) (at : get_elem? s.views id ≡ some me.0) (hit : (memory_of t s.words).nodes.versions n ≡ seen) (even : seen % 2 ≡ 0)
-      (mark : Option Frame) (marks : IfSome mark (λ f. IsTrue (r.memory.shadow.live n) × IsPlaced (r.memory.shadow.settled n) f)) where
+      (mark : Option NodeBounds) (marks : IfSome mark (λ f. IsTrue (r.memory.shadow.live n) × IsPlaced (r.memory.shadow.settled n) f)) where
     abbrev words : NodeWords
     words = (memory_of t s.words).nodes
 
@@ -213,7 +213,7 @@ module _ (t : Terms) (slots id : ℕ) (me : Seated) (caller : me.0.role ≡ role
 
     pub locked : TableInvariant t (set s.words (4 + 36 * n) (seen + 1)) (set s.views id w)
     locked =
-        let m : Memory = memory_of t s.words in
+        let m : SharedWords = memory_of t s.words in
         let like : IsLike me.0 w = record { terms = refl; role = refl; past = refl; receipts = refl; allowance = refl; made = refl; lineage = refl } in
         let sum = node_counters_at m.nodes.versions n (seen + 1) t.nodes inside in let f = four in let before = hit in
         written t s.words s.views r id me.0 w at stands (set s.words (4 + 36 * n) (seen + 1)) (record m { nodes = words' }) r.memory.history shadow' (length-set s.words (4 + 36 * n) (seen + 1)) (set_version t s.words r.wide (seen + 1) n inside) ([], append-nil r.memory.history)

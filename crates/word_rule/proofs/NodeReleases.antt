@@ -17,7 +17,7 @@ use Rattle.word_rule.specs.declared.log.Budget.{Budget}
 use Rattle.word_rule.specs.declared.log.Terms.{Terms}
 use Rattle.word_rule.specs.declared.log.Holding.{Holding}
 use Rattle.word_rule.specs.declared.log.Log.{Log}
-use Rattle.word_rule.specs.Memory.{NodeWords, memory_of, updated}
+use Rattle.word_rule.specs.SharedWords.{NodeWords, memory_of, updated}
 use Rattle.word_rule.specs.Spelling.{spelled, SpellsNode}
 use Rattle.word_rule.specs.Held.{held_of, without_lock, now_of}
 use Rattle.word_rule.specs.Logs.{after_spending}

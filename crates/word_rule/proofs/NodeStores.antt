@@ -6,7 +6,7 @@ use native.Mathlib.Decide.{ℕ_discrete}
 use lib.ListN.{get_elem?}
 use Rattle.atomic_table.specs.Table.{step, keeps, Allows}
 use Rattle.atomic_table.proofs.Lists.{set_here}
-use Rattle.tree_shape.specs.declared.node.Frame.{Frame}
+use Rattle.tree_shape.specs.declared.node.NodeBounds.{NodeBounds}
 use Rattle.tree_shape.specs.Numbers.{times, once, is_among}
 use Rattle.tree_shape.proofs.Times.{once_most}
 use Rattle.word_rule.specs.declared.log.Role.TheVariants as role
@@ -14,7 +14,7 @@ use Rattle.word_rule.specs.declared.log.Terms.{Terms}
 use Rattle.word_rule.specs.declared.log.Holding.{Holding}
 use Rattle.word_rule.specs.declared.log.NodeSight.{NodeSight}
 use Rattle.word_rule.specs.declared.log.Log.{Log}
-use Rattle.word_rule.specs.Memory.{NodeWords, Memory, memory_of, updated}
+use Rattle.word_rule.specs.SharedWords.{NodeWords, SharedWords, memory_of, updated}
 use Rattle.word_rule.specs.Spelling.{node_word}
 use Rattle.word_rule.specs.Held.{held_of}
 use Rattle.word_rule.specs.Logs.{is_nameless}
@@ -87,7 +87,7 @@ module _ (t : Terms) (id : ℕ) (v : Log) (caller : v.role ≡ role.Caller) (n a
   place_is : IsTrue (r.memory.shadow.live n) ⊎ ((0 < times n v.holdings.out) × (r.memory.shadow.live n ≡ false))
   place_is = ⊎_elim (λ (m : IsSome hn.mark). inl (by_mark hn.mark m my_lock.0.marked)) (λ (o : IsTrue (is_among v.holdings.out n)). inr (ltb_true 0 (times n v.holdings.out) o, dead (r.memory.shadow.live n) refl (ltb_true 0 (times n v.holdings.out) o))) may
     where
-      by_mark : (o : Option Frame) → IsSome o → IfSome o (λ f. IsTrue (r.memory.shadow.live hn.node) × IsPlaced hn.settled f) → IsTrue (r.memory.shadow.live n)
+      by_mark : (o : Option NodeBounds) → IsSome o → IfSome o (λ f. IsTrue (r.memory.shadow.live hn.node) × IsPlaced hn.settled f) → IsTrue (r.memory.shadow.live n)
       by_mark None m told = absurd (true≢false (sym m))
       by_mark (Some f) m told = ap r.memory.shadow.live (sym my_lock.1) ∙ told.0
 
@@ -209,7 +209,7 @@ module _ (t : Terms) (id : ℕ) (v : Log) (caller : v.role ≡ role.Caller) (n a
 
   pub stored_table : TableInvariant t (set s.words (4 + 36 * n + at) value) (set s.views id (stored_log n at value v))
   stored_table =
-      let m : Memory = memory_of t s.words in
+      let m : SharedWords = memory_of t s.words in
       written t s.words s.views r id v w here (ap is_nameless caller) (set s.words (4 + 36 * n + at) value) (record m { nodes = words' }) r.memory.history shadow' (length-set s.words (4 + 36 * n + at) value) (set_content t s.words r.wide value n at inside low high) ([], append-nil r.memory.history)
       (callers_over_nodes t s.words s.views r id v w here (ap is_nameless caller) words' (record { terms = refl; role = refl; past = refl; receipts = refl; allowance = refl; made = refl; lineage = refl }) refl (omega arith) (busy v w caller)) nodes r.memory.active refl sights (λ k p. p)
       (record { own = refl; sights = refl; loads = refl; turn = omega arith })

@@ -10,7 +10,7 @@ use native.Mathlib.Decide.{ℕ_discrete}
 use lib.ListN.{get_elem?}
 use prog.Atomic.{either}
 use Rattle.atomic_table.specs.Table.{step, Act, keeps, stepped, carried_after, Valid, Allows}
-use Rattle.tree_shape.specs.declared.node.Frame.{Frame}
+use Rattle.tree_shape.specs.declared.node.NodeBounds.{NodeBounds}
 use Rattle.tree_shape.specs.NodeData.{NodeData}
 use Rattle.tree_shape.specs.Trees.{Contents, Branch, branches}
 use Rattle.tree_shape.specs.Lawful.{FitsParent}
@@ -23,7 +23,7 @@ use Rattle.word_rule.specs.declared.log.LockId.TheVariants as lock
 use Rattle.word_rule.specs.Places.{word_count}
 use Rattle.word_rule.specs.VersionLocks.{IsLock, lock_place}
 use Rattle.word_rule.proofs.Loader.{marks_by_bits}
-use Rattle.word_rule.specs.Memory.{NodeWords, memory_of, updated}
+use Rattle.word_rule.specs.SharedWords.{NodeWords, memory_of, updated}
 use Rattle.word_rule.specs.Spelling.{SpellsNode}
 use Rattle.word_rule.specs.Held.{held_of}
 use Rattle.word_rule.specs.Logs.{is_gone, is_nameless, after_load, after_write}
@@ -68,10 +68,10 @@ module _ (t : Terms) (slots id : ℕ) (me : Seated) (caller : me.0.role ≡ role
     abbrev nodes : NodeWords
     nodes = (memory_of t s.words).nodes
 
-    abbrev IsLive : ℕ → Frame → Type 0
+    abbrev IsLive : ℕ → NodeBounds → Type 0
     IsLive n f = IsTrue (r.memory.shadow.live n) × IsPlaced (r.memory.shadow.settled n) f
 
-    named_by : (n : ℕ) (h : Holding) (o : Option Frame) → HoldsNode t (memory_of t s.words).nodes r.memory.shadow id h → IfSome o (λ f. IsTrue (r.memory.shadow.live h.node) × IsPlaced h.settled f) → IfSome (place_by n o h) (λ f. IsTrue (r.memory.shadow.live n) × IsPlaced (r.memory.shadow.settled n) f)
+    named_by : (n : ℕ) (h : Holding) (o : Option NodeBounds) → HoldsNode t (memory_of t s.words).nodes r.memory.shadow id h → IfSome o (λ f. IsTrue (r.memory.shadow.live h.node) × IsPlaced h.settled f) → IfSome (place_by n o h) (λ f. IsTrue (r.memory.shadow.live n) × IsPlaced (r.memory.shadow.settled n) f)
     named_by n h None k marked = tt
     named_by n h (Some f) k marked =
         named r.memory.shadow.settled r.memory.shadow.live n (branches (h.settled.level - 1) h.settled)
@@ -81,7 +81,7 @@ module _ (t : Terms) (slots id : ℕ) (me : Seated) (caller : me.0.role ≡ role
     by_held n [] all = tt
     by_held n (h ∷ held) all = go (place_by n h.mark h) (named_by n h h.mark all.0 all.0.marked) (by_held n held all.1)
       where
-        go : (o : Option Frame) → IfSome o (λ f. IsTrue (r.memory.shadow.live n) × IsPlaced (r.memory.shadow.settled n) f) → IfSome (place_by_held n held) (λ f. IsTrue (r.memory.shadow.live n) × IsPlaced (r.memory.shadow.settled n) f)
+        go : (o : Option NodeBounds) → IfSome o (λ f. IsTrue (r.memory.shadow.live n) × IsPlaced (r.memory.shadow.settled n) f) → IfSome (place_by_held n held) (λ f. IsTrue (r.memory.shadow.live n) × IsPlaced (r.memory.shadow.settled n) f)
             → IfSome (first_mark o (place_by_held n held)) (λ f. IsTrue (r.memory.shadow.live n) × IsPlaced (r.memory.shadow.settled n) f)
         go None told rest = rest
         go (Some f) told rest = told
@@ -111,7 +111,7 @@ module _ (t : Terms) (slots id : ℕ) (me : Seated) (caller : me.0.role ≡ role
     marks_seen : (n seen : ℕ) → (memory_of t s.words).nodes.versions n ≡ seen → IfSome (mark_at_version n seen (r.memory.shadow.settled n) me.0) (λ f. IsTrue (r.memory.shadow.live n) × IsPlaced (r.memory.shadow.settled n) f)
     marks_seen n seen hit = go (mark_at_lock n (r.memory.shadow.settled n) me.0.holdings.held) (marks_live n) (by_sight n seen hit)
       where
-        go : (o : Option Frame) → IfSome o (λ f. IsTrue (r.memory.shadow.live n) × IsPlaced (r.memory.shadow.settled n) f) → IfSome (place_at seen (sight_of n me.0.sights.nodes)) (λ f. IsTrue (r.memory.shadow.live n) × IsPlaced (r.memory.shadow.settled n) f)
+        go : (o : Option NodeBounds) → IfSome o (λ f. IsTrue (r.memory.shadow.live n) × IsPlaced (r.memory.shadow.settled n) f) → IfSome (place_at seen (sight_of n me.0.sights.nodes)) (λ f. IsTrue (r.memory.shadow.live n) × IsPlaced (r.memory.shadow.settled n) f)
             → IfSome (first_mark o (place_at seen (sight_of n me.0.sights.nodes))) (λ f. IsTrue (r.memory.shadow.live n) × IsPlaced (r.memory.shadow.settled n) f)
         go None held seen_there = seen_there
         go (Some f) held seen_there = held
@@ -127,7 +127,7 @@ module _ (t : Terms) (slots id : ℕ) (me : Seated) (caller : me.0.role ≡ role
             λ same. subst (λ k. AreOfNode ((memory_of t s.words).nodes.contents k) c.words) is.1 (is.0.loaded (inl (ap (memory_of t s.words).nodes.versions is.1 ∙ (hit ∙ sym same))))
 
     -- what is marked is live at its place, as a log is told it
-    each_live : (n : ℕ) (o : Option Frame) → IfSome o (λ f. IsTrue (r.memory.shadow.live n) × IsPlaced (r.memory.shadow.settled n) f) → IfSome o (IsLiveNode t n (r.memory.shadow.settled n))
+    each_live : (n : ℕ) (o : Option NodeBounds) → IfSome o (λ f. IsTrue (r.memory.shadow.live n) × IsPlaced (r.memory.shadow.settled n) f) → IfSome o (IsLiveNode t n (r.memory.shadow.settled n))
     each_live n None told = tt
     each_live n (Some f) told = is_live_node t (memory_of t s.words).nodes s.views r.memory.history r.memory.shadow r.memory.nodes children n f told.0 told.1
 

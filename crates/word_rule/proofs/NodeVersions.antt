@@ -9,7 +9,7 @@ use native.Mathlib.Decide.{ℕ_discrete}
 use Rattle.atomic_table.specs.Table.{step, keeps, Allows}
 use Rattle.reg_model.specs.declared.answer.Update.{Update}
 use Rattle.reg_model.specs.declared.answer.Receipt.{Receipt}
-use Rattle.tree_shape.specs.declared.node.Frame.{Frame}
+use Rattle.tree_shape.specs.declared.node.NodeBounds.{NodeBounds}
 use Rattle.tree_shape.specs.declared.pair.Pair.{Pair}
 use Rattle.reg_model.specs.History.{state_after, state_at}
 use Rattle.tree_shape.specs.NodeData.{Body, Pairs, Entries, Link, frame_of, pairs_in}
@@ -23,7 +23,7 @@ use Rattle.word_rule.specs.declared.log.Terms.{Terms}
 use Rattle.word_rule.specs.declared.log.LoadedWord.{LoadedWord}
 use Rattle.word_rule.specs.declared.log.NodeSight.{NodeSight}
 use Rattle.word_rule.specs.declared.log.Log.{Log}
-use Rattle.word_rule.specs.Memory.{NodeWords, Memory, memory_of}
+use Rattle.word_rule.specs.SharedWords.{NodeWords, SharedWords, memory_of}
 use Rattle.word_rule.specs.Spelling.{node_word, is_short, pair_at, pairs_at, SpellsNode}
 use Rattle.word_rule.specs.Logs.{is_gone, is_nameless, weight, turns, load_of, after_load, own_list}
 use Rattle.word_rule.specs.NodeTells.{AloneTells, IsLiveNode, IsOfNode}
@@ -69,7 +69,7 @@ loaded_is words (w ∷ loaded) at x all e = go (ℕ_discrete w.at at) (loaded_is
     go (no ne) rest = rest (rw (ne_eqb w.at at ne) at e)
 
 -- the parts of a place between two fences
-between : (place : Frame) (low high : Option ℕ) (p : Frame) → place_between place low high ≡ Some p → (l : ℕ) × (h : ℕ) × ((low ≡ Some l) × (high ≡ Some h) × (p ≡ record { level = place.level - 1; low = l; high = h }))
+between : (place : NodeBounds) (low high : Option ℕ) (p : NodeBounds) → place_between place low high ≡ Some p → (l : ℕ) × (h : ℕ) × ((low ≡ Some l) × (high ≡ Some h) × (p ≡ record { level = place.level - 1; low = l; high = h }))
 between place None high p e = absurd (none-some p e)
 between place (Some l) None p e = absurd (none-some p e)
 between place (Some l) (Some h) p e = (l, h, (refl, refl, sym (same_Some _ _ e)))
@@ -78,9 +78,9 @@ mapped : (o : Option ℕ) (x : ℕ) → option_map (λ separator. separator + 1)
 mapped None x e = absurd (none-some x e)
 mapped (Some y) x e = (y, (refl, sym (same_Some _ _ e)))
 
-module _ (f : Contents) (live : ℕ → Bool) (words : List ℕ) (loaded : List LoadedWord) (all : AreOfNode words loaded) (child : ℕ) (place : Frame) where
+module _ (f : Contents) (live : ℕ → Bool) (words : List ℕ) (loaded : List LoadedWord) (all : AreOfNode words loaded) (child : ℕ) (place : NodeBounds) where
   -- the child that is named among the pairs from the i-th on is live, at the place that its pair gives
-  named : (i more low : ℕ) (pairs : List Pair) (p : Frame) → pairs_at words (6 + 2 * i) more ≡ Some pairs → ((l : ℕ) → low_of place i loaded ≡ Some l → l ≡ low)
+  named : (i more low : ℕ) (pairs : List Pair) (p : NodeBounds) → pairs_at words (6 + 2 * i) more ≡ Some pairs → ((l : ℕ) → low_of place i loaded ≡ Some l → l ≡ low)
       → AllByRecursion (λ b. IsTrue (live b.child) × FitsParent f b) (branches_from (place.level - 1) low pairs) → named_place child place loaded i more ≡ Some p → IsTrue (live child) × IsPlaced (f child) p
   named i zero low pairs p read first hold e = absurd (none-some p e)
   named i (suc more) low pairs p read first hold e = by_pair (λ low' ys. named (i + 1) more low' ys p) (is_short (node_word words (6 + 2 * i))) (pairs_at words (6 + 2 * i + 2) more) refl read
@@ -130,13 +130,13 @@ module _ (f : Contents) (live : ℕ → Bool) (words : List ℕ) (loaded : List 
 
 module _ (t : Terms) (words : NodeWords) (views : List Log) (history : List Update) (shadow : Shadow) (r : NodesHold t words views history shadow) (law : ChildrenLaw) where
   -- the place that a sight that stands gives to a child
-  under : (s : NodeSight) → SightHolds t words history shadow s → Stands words.versions shadow s → (child : ℕ) (p : Frame) → place_under child s (place_of s) ≡ Some p → IsTrue (shadow.live child) × IsPlaced (shadow.settled child) p
+  under : (s : NodeSight) → SightHolds t words history shadow s → Stands words.versions shadow s → (child : ℕ) (p : NodeBounds) → place_under child s (place_of s) ≡ Some p → IsTrue (shadow.live child) × IsPlaced (shadow.settled child) p
   under s h stands child p e = go (place_of s) (h.marked stands) e
     where
       spells : SpellsNode (words.contents s.node) (shadow.settled s.node)
       spells = stands_spells t words views history shadow r s h.within h.even stands
 
-      go : (o : Option Frame) → IfSome o (λ f. IsTrue (shadow.live s.node) × IsPlaced (shadow.settled s.node) f) → place_under child s o ≡ Some p → IsTrue (shadow.live child) × IsPlaced (shadow.settled child) p
+      go : (o : Option NodeBounds) → IfSome o (λ f. IsTrue (shadow.live s.node) × IsPlaced (shadow.settled s.node) f) → place_under child s o ≡ Some p → IsTrue (shadow.live child) × IsPlaced (shadow.settled child) p
       go None marked f = absurd (none-some p f)
       go (Some place) marked f = inner (nat_lt 0 place.level) refl f
         where
@@ -168,7 +168,7 @@ module _ (t : Terms) (words : NodeWords) (views : List Log) (history : List Upda
   marks : (s c : NodeSight) → SightHolds t words history shadow s → Stands words.versions shadow s → SightHolds t words history shadow c → SightHolds t words history shadow (mark_child s c)
   marks s c h stands g = go (c.node == s.node)
     where
-      with_mark : (x : Option Frame) → (place_of (record c { mark = x }) ≡ place_of c) ⊎ ((p : Frame) × ((place_of (record c { mark = x }) ≡ Some p) × (IsTrue (shadow.live c.node) × IsPlaced (shadow.settled c.node) p))) → SightHolds t words history shadow (record c { mark = x })
+      with_mark : (x : Option NodeBounds) → (place_of (record c { mark = x }) ≡ place_of c) ⊎ ((p : NodeBounds) × ((place_of (record c { mark = x }) ≡ Some p) × (IsTrue (shadow.live c.node) × IsPlaced (shadow.settled c.node) p))) → SightHolds t words history shadow (record c { mark = x })
       with_mark x told = record {
         within = g.within;
         even = g.even;
@@ -179,19 +179,19 @@ module _ (t : Terms) (words : NodeWords) (views : List Log) (history : List Upda
         clock = g.clock;
       }
         where
-          marked_by : (place_of (record c { mark = x }) ≡ place_of c) ⊎ ((p : Frame) × ((place_of (record c { mark = x }) ≡ Some p) × (IsTrue (shadow.live c.node) × IsPlaced (shadow.settled c.node) p))) → Stands words.versions shadow c
+          marked_by : (place_of (record c { mark = x }) ≡ place_of c) ⊎ ((p : NodeBounds) × ((place_of (record c { mark = x }) ≡ Some p) × (IsTrue (shadow.live c.node) × IsPlaced (shadow.settled c.node) p))) → Stands words.versions shadow c
               → IfSome (place_of (record c { mark = x })) (λ f. IsTrue (shadow.live c.node) × IsPlaced (shadow.settled c.node) f)
           marked_by (inl same) st = subst (λ o. IfSome o (λ f. IsTrue (shadow.live c.node) × IsPlaced (shadow.settled c.node) f)) (sym same) (g.marked st)
           marked_by (inr new) st = subst (λ o. IfSome o (λ f. IsTrue (shadow.live c.node) × IsPlaced (shadow.settled c.node) f)) (sym new.1.0) new.1.1
 
-      place_with : (x : Option Frame) → ((c.node ≡ 0) × (place_of (record c { mark = x }) ≡ place_of c)) ⊎ ((place_of (record c { mark = x }) ≡ x) × (place_of c ≡ c.mark))
+      place_with : (x : Option NodeBounds) → ((c.node ≡ 0) × (place_of (record c { mark = x }) ≡ place_of c)) ⊎ ((place_of (record c { mark = x }) ≡ x) × (place_of c ≡ c.mark))
       place_with x = at_root (ℕ_discrete c.node 0)
         where
           at_root : Dec (c.node ≡ 0) → ((c.node ≡ 0) × (place_of (record c { mark = x }) ≡ place_of c)) ⊎ ((place_of (record c { mark = x }) ≡ x) × (place_of c ≡ c.mark))
           at_root (yes e) = inl (e, rw (eq-eqb c.node 0 e) refl)
           at_root (no ne) = inr (rw (ne_eqb c.node 0 ne) refl, rw (ne_eqb c.node 0 ne) refl)
 
-      marked_child : (o : Option Frame) → place_under c.node s (place_of s) ≡ o → SightHolds t words history shadow (record c { mark = or_mark o c.mark })
+      marked_child : (o : Option NodeBounds) → place_under c.node s (place_of s) ≡ o → SightHolds t words history shadow (record c { mark = or_mark o c.mark })
       marked_child None is = with_mark c.mark (inl refl)
       marked_child (Some p) is = pick (place_with (Some p))
         where
@@ -271,7 +271,7 @@ module _ (t : Terms) (words : NodeWords) (views : List Log) (history : List Upda
       go false e = let all = r.each_once k in let mine : once (shadow.live k) ≡ 1 = ap once alive in let nothing : once (nat_lt k t.nodes) ≡ 0 = ap once e in absurd (omega (arith, all, mine, nothing))
 
   -- what is said of a live node at its place
-  pub is_live_node : (n : ℕ) (f : Frame) → IsTrue (shadow.live n) → IsPlaced (shadow.settled n) f → IsLiveNode t n (shadow.settled n) f
+  pub is_live_node : (n : ℕ) (f : NodeBounds) → IsTrue (shadow.live n) → IsPlaced (shadow.settled n) f → IsLiveNode t n (shadow.settled n) f
   is_live_node n f alive placed = record {
     placed = placed;
     ordered = r.lawful.tree.ordered n alive;
@@ -301,7 +301,7 @@ module _ (t : Terms) (words : NodeWords) (views : List Log) (history : List Upda
     entries = at_clock s.clock (h.clock stands);
   }
     where
-      alive : (o : Option Frame) → IfSome o (λ f. IsTrue (shadow.live s.node) × IsPlaced (shadow.settled s.node) f) → IsSome o → IsTrue (shadow.live s.node)
+      alive : (o : Option NodeBounds) → IfSome o (λ f. IsTrue (shadow.live s.node) × IsPlaced (shadow.settled s.node) f) → IsSome o → IsTrue (shadow.live s.node)
       alive None marked there = absurd (true≢false (sym there))
       alive (Some f) marked there = marked.0
 
@@ -312,7 +312,7 @@ module _ (t : Terms) (words : NodeWords) (views : List Log) (history : List Upda
           let now : state_at (start t) history k ≡ state_after (start t) past = same_moment t past history k seen (omega (arith, all)) ∙ ap (state_after (start t)) (take_all k past (omega (arith, all))) in
           subst (λ st. AreInside st.registered (shadow.settled s.node)) now (told.1 (alive (place_of s) (h.marked stands) there) level)
 
-      go : (o : Option Frame) → IfSome o (λ f. IsTrue (shadow.live s.node) × IsPlaced (shadow.settled s.node) f) → IfSome o (IsLiveNode t s.node (shadow.settled s.node))
+      go : (o : Option NodeBounds) → IfSome o (λ f. IsTrue (shadow.live s.node) × IsPlaced (shadow.settled s.node) f) → IfSome o (IsLiveNode t s.node (shadow.settled s.node))
       go None marked = tt
       go (Some f) marked = is_live_node s.node f marked.0 marked.1
 
@@ -390,7 +390,7 @@ module _ (t : Terms) (slots id : ℕ) (me : Seated) (live : is_gone me.0.role �
   loads_node_version law a n inside s r deep here small =
       let found : ℕ = get_or s.words (4 + 36 * n) 0 in
       let w : Log = record (after_load (4 + 36 * n) found me.0) { sights = record me.0.sights { nodes = sights_after_version n found (sight_of n me.0.sights.nodes) me.0.sights.nodes } } in
-      let m : Memory = memory_of t s.words in
+      let m : SharedWords = memory_of t s.words in
       let callers : ℕ = total (λ u. u.made) s.views + 1 in
       let o = r.memory.observations id me.0 here in
       let terms : me.0.terms ≡ t = (r.memory.callers.each id me.0 here).terms live in
@@ -430,7 +430,7 @@ module _ (t : Terms) (slots id : ℕ) (me : Seated) (live : is_gone me.0.role �
   begins_node_sight law n inside s r deep here small =
       let found : ℕ = get_or s.words (4 + 36 * n) 0 in
       let w : Log = after_node_begin n found me.0 in
-      let m : Memory = memory_of t s.words in
+      let m : SharedWords = memory_of t s.words in
       let callers : ℕ = total (λ u. u.made) s.views + 1 in
       let o = r.memory.observations id me.0 here in
       let at = load_version_at t s.words n inside in

@@ -11,7 +11,7 @@ use Rattle.word_rule.specs.declared.log.LoadEvent.{LoadEvent}
 use Rattle.word_rule.specs.declared.log.NodeSight.{NodeSight}
 use Rattle.word_rule.specs.declared.log.CopySight.{CopySight}
 use Rattle.word_rule.specs.declared.log.Log.{Log}
-use Rattle.word_rule.specs.Memory.{NodeWords, Memory}
+use Rattle.word_rule.specs.SharedWords.{NodeWords, SharedWords}
 use Rattle.word_rule.specs.Logs.{turns, own_list}
 use Rattle.word_rule.specs.Sights.{place_of}
 use Rattle.word_rule.specs.Callers.{start}
@@ -75,7 +75,7 @@ sight_over t words words' history history' shadow shadow' s later kept longer r 
         )
 
 -- a log's observations over what a step makes of the words
-pub observations_over : (t : Terms) (m m' : Memory) (history history' : List Update) (callers callers' : ℕ) (shadow shadow' : Shadow) → ((s : NodeSight) → SightHolds t m.nodes history shadow s → SightHolds t m'.nodes history' shadow' s)
+pub observations_over : (t : Terms) (m m' : SharedWords) (history history' : List Update) (callers callers' : ℕ) (shadow shadow' : Shadow) → ((s : NodeSight) → SightHolds t m.nodes history shadow s → SightHolds t m'.nodes history' shadow' s)
     → ((s : CopySight) → CopySightHolds t m.clock m.copies s → CopySightHolds t m'.clock m'.copies s) → IsPrefix history history' → callers ≤ callers' → (v : Log) → ObservationsHold t m history callers shadow v → ObservationsHold t m' history' callers' shadow' v
 observations_over t m m' history history' callers callers' shadow shadow' each copies longer more v r = record {
   sights = all_map (SightHolds t m.nodes history shadow) (SightHolds t m'.nodes history' shadow') each v.sights.nodes r.sights;
@@ -95,7 +95,7 @@ pub record Loads (v w : Log) (more : List LoadEvent) : Type 0 where
   pub loads : w.trace.loads ≡ v.trace.loads ++ more
 
 -- a log after some loads more, with these sights
-pub observations_own : (t : Terms) (m : Memory) (history : List Update) (callers : ℕ) (shadow : Shadow) (v w : Log) (more : List LoadEvent) → Loads v w more → AllByRecursion (SightHolds t m.nodes history shadow) w.sights.nodes → IfSome w.sights.copies (CopySightHolds t m.clock m.copies)
+pub observations_own : (t : Terms) (m : SharedWords) (history : List Update) (callers : ℕ) (shadow : Shadow) (v w : Log) (more : List LoadEvent) → Loads v w more → AllByRecursion (SightHolds t m.nodes history shadow) w.sights.nodes → IfSome w.sights.copies (CopySightHolds t m.clock m.copies)
     → AllByRecursion (WasFull t history callers (own_list v.receipts)) more → AllByRecursion (λ l. (l.turns ≤ turns w.trace) × (l.receipts ≤ length v.receipts.own)) more → ObservationsHold t m history callers shadow v → ObservationsHold t m history callers shadow w
 observations_own t m history callers shadow v w more loads sights copies full earlier r = record {
   sights = sights;
@@ -107,7 +107,7 @@ observations_own t m history callers shadow v w more loads sights copies full ea
 }
 
 -- the same where the sights are as they were
-pub observations_same : (t : Terms) (m : Memory) (history : List Update) (callers : ℕ) (shadow : Shadow) (v w : Log) (more : List LoadEvent) → Loads v w more → w.sights ≡ v.sights
+pub observations_same : (t : Terms) (m : SharedWords) (history : List Update) (callers : ℕ) (shadow : Shadow) (v w : Log) (more : List LoadEvent) → Loads v w more → w.sights ≡ v.sights
     → AllByRecursion (WasFull t history callers (own_list v.receipts)) more → AllByRecursion (λ l. (l.turns ≤ turns w.trace) × (l.receipts ≤ length v.receipts.own)) more → ObservationsHold t m history callers shadow v → ObservationsHold t m history callers shadow w
 observations_same t m history callers shadow v w more loads same full earlier r = observations_own t m history callers shadow v w more loads (subst (λ k. AllByRecursion (SightHolds t m.nodes history shadow) k.nodes) (sym same) r.sights)
     (subst (λ k. IfSome k.copies (CopySightHolds t m.clock m.copies)) (sym same) r.copies) full earlier r

@@ -6,7 +6,7 @@ use Rattle.atomic_table.proofs.Lists.{set_again}
 use Rattle.word_rule.specs.declared.log.Holding.{Holding}
 use Rattle.word_rule.specs.declared.log.LoaderHolding.{LoaderHolding}
 use Rattle.word_rule.specs.declared.log.Terms.{Terms}
-use Rattle.word_rule.specs.Memory.{memory_of}
+use Rattle.word_rule.specs.SharedWords.{memory_of}
 use Rattle.word_rule.specs.Held.{held_of}
 use Rattle.word_rule.specs.Callers.{AtLoader, IsLockedAt}
 use Rattle.word_rule.specs.TableInvariant.{TableInvariant}

@@ -22,7 +22,7 @@ use Rattle.word_rule.specs.declared.log.Terms.{Terms}
 use Rattle.word_rule.specs.declared.log.LoaderHolding.{LoaderHolding}
 use Rattle.word_rule.specs.declared.log.Log.{Log}
 use Rattle.word_rule.specs.Places.{upper}
-use Rattle.word_rule.specs.Memory.{Memory, memory_of}
+use Rattle.word_rule.specs.SharedWords.{SharedWords, memory_of}
 use Rattle.word_rule.specs.Logs.{is_gone, is_nameless}
 use Rattle.word_rule.specs.Steps.{IsDone, exchange_copies, after_publish, AfterPublish, MayPublish}
 use Rattle.word_rule.specs.Callers.{total, CallersHold, HoldsLoader, AtLoader, LoaderLock, is_of_loader, start}
@@ -78,7 +78,7 @@ module _ (t : Terms) (slots id : ℕ) (me : Seated) (caller : me.0.role ≡ role
   stands = ap is_nameless caller
 
   module _ (u : Update) (h : LoaderHolding) (is : me.0.loader ≡ Some h) (may : MayPublish t me.0.budget.allowance u h) (s : Sit) (r : Rule s) (at : get_elem? s.views id ≡ some me.0) where
-    abbrev m : Memory
+    abbrev m : SharedWords
     m = memory_of t s.words
 
     abbrev history : List Update
@@ -93,7 +93,7 @@ module _ (t : Terms) (slots id : ℕ) (me : Seated) (caller : me.0.role ≡ role
     abbrev clock' : ℕ
     clock' = get_or s.words 0 0 + 4294967297
 
-    abbrev m' : Memory
+    abbrev m' : SharedWords
     m' = record (memory_of t s.words) { clock = get_or s.words 0 0 + 4294967297 }
 
     c : CallersHold t (memory_of t s.words) s.views r.memory.history

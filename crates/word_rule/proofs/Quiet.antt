@@ -5,7 +5,7 @@ use lib.ListN.{get_elem?}
 use Rattle.tree_shape.specs.Numbers.{times}
 use Rattle.word_rule.specs.declared.log.Terms.{Terms}
 use Rattle.word_rule.specs.declared.log.Log.{Log}
-use Rattle.word_rule.specs.Memory.{Memory, memory_of}
+use Rattle.word_rule.specs.SharedWords.{SharedWords, memory_of}
 use Rattle.word_rule.specs.Held.{held_of}
 use Rattle.word_rule.specs.Logs.{weight}
 use Rattle.word_rule.specs.Callers.{total, IsIdle, IsAlone, AtLoader, LoaderLock}
@@ -18,7 +18,7 @@ use Rattle.word_rule.proofs.NodesFrame.{nodes_own}
 use Rattle.word_rule.proofs.Frames.{load_step}
 
 module _ (t : Terms) (words : List ℕ) (views : List Log) (r : TableInvariant t words views) (id : ℕ) (v w : Log) (at : get_elem? views id ≡ some v) where
-  abbrev m : Memory
+  abbrev m : SharedWords
   m = memory_of t words
 
   pub quiet : (k : ℕ) → IsLike v w → w.loader ≡ v.loader → w.budget.credit ≡ v.budget.credit → (weight w.role ≡ 0 → IsIdle w) → HoldingsHold t m.nodes r.memory.shadow id w.holdings

@@ -5,7 +5,7 @@ use Rattle.std.proofs.Common.{◌≡◌, ℕ, ◌⊎◌, List, set, sym, refl, a
 use Rattle.std.proofs.lemmas.Option.{none-some}
 use mathlib.Core.Option.{some}
 use lib.ListN.{get_elem?}
-use Rattle.tree_shape.specs.declared.node.Frame.{Frame}
+use Rattle.tree_shape.specs.declared.node.NodeBounds.{NodeBounds}
 use Rattle.reg_model.specs.declared.span.Member.{Member}
 use Rattle.reg_model.specs.declared.answer.Update.{Update}
 use Rattle.reg_model.specs.History.{state_after}
@@ -17,7 +17,7 @@ use Rattle.word_rule.specs.declared.log.Role.TheVariants as role
 use Rattle.word_rule.specs.declared.log.Terms.{Terms}
 use Rattle.word_rule.specs.declared.log.Holding.{Holding}
 use Rattle.word_rule.specs.declared.log.Log.{Log}
-use Rattle.word_rule.specs.Memory.{memory_of}
+use Rattle.word_rule.specs.SharedWords.{memory_of}
 use Rattle.word_rule.specs.Spelling.{spelled, SpellsNode}
 use Rattle.word_rule.specs.Held.{held_of, now_of, now_shape, now_in, marked_in, is_marked}
 use Rattle.word_rule.specs.Exchange.{ChangeLaws, is_reached, is_fresh, IsLawfulExchange, exchange, after_exchange, group_of, is_lawful, nothing_reached, settle, settle_free, top_of}
@@ -199,7 +199,7 @@ module _ (t : Terms) (id : ℕ) (v : Log) (caller : v.role ≡ role.Caller) (wor
           mark_same : reached k ≡ false → group k ≡ false → (changed h).mark ≡ h.mark
           mark_same re g = let e : reached h.node ≡ false = ap reached node ∙ re in let f : group h.node ≡ false = ap group node ∙ g in rw (e, f) refl
 
-          old_mark : group k ≡ false → (o : Option Frame) → h.mark ≡ o → IfSome o (λ f. IsTrue (r.memory.shadow.live h.node) × IsPlaced h.settled f) → IfSome o (λ f. IsTrue (alive h.node) × IsPlaced (changed h).settled f)
+          old_mark : group k ≡ false → (o : Option NodeBounds) → h.mark ≡ o → IfSome o (λ f. IsTrue (r.memory.shadow.live h.node) × IsPlaced h.settled f) → IfSome o (λ f. IsTrue (alive h.node) × IsPlaced (changed h).settled f)
           old_mark g None e told = tt
           old_mark g (Some f) e told =
               let m : is_some h.mark ≡ true = ap is_some e in
@@ -318,7 +318,7 @@ module _ (t : Terms) (id : ℕ) (v : Log) (caller : v.role ≡ role.Caller) (wor
         unmarked = λ e l. (let sp = mine_k.0.unmarked e l in sp ∙ ap Some (sym (freed_stays sp)));
       }
         where
-          still : (o : Option Frame) → h.mark ≡ o → IfSome o (λ f. IsTrue (r.memory.shadow.live h.node) × IsPlaced h.settled f) → IfSome o (λ f. IsTrue (r.memory.shadow.live h.node) × IsPlaced (freed h).settled f)
+          still : (o : Option NodeBounds) → h.mark ≡ o → IfSome o (λ f. IsTrue (r.memory.shadow.live h.node) × IsPlaced h.settled f) → IfSome o (λ f. IsTrue (r.memory.shadow.live h.node) × IsPlaced (freed h).settled f)
           still None e told = tt
           still (Some f) e told = (told.0, subst (λ c. IsPlaced c f) (sym (freed_marked (ap is_some e))) told.1)
 

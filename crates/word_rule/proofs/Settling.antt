@@ -6,7 +6,7 @@ use Rattle.std.specs.List.{AllByRecursion, count_by}
 use mathlib.Core.Option.{some}
 use native.Mathlib.Decide.{ℕ_discrete}
 use lib.ListN.{get_elem?}
-use Rattle.tree_shape.specs.declared.node.Frame.{Frame}
+use Rattle.tree_shape.specs.declared.node.NodeBounds.{NodeBounds}
 use mathlib.Core.List.{IsPrefix}
 use Rattle.reg_model.specs.declared.span.Member.{Member}
 use Rattle.reg_model.specs.declared.answer.Update.{Update}
@@ -21,7 +21,7 @@ use Rattle.word_rule.specs.declared.log.Terms.{Terms}
 use Rattle.word_rule.specs.declared.log.Holding.{Holding}
 use Rattle.word_rule.specs.declared.log.NodeSight.{NodeSight}
 use Rattle.word_rule.specs.declared.log.Log.{Log}
-use Rattle.word_rule.specs.Memory.{Memory, memory_of}
+use Rattle.word_rule.specs.SharedWords.{SharedWords, memory_of}
 use Rattle.word_rule.specs.Spelling.{SpellsNode}
 use Rattle.word_rule.specs.Held.{held_of}
 use Rattle.word_rule.specs.Logs.{is_nameless}
@@ -116,7 +116,7 @@ module _ (t : Terms) (id : ℕ) (v : Log) (caller : v.role ≡ role.Caller) (wor
             unmarked = λ e l. k.unmarked e (sym same.1 ∙ l);
           }
         where
-          lives : (p : Option Frame) → alive h.node ≡ r.memory.shadow.live h.node → IfSome p (λ f. IsTrue (r.memory.shadow.live h.node) × IsPlaced h.settled f) → IfSome p (λ f. IsTrue (alive h.node) × IsPlaced h.settled f)
+          lives : (p : Option NodeBounds) → alive h.node ≡ r.memory.shadow.live h.node → IfSome p (λ f. IsTrue (r.memory.shadow.live h.node) × IsPlaced h.settled f) → IfSome p (λ f. IsTrue (alive h.node) × IsPlaced h.settled f)
           lives None life told = tt
           lives (Some f) life told = (life ∙ told.0, told.1)
 
@@ -157,7 +157,7 @@ module _ (t : Terms) (id : ℕ) (v : Log) (caller : v.role ≡ role.Caller) (wor
   -- no word changes, and of the log its holdings alone
   pub settled_table : (now : Contents) (alive : ℕ → Bool) (holdings : Holdings) → OnSettling now alive holdings r.memory.history → TableInvariant t words (set views id (record v { holdings = holdings }))
   settled_table now alive holdings o =
-      let m : Memory = memory_of t words in
+      let m : SharedWords = memory_of t words in
       let after : Log = record v { holdings = holdings } in
       let shadow : Shadow = record r.memory.shadow { settled = now; live = alive } in
       let same : total (λ u. u.made) (set views id after) ≡ total (λ u. u.made) views = total_same (λ u. u.made) views id v after at refl in

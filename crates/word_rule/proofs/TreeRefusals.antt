@@ -25,14 +25,14 @@ use Rattle.segment_array.specs.Ascending.{AscendFrom}
 use Rattle.tree_shape.specs.NodeData.{NodeData, Body, Pairs, Entries, Link, IsInFences, entries_in, entries_of}
 use Rattle.tree_shape.specs.Trees.{Contents}
 use Rattle.tree_shape.specs.Lawful.{IsOrderedAs}
-use Rattle.tree_shape.specs.declared.node.Frame.{Frame}
+use Rattle.tree_shape.specs.declared.node.NodeBounds.{NodeBounds}
 use Rattle.word_rule.specs.Logs.{own_list}
 use Rattle.word_rule.specs.declared.log.ReceiptList.{ReceiptList}
 use Rattle.word_rule.specs.declared.log.Terms.{Terms}
 use Rattle.word_rule.specs.declared.log.Holding.{Holding}
 use Rattle.word_rule.specs.declared.log.LoadEvent.{LoadEvent}
 use Rattle.word_rule.specs.declared.log.Log.{Log}
-use Rattle.word_rule.specs.Memory.{NodeWords}
+use Rattle.word_rule.specs.SharedWords.{NodeWords}
 use Rattle.word_rule.specs.Held.{held_of, is_marked, marked_in, settled_in, settled_shape}
 use Rattle.word_rule.specs.Callers.{start}
 use Rattle.word_rule.specs.Nodes.{Shadow, IsPlaced, HoldsNode, NodesHold}
@@ -152,7 +152,7 @@ module _ (t : Terms) (words : NodeWords) (views : List Log) (history : List Upda
       → (n : ℕ) → IsTrue (marked_in v.holdings.held n) → (settled_in v.holdings.held n).level ≡ 0 → AreInside (state_after (start t) history).registered (settled_in v.holdings.held n)
   held_inside inside id v at n = go (held_of n v.holdings.held) refl
     where
-      live : (o : Option Frame) (h : Holding) → IfSome o (λ f. IsTrue (shadow.live h.node) × IsPlaced h.settled f) → IsTrue (is_some o) → IsTrue (shadow.live h.node)
+      live : (o : Option NodeBounds) (h : Holding) → IfSome o (λ f. IsTrue (shadow.live h.node) × IsPlaced h.settled f) → IsTrue (is_some o) → IsTrue (shadow.live h.node)
       live None h told there = absurd (true≢false (sym there))
       live (Some f) h told there = told.0
 

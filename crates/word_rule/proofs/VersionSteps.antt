@@ -8,7 +8,7 @@ use Rattle.word_rule.specs.declared.log.Role.TheVariants as role
 use Rattle.word_rule.specs.declared.log.Terms.{Terms}
 use Rattle.word_rule.specs.declared.log.NodeSight.{NodeSight}
 use Rattle.word_rule.specs.declared.log.Log.{Log}
-use Rattle.word_rule.specs.Memory.{NodeWords, Memory, memory_of, updated}
+use Rattle.word_rule.specs.SharedWords.{NodeWords, SharedWords, memory_of, updated}
 use Rattle.word_rule.specs.Held.{held_of}
 use Rattle.word_rule.specs.Logs.{is_nameless, weight}
 use Rattle.word_rule.specs.Callers.{IsLockedAt}
@@ -97,7 +97,7 @@ module _ (t : Terms) (id : ℕ) (v w : Log) (caller : v.role ≡ role.Caller) (n
 
     pub stepped_version : IsLike v w → w.loader ≡ v.loader → x / 4 + w.budget.credit ≤ (memory_of t s.words).nodes.versions n / 4 + v.budget.credit → Wrote v w → TableInvariant t (set s.words (4 + 36 * n) x) (set s.views id w)
     stepped_version like loader fewer wrote =
-        let m : Memory = memory_of t s.words in
+        let m : SharedWords = memory_of t s.words in
         let sum = node_counters_at m.nodes.versions n x t.nodes inside in
         written t s.words s.views r id v w at (ap is_nameless caller) (set s.words (4 + 36 * n) x) (record m { nodes = words' }) r.memory.history shadow' (length-set s.words (4 + 36 * n) x) (set_version t s.words r.wide x n inside) ([], append-nil r.memory.history)
         (callers_over_nodes t s.words s.views r id v w at (ap is_nameless caller) words' like loader (omega (arith, sum, fewer)) (λ zero_weight. busy v w caller (ap weight (sym like.role) ∙ zero_weight))) nodes r.memory.active like.made sights (λ k h. h) wrote

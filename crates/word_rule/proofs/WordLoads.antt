@@ -10,7 +10,7 @@ use Rattle.word_rule.specs.declared.log.NodeSight.{NodeSight}
 use Rattle.word_rule.specs.declared.log.Terms.{Terms}
 use Rattle.word_rule.specs.declared.log.Sights.{Sights}
 use Rattle.word_rule.specs.declared.log.Log.{Log}
-use Rattle.word_rule.specs.Memory.{Memory, memory_of}
+use Rattle.word_rule.specs.SharedWords.{SharedWords, memory_of}
 use Rattle.word_rule.specs.Spelling.{node_word, SpellsNode}
 use Rattle.word_rule.specs.Held.{held_of}
 use Rattle.word_rule.specs.Logs.{is_gone, load_of}
@@ -112,7 +112,7 @@ module _ (t : Terms) (slots id : ℕ) (me : Seated) (live : is_gone me.0.role �
   loads_word s r deep here small =
       let found : ℕ = get_or s.words (4 + 36 * n + at) 0 in
       let w : Log = after_node_load n at found me.0 in
-      let m : Memory = memory_of t s.words in
+      let m : SharedWords = memory_of t s.words in
       let callers : ℕ = total (λ u. u.made) s.views + 1 in
       let o = r.memory.observations id me.0 here in
       let b : Bool = is_some (held_of n me.0.holdings.held) in (

@@ -9,7 +9,7 @@ use Rattle.word_rule.specs.declared.log.LoaderHolding.{LoaderHolding}
 use Rattle.word_rule.specs.declared.log.NodeSight.{NodeSight}
 use Rattle.word_rule.specs.declared.log.CopySight.{CopySight}
 use Rattle.word_rule.specs.declared.log.Log.{Log}
-use Rattle.word_rule.specs.Memory.{NodeWords, Memory, memory_of, counters}
+use Rattle.word_rule.specs.SharedWords.{NodeWords, SharedWords, memory_of, counters}
 use Rattle.word_rule.specs.Logs.{is_nameless, weight, turns, own_list}
 use Rattle.word_rule.specs.Callers.{total, CallersHold, IsIdle, AtLoader, LoaderLock}
 use Rattle.word_rule.specs.Nodes.{Shadow, NodesHold}
@@ -29,12 +29,12 @@ pub record Wrote (v w : Log) : Type 0 where
   pub turn : turns v.trace < turns w.trace
 
 -- a log's part in the loader's lock stays where nodes change
-pub nodes_at_loader : (m : Memory) (nodes : NodeWords) (holder : Option ℕ) (j : ℕ) (o : Option LoaderHolding) → AtLoader m holder j o → AtLoader (record m { nodes = nodes }) holder j o
+pub nodes_at_loader : (m : SharedWords) (nodes : NodeWords) (holder : Option ℕ) (j : ℕ) (o : Option LoaderHolding) → AtLoader m holder j o → AtLoader (record m { nodes = nodes }) holder j o
 nodes_at_loader m nodes holder j None h = tt
 nodes_at_loader m nodes holder j (Some g) h = (h.0, record { locked = h.1.locked; published = h.1.published; active = h.1.active; spare = h.1.spare })
 
 module _ (t : Terms) (words : List ℕ) (views : List Log) (r : TableInvariant t words views) (id : ℕ) (v w : Log) (at : get_elem? views id ≡ some v) (stands : is_nameless v.role ≡ false) where
-  abbrev m : Memory
+  abbrev m : SharedWords
   m = memory_of t words
 
   -- the callers, where nodes change alone
@@ -46,7 +46,7 @@ module _ (t : Terms) (words : List ℕ) (views : List Log) (r : TableInvariant t
       (λ j u _ e. nodes_at_loader m nodes r.memory.callers.holder j u.loader (r.memory.callers.at_loader j u e))) idle
       (λ clean. r.memory.callers.spare_copy (none_before views id v w at (subst (λ o. IfSome o (λ h. h.stored ≡ false)) loader) clean))
 
-  pub written : (words' : List ℕ) (m' : Memory) (history' : List Update) (shadow' : Shadow) → length words' ≡ length words → memory_of t words' ≡ m' → IsPrefix r.memory.history history'
+  pub written : (words' : List ℕ) (m' : SharedWords) (history' : List Update) (shadow' : Shadow) → length words' ≡ length words → memory_of t words' ≡ m' → IsPrefix r.memory.history history'
       → CallersHold t m' (set views id w) history' → NodesHold t m'.nodes (set views id w) history' shadow' → ActiveCopy t m'.clock m'.copies history' → w.made ≡ v.made
       → ((s : NodeSight) → SightHolds t m.nodes r.memory.history r.memory.shadow s → SightHolds t m'.nodes history' shadow' s) → ((s : CopySight) → CopySightHolds t m.clock m.copies s → CopySightHolds t m'.clock m'.copies s)
       → Wrote v w → TableInvariant t words' (set views id w)

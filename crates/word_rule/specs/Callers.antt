@@ -25,7 +25,7 @@ use Rattle.word_rule.specs.declared.log.LoaderHolding.{LoaderHolding}
 use Rattle.word_rule.specs.declared.log.Log.{Log}
 use Rattle.word_rule.specs.Copies.{IsBehind}
 use Rattle.word_rule.specs.Logs.{is_gone, is_nameless, own_list, weight}
-use Rattle.word_rule.specs.Memory.{Memory, counters}
+use Rattle.word_rule.specs.SharedWords.{SharedWords, counters}
 use Rattle.word_rule.specs.Places.{ALLOWANCE, CREDIT, lower, upper, spare}
 use Rattle.word_rule.specs.Shares.{WHOLE}
 
@@ -134,14 +134,14 @@ IsLockedAt version word = (version % 4 ≡ 0) × ((word ≡ version + 1) ⊎ (wo
 
 -- The loader's lock, where this log has it. Only its holder stores in copies and publishes, so it
 -- knows both copies and how many updates of the loader there were.
-pub record HoldsLoader (m : Memory) (h : LoaderHolding) : Type 0 where
+pub record HoldsLoader (m : SharedWords) (h : LoaderHolding) : Type 0 where
   pub locked : IsLockedAt h.version m.loader
   pub published : h.published ≡ upper m.clock
   pub active : h.active ≡ m.copies (upper m.clock % 2)
   pub spare : h.spare ≡ m.copies (spare m.clock)
 
 -- one log's part in the loader's lock
-abbrev pub AtLoader : Memory → Option ℕ → ℕ → Option LoaderHolding → Type 0
+abbrev pub AtLoader : SharedWords → Option ℕ → ℕ → Option LoaderHolding → Type 0
 AtLoader m holder id None = Unit {0}
 AtLoader m holder id (Some h) = (holder ≡ Some id) × HoldsLoader m h
 
@@ -177,7 +177,7 @@ pub record HistoryHolds (t : Terms) (clock : ℕ) (history : List Update) : Type
   pub members : AllByRecursion (IsOfTerms t) history
 
 -- What holds of the callers and of the loader's lock, where this is the history.
-pub record CallersHold (t : Terms) (m : Memory) (views : List Log)
+pub record CallersHold (t : Terms) (m : SharedWords) (views : List Log)
     (history : List Update) : Type 0 where
   pub holder : Option ℕ
   pub of_history : HistoryHolds t m.clock history

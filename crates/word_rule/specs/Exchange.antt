@@ -16,7 +16,7 @@ use Rattle.tree_shape.specs.LocalChange.{either, reached_nodes, live_after, IsLa
 use Rattle.tree_shape.specs.LocalChange.{IsLocalChange, IsSameChange, EntriesBecome}
 use Rattle.word_rule.specs.declared.log.Log.{Log}
 use Rattle.word_rule.specs.declared.log.Holding.{Holding}
-use Rattle.tree_shape.specs.declared.node.Frame.{Frame}
+use Rattle.tree_shape.specs.declared.node.NodeBounds.{NodeBounds}
 use Rattle.word_rule.specs.Spelling.{spelled, SpellsNode}
 use Rattle.word_rule.specs.Held.{held_of, settled_in, now_in, now_of, marked_in}
 
@@ -81,7 +81,7 @@ pub record IsLawfulExchange (v : Log) (update : Option Update) (top : ℕ) (grou
 
 -- A held node's settled content becomes what its words spell, where it is in the group or isn't
 -- live. It is marked where it is reached, and no more where it is of the group and isn't.
-abbrev pub mark_after : NodeData → (ℕ → Bool) → (ℕ → Bool) → Holding → Option Frame
+abbrev pub mark_after : NodeData → (ℕ → Bool) → (ℕ → Bool) → Holding → Option NodeBounds
 mark_after now group reached h =
     if reached h.node then Some (frame_of now) else (if group h.node then None else h.mark)
 

@@ -1,6 +1,6 @@
 pub mod Shares
 pub mod Places
-pub mod Memory
+pub mod SharedWords
 pub mod Logs
 pub mod Callers
 pub mod CallerData

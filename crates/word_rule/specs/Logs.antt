@@ -11,7 +11,7 @@ use Rattle.word_rule.specs.declared.log.LoaderHolding.{LoaderHolding}
 use Rattle.word_rule.specs.declared.log.LoadEvent.{LoadEvent}
 use Rattle.word_rule.specs.declared.log.ReceiptList.{ReceiptList}
 use Rattle.word_rule.specs.declared.log.Receipts.{Receipts}
-use Rattle.word_rule.specs.declared.log.Trace.{Trace}
+use Rattle.word_rule.specs.declared.log.CallerTrace.{CallerTrace}
 use Rattle.word_rule.specs.declared.log.Lineage.{Lineage}
 use Rattle.word_rule.specs.declared.log.Log.{Log}
 use Rattle.word_rule.specs.Shares.{part_of, whole_lineage, after_fork, forked_lineage}
@@ -40,7 +40,7 @@ weight role.Reader = 0
 weight role.Spent = 0
 
 -- how often the caller changed anything itself
-abbrev pub turns : Trace → ℕ
+abbrev pub turns : CallerTrace → ℕ
 turns t = t.writes + t.meetings
 
 -- a load, or a refused exchange, with what its caller has at that moment
@@ -162,7 +162,7 @@ budget_kept left give b =
     record { allowance = b.allowance - give; credit = b.credit - credit_given b.credit left give }
 
 -- a caller or a note came or went
-abbrev pub after_meeting : Trace → Trace
+abbrev pub after_meeting : CallerTrace → CallerTrace
 after_meeting t = record t { meetings = t.meetings + 1 }
 
 abbrev pub after_split : ℕ → ℕ → Log → Log

@@ -9,7 +9,7 @@ use Rattle.tree_shape.specs.Trees.{Contents, branches}
 use Rattle.tree_shape.specs.Lawful.{IsFilled, IsLawfulTree, IsOrdered}
 use Rattle.tree_shape.specs.Numbers.{is_among}
 use Rattle.tree_shape.specs.declared.limits.TheConstants.{HIGHEST_LEVEL}
-use Rattle.tree_shape.specs.declared.node.Frame.{Frame}
+use Rattle.tree_shape.specs.declared.node.NodeBounds.{NodeBounds}
 use Rattle.word_rule.specs.declared.log.Terms.{Terms}
 use Rattle.word_rule.specs.declared.log.Holding.{Holding}
 use Rattle.word_rule.specs.declared.log.Holdings.{Holdings}
@@ -27,12 +27,12 @@ use Rattle.word_rule.specs.Observations.{AreInside, AreOfNode}
 
 -- A live node at its place: in order, filled, and its children are nodes that there are, none of
 -- them the root. Each node has one place: this one, and its children those that it gives them.
-pub record IsLiveNode (t : Terms) (n : ℕ) (s : NodeData) (f : Frame) : Type 0 where
+pub record IsLiveNode (t : Terms) (n : ℕ) (s : NodeData) (f : NodeBounds) : Type 0 where
   pub placed : IsPlaced s f
   pub ordered : IsOrdered s
   pub filled : IsFilled n s
   pub height : n ≡ 0 → s.level ≤ HIGHEST_LEVEL
-  pub places : ℕ → Frame
+  pub places : ℕ → NodeBounds
   pub own : places n ≡ frame_of s
   pub children : AllByRecursion
       (λ b. (b.child < t.nodes) × (b.child ≢ 0) × (places b.child ≡ b.frame))

@@ -9,7 +9,7 @@ use lib.ListN.{get_elem?}
 use Rattle.reg_model.specs.History.{state_after}
 use Rattle.reg_model.specs.declared.answer.Update.{Update}
 use Rattle.reg_model.specs.declared.span.Member.{Member}
-use Rattle.tree_shape.specs.declared.node.Frame.{Frame}
+use Rattle.tree_shape.specs.declared.node.NodeBounds.{NodeBounds}
 use Rattle.tree_shape.specs.NodeData.{NodeData}
 use Rattle.tree_shape.specs.Trees.{Contents, HasEntry}
 use Rattle.tree_shape.specs.Numbers.{times, once}
@@ -18,7 +18,7 @@ use Rattle.word_rule.specs.declared.log.Terms.{Terms}
 use Rattle.word_rule.specs.declared.log.Holding.{Holding}
 use Rattle.word_rule.specs.declared.log.Holdings.{Holdings}
 use Rattle.word_rule.specs.declared.log.Log.{Log}
-use Rattle.word_rule.specs.Memory.{NodeWords}
+use Rattle.word_rule.specs.SharedWords.{NodeWords}
 use Rattle.word_rule.specs.Spelling.{node_word, SpellsNode}
 use Rattle.word_rule.specs.Held.{held_of}
 use Rattle.word_rule.specs.Callers.{total, IsLockedAt, start}
@@ -33,7 +33,7 @@ pub record Shadow : Type 0 where
   pub free : List ℕ
 
 -- the content has this place in the tree
-abbrev pub IsPlaced : NodeData → Frame → Type 0
+abbrev pub IsPlaced : NodeData → NodeBounds → Type 0
 IsPlaced s f = (s.level ≡ f.level) × (s.low ≡ f.low) × (s.high ≡ f.high)
 
 -- One log's lock of a node: it is the holder, the version word is its version, locked, and it has

@@ -19,7 +19,7 @@ use Rattle.word_rule.specs.declared.log.NodeSight.{NodeSight}
 use Rattle.word_rule.specs.declared.log.Log.{Log}
 use Rattle.word_rule.specs.declared.log.ReceiptList.{ReceiptList}
 use Rattle.word_rule.specs.Places.{HEAD, node_place}
-use Rattle.word_rule.specs.Memory.{NodeWords, Memory}
+use Rattle.word_rule.specs.SharedWords.{NodeWords, SharedWords}
 use Rattle.word_rule.specs.Spelling.{node_word, SpellsNode}
 use Rattle.word_rule.specs.Sights.{place_of}
 use Rattle.word_rule.specs.Logs.{own_list, turns}
@@ -103,7 +103,7 @@ pub record WasFull (t : Terms) (history : List Update) (callers : ℕ) (receipts
   pub highest : ¬ FoundHighest l
 
 -- What holds of one log's sights and loads, where so many callers were ever made.
-pub record ObservationsHold (t : Terms) (m : Memory) (history : List Update) (callers : ℕ)
+pub record ObservationsHold (t : Terms) (m : SharedWords) (history : List Update) (callers : ℕ)
     (shadow : Shadow) (v : Log) : Type 0 where
   pub sights : AllByRecursion (SightHolds t m.nodes history shadow) v.sights.nodes
   pub copies : IfSome v.sights.copies (CopySightHolds t m.clock m.copies)

@@ -18,7 +18,7 @@ use Rattle.word_rule.specs.declared.log.Log.{Log}
 use Rattle.word_rule.specs.declared.log.NodeSight.{NodeSight}
 use Rattle.word_rule.specs.declared.log.CopySight.{CopySight}
 use Rattle.word_rule.specs.declared.log.LoadedWord.{LoadedWord}
-use Rattle.tree_shape.specs.declared.node.Frame.{Frame}
+use Rattle.tree_shape.specs.declared.node.NodeBounds.{NodeBounds}
 use Rattle.word_rule.specs.declared.log.Ask.{Ask}
 use Rattle.word_rule.specs.declared.log.Ask.TheVariants as ask
 use Rattle.word_rule.specs.Places.{CLOCK, TOP, node_place, is_of_copy, lower, upper}
@@ -40,22 +40,22 @@ loaded_word at (w ∷ words) = if w.at == at then Some w.value else loaded_word 
 
 -- The place in the tree of a sight that is marked live. The root is always live: its level is the
 -- one that was loaded.
-abbrev pub place_of : NodeSight → Option Frame
+abbrev pub place_of : NodeSight → Option NodeBounds
 place_of s = if s.node == 0 then option_map
     (λ level. record { level = level; low = 0; high = TOP }) (loaded_word 2 s.words) else s.mark
 
 -- the same where the sight has this version
-abbrev pub place_at : ℕ → Option NodeSight → Option Frame
+abbrev pub place_at : ℕ → Option NodeSight → Option NodeBounds
 place_at version None = None
 place_at version (Some s) = if s.version == version then place_of s else None
 
 -- The place that a parent's sight gives to its i-th child: it needs the child's separator, and the
 -- one before or else the parent's low fence.
-abbrev pub low_of : Frame → ℕ → List LoadedWord → Option ℕ
+abbrev pub low_of : NodeBounds → ℕ → List LoadedWord → Option ℕ
 low_of place zero words = Some place.low
 low_of place (suc i) words = option_map (λ separator. separator + 1) (loaded_word (7 + 2 * i) words)
 
-abbrev pub place_between : Frame → Option ℕ → Option ℕ → Option Frame
+abbrev pub place_between : NodeBounds → Option ℕ → Option ℕ → Option NodeBounds
 place_between place None high = None
 place_between place (Some low) None = None
 place_between place (Some low) (Some high) =
@@ -67,7 +67,7 @@ is_loaded_as n None = false
 is_loaded_as n (Some m) = m == n
 
 -- of so many pairs, the first from the i-th on that is loaded and names the child gives its place
-abbrev pub named_place : ℕ → Frame → List LoadedWord → ℕ → ℕ → Option Frame
+abbrev pub named_place : ℕ → NodeBounds → List LoadedWord → ℕ → ℕ → Option NodeBounds
 named_place child place words i zero = None
 named_place child place words i (suc more) =
     if is_loaded_as child (loaded_word (6 + 2 * i) words)
@@ -80,13 +80,13 @@ pairs_in_sight None = 0
 pairs_in_sight (Some count) = if nat_le count 15 then count else 0
 
 -- the place that an inner node's sight gives to this child
-abbrev pub place_under : ℕ → NodeSight → Option Frame → Option Frame
+abbrev pub place_under : ℕ → NodeSight → Option NodeBounds → Option NodeBounds
 place_under child s None = None
 place_under child s (Some place) =
     if nat_lt 0 place.level
     then named_place child place s.words 0 (pairs_in_sight (loaded_word 5 s.words)) else None
 
-abbrev pub or_mark : Option Frame → Option Frame → Option Frame
+abbrev pub or_mark : Option NodeBounds → Option NodeBounds → Option NodeBounds
 or_mark None other = other
 or_mark (Some m) other = Some m
 
@@ -109,7 +109,7 @@ query_receipt which v pc stamp =
     Query which pc (found_at (query which pc (state_at (start v.terms) v.past stamp)) stamp)
 
 -- whether a sight is of a live leaf whose fences hold the address
-abbrev pub is_leaf_for : ℕ → Option Frame → Bool
+abbrev pub is_leaf_for : ℕ → Option NodeBounds → Bool
 is_leaf_for pc None = false
 is_leaf_for pc (Some place) = (place.level == 0) && nat_le place.low pc && nat_le pc place.high
 

@@ -23,7 +23,7 @@ use Rattle.tree_shape.specs.Trees.{branches, Branch}
 use Rattle.word_rule.specs.declared.log.Log.{Log}
 use Rattle.word_rule.specs.declared.log.Holding.{Holding}
 use Rattle.word_rule.specs.declared.log.LoaderHolding.{LoaderHolding}
-use Rattle.tree_shape.specs.declared.node.Frame.{Frame}
+use Rattle.tree_shape.specs.declared.node.NodeBounds.{NodeBounds}
 use Rattle.word_rule.specs.Places.{ALLOWANCE, HEAD, copy_place, copy_words, is_of_copy, lower}
 use Rattle.word_rule.specs.Spelling.{spelled}
 use Rattle.word_rule.specs.Held.{held_of, edited, without_lock, all_but, marked_in}
@@ -37,28 +37,28 @@ use Rattle.word_rule.specs.Copies.{ListsAll, ListsMembers, Publishes}
 
 -- The mark of a node at its lock: the root is live, and so is one that the settled content of a
 -- held live node names, at the place that it is given there.
-abbrev pub place_in : ℕ → List Branch → Option Frame
+abbrev pub place_in : ℕ → List Branch → Option NodeBounds
 place_in n bs = option_map (λ b. b.frame) (find (λ b. b.child == n) bs)
 
-abbrev pub place_by : ℕ → Option Frame → Holding → Option Frame
+abbrev pub place_by : ℕ → Option NodeBounds → Holding → Option NodeBounds
 place_by n None h = None
 place_by n (Some m) h = place_in n (branches (h.settled.level - 1) h.settled)
 
-abbrev pub first_mark : Option Frame → Option Frame → Option Frame
+abbrev pub first_mark : Option NodeBounds → Option NodeBounds → Option NodeBounds
 first_mark None other = other
 first_mark (Some m) other = Some m
 
-abbrev pub place_by_held : ℕ → List Holding → Option Frame
+abbrev pub place_by_held : ℕ → List Holding → Option NodeBounds
 place_by_held n [] = None
 place_by_held n (h ∷ held) = first_mark (place_by n h.mark h) (place_by_held n held)
 
-abbrev pub mark_at_lock : ℕ → NodeData → List Holding → Option Frame
+abbrev pub mark_at_lock : ℕ → NodeData → List Holding → Option NodeBounds
 mark_at_lock n settled held =
     if n == 0 then Some record { level = settled.level; low = settled.low; high = settled.high }
     else place_by_held n held
 
 -- A node was locked at a version with this mark, while it had this settled content and these words.
-abbrev pub after_marked_lock : Option Frame → ℕ → ℕ → NodeData → List ℕ → Log → Log
+abbrev pub after_marked_lock : Option NodeBounds → ℕ → ℕ → NodeData → List ℕ → Log → Log
 after_marked_lock mark n version settled words v = record (after_write v) {
   holdings = record v.holdings {
     held = record {
@@ -79,7 +79,7 @@ after_node_lock n version settled words v =
 
 -- The mark of a node that was locked by sight: what is held marks it, or else a live sight of it
 -- that has the version at which it was locked.
-abbrev pub mark_at_version : ℕ → ℕ → NodeData → Log → Option Frame
+abbrev pub mark_at_version : ℕ → ℕ → NodeData → Log → Option NodeBounds
 mark_at_version n version settled v =
     first_mark (mark_at_lock n settled v.holdings.held)
     (place_at version (sight_of n v.sights.nodes))

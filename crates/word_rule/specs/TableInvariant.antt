@@ -8,7 +8,7 @@ use Rattle.reg_model.specs.declared.answer.Update.{Update}
 use Rattle.word_rule.specs.declared.log.Terms.{Terms}
 use Rattle.word_rule.specs.declared.log.Log.{Log}
 use Rattle.word_rule.specs.Places.{word_count}
-use Rattle.word_rule.specs.Memory.{Memory, memory_of}
+use Rattle.word_rule.specs.SharedWords.{SharedWords, memory_of}
 use Rattle.word_rule.specs.Logs.{turns}
 use Rattle.word_rule.specs.Callers.{total, CallersHold, IsAlone}
 use Rattle.word_rule.specs.Nodes.{Shadow, NodesHold}
@@ -16,7 +16,7 @@ use Rattle.word_rule.specs.Copies.{ActiveCopy}
 use Rattle.word_rule.specs.Observations.{ObservationsHold}
 
 -- There is one history, the same for all.
-pub record MemoryHolds (t : Terms) (m : Memory) (views : List Log) : Type 0 where
+pub record MemoryHolds (t : Terms) (m : SharedWords) (views : List Log) : Type 0 where
   pub history : List Update
   pub callers : CallersHold t m views history
   pub shadow : Shadow

@@ -54,8 +54,8 @@ mod words;
 
 pub use caller::{Caller, Note};
 pub use log::{
-    Ask, Budget, CopySight, Holding, Holdings, Lineage, LoadEvent, LoadedWord, LoaderHolding,
-    LockId, Log, NodeSight, ReceiptList, Receipts, Role, Sights, Terms, Trace,
+    Ask, Budget, CallerTrace, CopySight, Holding, Holdings, Lineage, LoadEvent, LoadedWord,
+    LoaderHolding, LockId, Log, NodeSight, ReceiptList, Receipts, Role, Sights, Terms,
 };
 pub use looker::Looker;
 pub use nodes::{FIRST_NODE, NODE_WORDS};

@@ -2,7 +2,7 @@
 
 use reg_model::{Member, Receipt, Update};
 use std::collections::LinkedList;
-use tree_shape::{Frame, Node};
+use tree_shape::{Node, NodeBounds};
 
 /// A version lock: that of a node, or the loader's.
 #[derive(Clone, Copy, Debug, PartialEq, Eq)]
@@ -74,7 +74,7 @@ pub struct Holding {
     /// Whether a word was stored since it was locked.
     pub stored: bool,
     /// Its place in the tree, as its parent gives it, where it is marked live.
-    pub mark: Option<Frame>,
+    pub mark: Option<NodeBounds>,
 }
 
 /// The nodes that a caller has locked, and those that it has taken out of the tree or the free
@@ -112,7 +112,7 @@ pub struct LoadEvent {
 }
 
 /// The steps of a caller.
-pub struct Trace {
+pub struct CallerTrace {
     /// Its loads and refused exchanges.
     pub loads: LinkedList<LoadEvent>,
     /// The nodes in which it stored.
@@ -138,7 +138,7 @@ pub struct NodeSight {
     /// The lower half of the clock, where it was loaded since.
     pub clock: Option<u64>,
     /// The node's place in the tree, as its parent's sight gave it, where it is marked live.
-    pub mark: Option<Frame>,
+    pub mark: Option<NodeBounds>,
 }
 
 /// Words of the loader's active copy that were loaded under the clock's upper half.
@@ -169,7 +169,7 @@ pub struct Log {
     pub past: LinkedList<Update>,
     pub budget: Budget,
     pub receipts: Receipts,
-    pub trace: Trace,
+    pub trace: CallerTrace,
     pub holdings: Holdings,
     pub loader: Option<LoaderHolding>,
     pub sights: Sights,

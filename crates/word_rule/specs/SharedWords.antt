@@ -12,7 +12,7 @@ pub record NodeWords : Type 0 where
   pub contents : ℕ → List ℕ
 
 -- All words: the clock, the loader's version word, those of the nodes, and copy 0 and copy 1.
-pub record Memory : Type 0 where
+pub record SharedWords : Type 0 where
   pub clock : ℕ
   pub loader : ℕ
   pub nodes : NodeWords
@@ -33,7 +33,7 @@ node_words_of t words = record {
 abbrev pub copy_of : Terms → List ℕ → ℕ → List ℕ
 copy_of t words c = if nat_lt c 2 then part (copy_words t) (copy_place t c) words else []
 
-abbrev pub memory_of : Terms → List ℕ → Memory
+abbrev pub memory_of : Terms → List ℕ → SharedWords
 memory_of t words = record {
   clock = slice_index words CLOCK;
   loader = slice_index words LOADER;
@@ -51,5 +51,5 @@ node_counters versions zero = 0
 node_counters versions (suc n) = versions n / 4 + node_counters versions n
 
 -- the counters of all version words
-abbrev pub counters : Terms → Memory → ℕ
+abbrev pub counters : Terms → SharedWords → ℕ
 counters t m = m.loader / 4 + node_counters m.nodes.versions t.nodes
