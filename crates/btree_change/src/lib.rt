@@ -17,6 +17,7 @@ mod descent;
 mod fence;
 mod insertion;
 mod leaf;
+mod leaf_removal;
 mod lift;
 mod mending;
 mod path;
@@ -28,7 +29,6 @@ mod sibling;
 mod spines;
 mod split;
 mod stand;
-mod taking;
 mod walk;
 
 pub use insertion::{insert, insert_by};

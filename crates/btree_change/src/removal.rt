@@ -17,9 +17,9 @@ ghost use Rattle.btree_change.specs.Updates.{GivesUp};
 
 use crate::by_sight::{Request, hold_by_sight};
 use crate::descent::{Held, at_root, let_go_of};
+use crate::leaf_removal::{not_found, take_in_leaf};
 use crate::mending::{join, share, sink};
 use crate::sibling::{Siblings, is_leaf, is_small, pair_count, take_child, take_sibling};
-use crate::taking::{not_found, take_in_leaf};
 use node_store::{Busy, Locking, Waiting, begun_in};
 use reg_model::Removed;
 use std::sync::Wait;

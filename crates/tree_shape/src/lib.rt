@@ -9,6 +9,7 @@
 //! numbers in `limits`.
 #![tactic(auto)]
 
+mod array_front;
 mod edits;
 mod find;
 mod join;
@@ -16,7 +17,6 @@ pub mod laws;
 pub mod limits;
 mod node;
 mod pair;
-mod row;
 mod split;
 
 pub use edits::{drop_pair, put_entry, put_pair, replace_entry, set_separator, take_entry};

@@ -4,9 +4,9 @@ ghost use Rattle.std.specs.Prelude.{◌≡◌, ◌≤◌, ◌+◌, ◌-◌, ◌^
 ghost use Rattle.tree_shape.specs.NodeData.{Entries, Pairs, entries_of, frame_of, pairs_of};
 ghost use Rattle.tree_shape.specs.Nodes.{body_of, IsCounted};
 
+use crate::array_front::fill;
 use crate::limits::{ENTRIES, PAIRS};
 use crate::pair::Pair;
-use crate::row::fill;
 use reg_model::{Member, Span};
 use std::marker::Model;
 

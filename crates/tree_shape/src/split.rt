@@ -6,10 +6,10 @@ ghost use Rattle.tree_shape.specs.NodeData.{entries_of, pairs_of};
 ghost use Rattle.tree_shape.specs.Nodes.{framed};
 ghost use Rattle.tree_shape.specs.Changes.{first_half, last_half, pair, pairs_end};
 
+use crate::array_front::{cut, item};
 use crate::limits::{ENTRIES, HIGHEST_LEVEL, LEFT_ENTRIES, LEFT_PAIRS, PAIRS};
 use crate::node::{Node, NodeBounds, inner_of, leaf_of};
 use crate::pair::Pair;
-use crate::row::{cut, item};
 use reg_model::Member;
 
 /// The two leaves that a leaf with these entries is cut into.

@@ -7,7 +7,7 @@ use Rattle.btree_change.proofs.Absences.{absent_after, absent_so, none_of, shows
 use Rattle.btree_change.proofs.HeldOutlines.{alone_spells}
 use Rattle.btree_change.proofs.Lowering.{settled_live, settled_order}
 use Rattle.btree_change.proofs.Putting.{leaf_at_zero}
-use Rattle.btree_change.proofs.taking.not_found.Goals as goal
+use Rattle.btree_change.proofs.leaf_removal.not_found.Goals as goal
 
 pub begins_at-begins-requires-clause-spells : goal.begins_at-begins-requires-clause-spells
 begins_at-begins-requires-clause-spells c = alone_spells c.args.words.now.terms c.args.leaf.now c.args.me.now.log c.requires.alone

@@ -10,8 +10,8 @@ use Rattle.btree_change.proofs.Spending.{due_after, spends_same}
 use Rattle.btree_change.proofs.Storing.{IsRewritten}
 use Rattle.btree_change.proofs.Takings.{may_take, take_so}
 use Rattle.btree_change.proofs.TakingThere.{cut_alone, cut_leaf, cut_spells, cut_steps, cut_there, cut_tree, cut_written, may_cut_there, taken_there}
-use Rattle.btree_change.proofs.taking.take_in_leaf.Goals.{After-cut_in_place-member, After-load_node}
-use Rattle.btree_change.proofs.taking.take_in_leaf.Goals as goal
+use Rattle.btree_change.proofs.leaf_removal.take_in_leaf.Goals.{After-cut_in_place-member, After-load_node}
+use Rattle.btree_change.proofs.leaf_removal.take_in_leaf.Goals as goal
 
 leaf : (c : After-load_node) → IsLeaf c.args.leaf.now.content
 leaf c = cut_leaf c.args.words.now.terms c.args.leaf.now c.args.me.now c.load_node.new.me c.load_node.result c.requires.alone c.load_node.ensures.log c.requires.level

@@ -1,6 +1,6 @@
 use Rattle.std.proofs.Common.{◌∙◌, sym, ap, arith, nat_eq}
 use Rattle.btree_change.proofs.Absences.{none_begun, one_begun}
-use Rattle.btree_change.proofs.taking.begins_at.Goals as goal
+use Rattle.btree_change.proofs.leaf_removal.begins_at.Goals as goal
 
 pub returns-then-begun-eq0-clause-begins : goal.returns-then-begun-eq0-clause-begins
 returns-then-begun-eq0-clause-begins c = sym (none_begun c.args.base c.args.leaf.now.content c.requires.leaf c.requires.ordered (sym c.if-begun-eq0.true ∙ c.requires.begun))

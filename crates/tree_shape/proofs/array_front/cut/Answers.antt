@@ -1,6 +1,6 @@
 use Rattle.std.proofs.Common.{arith}
 use Rattle.tree_shape.proofs.Rows.{take_over, drop_over}
-use Rattle.tree_shape.proofs.row.cut.Goals as goal
+use Rattle.tree_shape.proofs.array_front.cut.Goals as goal
 
 pub returns-else-n-first-clause-before : goal.returns-else-n-first-clause-before
 returns-else-n-first-clause-before g c = take_over c.args.first.now c.args.last.now c.args.n (omega arith)

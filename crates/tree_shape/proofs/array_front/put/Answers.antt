@@ -1,6 +1,6 @@
 use Rattle.std.proofs.Common.{arith, length, refl, ◌+◌, ◌-◌}
 use Rattle.std.proofs.lemmas.Slice.{take-put_mid}
-use Rattle.tree_shape.proofs.row.put.Goals as goal
+use Rattle.tree_shape.proofs.array_front.put.Goals as goal
 
 pub returns : goal.returns
 returns g c =
