@@ -36,19 +36,30 @@ Takes-then g h r x mid y behind s t =
       spells = (x, s.front, t.front, refl, s.spells, subst (λ (p : ℕ). (h x).Spells p t.front y) s.place t.spells);
     }
 
+pub then_refuses : {F A B : Type 0} (g : Part F A) (h : A → Part F B) → IsExact g
+    → ((x : A) (r : CursorData) (f : F) → (h x).read r ≡ Err f → (h x).Refuses r.at r.bytes f) → (r : CursorData) (f : F) → (g >>= h).read r ≡ Err f → (g >>= h).Refuses r.at r.bytes f
+then_refuses g h eg refuses r f e =
+    elim (bind_err (g.read r) (λ z. (h z.0).read z.1) f e) [
+      | inl stopped ↦ inl (eg.refuses r f stopped)
+      | inr a ↦
+          let s = eg.takes r a.0.0 a.0.1 a.1 in
+          inr (a.0.0, s.front, a.0.1.bytes, s.parts, s.spells, subst (λ (p : ℕ). (h a.0.0).Refuses p a.0.1.bytes f) s.place (refuses a.0.0 a.0.1 f a.2))
+    ]
+
+pub then_refused : {F A B : Type 0} (g : Part F A) (h : A → Part F B) → IsExact g
+    → ((x : A) (p : ℕ) (bytes : List ℕ) (f : F) → (h x).Refuses p bytes f → (h x).read (left p bytes) ≡ Err f) → (p : ℕ) (bytes : List ℕ) (f : F) → (g >>= h).Refuses p bytes f → (g >>= h).read (left p bytes) ≡ Err f
+then_refused g h eg refused p bytes f (inl stopped) = rw (eg.refused p bytes f stopped) refl
+then_refused g h eg refused p bytes f (inr a) =
+    let first = eg.again p a.1 a.2 a.0 a.4 in
+    let whole : ◌and_then◌ (g.read (left p (a.1 ++ a.2))) (λ z. (h z.0).read z.1) ≡ Err f = rw first (refused a.0 (p + length a.1) a.2 f a.5) in
+    ap (λ (bs : List ℕ). ◌and_then◌ (g.read (left p bs)) (λ z. (h z.0).read z.1)) a.3 ∙ whole
+
 pub then_exact : {F A B : Type 0} (g : Part F A) (h : A → Part F B) → IsExact g → ((x : A) → IsExact (h x)) → IsExact (g >>= h)
 then_exact {F} {A} {B} g h eg eh = record {
   takes = λ r y behind e.
       let a = bind_ok (g.read r) (λ z. (h z.0).read z.1) (y, behind) e in
       Takes-then g h r a.0.0 a.0.1 y behind (eg.takes r a.0.0 a.0.1 a.1) ((eh a.0.0).takes a.0.1 y behind a.2);
-  refuses = λ r f e.
-      elim (bind_err (g.read r) (λ z. (h z.0).read z.1) f e) [
-        | inl stopped ↦ inl (eg.refuses r f stopped)
-        | inr a ↦
-            let s = eg.takes r a.0.0 a.0.1 a.1 in
-            let later = (eh a.0.0).refuses a.0.1 f a.2 in
-            inr (a.0.0, s.front, a.0.1.bytes, s.parts, s.spells, subst (λ (p : ℕ). (h a.0.0).Refuses p a.0.1.bytes f) s.place later)
-      ];
+  refuses = then_refuses g h eg (λ x. (eh x).refuses);
   again = λ p front back y s.
       let first = eg.again p s.1 (s.2 ++ back) s.0 s.4 in
       let second = (eh s.0).again (p + length s.1) s.2 back y s.5 in
@@ -56,15 +67,7 @@ then_exact {F} {A} {B} g h eg eh = record {
       let place : p + length s.1 + length s.2 ≡ p + length front = omega (arith, length-append s.1 s.2, ap length s.3) in
       let whole : ◌and_then◌ (g.read (left p (s.1 ++ (s.2 ++ back)))) (λ z. (h z.0).read z.1) ≡ Ok (y, left (p + length s.1 + length s.2) back) = rw first second in
       ap (λ (bs : List ℕ). ◌and_then◌ (g.read (left p bs)) (λ z. (h z.0).read z.1)) regrouped ∙ whole ∙ ap (λ (q : ℕ). Ok (y, left q back)) place;
-  refused = λ p bytes f s.
-      elim s [
-        | inl stopped ↦ rw (eg.refused p bytes f stopped) refl
-        | inr a ↦
-            let first = eg.again p a.1 a.2 a.0 a.4 in
-            let second = (eh a.0).refused (p + length a.1) a.2 f a.5 in
-            let whole : ◌and_then◌ (g.read (left p (a.1 ++ a.2))) (λ z. (h z.0).read z.1) ≡ Err f = rw first second in
-            ap (λ (bs : List ℕ). ◌and_then◌ (g.read (left p bs)) (λ z. (h z.0).read z.1)) a.3 ∙ whole
-      ];
+  refused = then_refused g h eg (λ x. (eh x).refused);
 }
 
 -- ---- no bytes
@@ -147,51 +150,77 @@ lift_exact {F} {G} {A} place g eg = record {
 
 -- ---- data of a stated length
 
+-- what they hold is read, and what is behind them is left: also where they are wholly a part
+pub data_takes : {F A : Type 0} (short : F) (n : ℕ) (g d : Part F A) (r : CursorData) (y : A) (behind : CursorData) → (block short n g).read r ≡ Ok (y, behind)
+    → ((x : A) (rest : CursorData) → length (take n r.bytes) ≡ n → g.read (left r.at (take n r.bytes)) ≡ Ok (x, rest) → d.Spells r.at (take n r.bytes) x) → Takes d r y behind
+data_takes {F} {A} short n g d r y behind e spells =
+    let inside = left r.at (take n r.bytes) in
+    let opened = guarded {A = CursorData × CursorData} {B = A × CursorData} (nat_lt (length r.bytes) n) short (inside, skipped n r) (λ d. ◌and_then◌ (g.read d.0) (λ z. Ok (z.0, d.1))) in
+    let a = cond_err (nat_lt (length r.bytes) n) short (◌and_then◌ (g.read inside) (λ z. Ok (z.0, skipped n r))) (y, behind) (sym opened ∙ e) in
+    let long : n ≤ length r.bytes = ltb-false _ _ a.0 in
+    let b = bind_ok (g.read inside) (λ z. Ok (z.0, skipped n r)) (y, behind) a.1 in
+    let size : length (take n r.bytes) ≡ n = omega (arith, length-take n r.bytes) in
+    let made : Takes d r b.0.0 (skipped n r) = record {
+      front = take n r.bytes;
+      parts = sym (take-append-drop n r.bytes);
+      place = omega (arith, size);
+      spells = spells b.0.0 b.0.1 size b.1;
+    } in
+    let same : (b.0.0, skipped n r) ≡ (y, behind) = ok_is {F = F} (b.0.0, skipped n r) (y, behind) b.2 in
+    subst (λ (z : A × CursorData). Takes d r z.0 z.1) {x = (b.0.0, skipped n r)} {y = (y, behind)} same made
+
+pub data_refuses : {F A : Type 0} (short : F) (n : ℕ) (g : Part F A) → ((r : CursorData) (f : F) → g.read r ≡ Err f → g.Refuses r.at r.bytes f)
+    → (r : CursorData) (f : F) → (block short n g).read r ≡ Err f → (block short n g).Refuses r.at r.bytes f
+data_refuses {F} {A} short n g refuses r f e =
+    let inside = left r.at (take n r.bytes) in
+    let opened = guarded {A = CursorData × CursorData} {B = A × CursorData} (nat_lt (length r.bytes) n) short (inside, skipped n r) (λ d. ◌and_then◌ (g.read d.0) (λ z. Ok (z.0, d.1))) in
+    elim (cond_errs (nat_lt (length r.bytes) n) short (◌and_then◌ (g.read inside) (λ z. Ok (z.0, skipped n r))) f (sym opened ∙ e)) [
+      | inl a ↦ inl (ltb-true _ _ a.0, a.1)
+      | inr a ↦
+          let long : n ≤ length r.bytes = ltb-false _ _ a.0 in
+          let size : length (take n r.bytes) ≡ n = omega (arith, length-take n r.bytes) in
+          elim (bind_err (g.read inside) (λ z. Ok (z.0, skipped n r)) f a.1) [
+            | inl stopped ↦ inr (take n r.bytes, drop n r.bytes, sym (take-append-drop n r.bytes), size, refuses inside f stopped)
+            | inr b ↦ absurd (let no = b.2 in cc)
+          ]
+    ]
+
+pub data_again : {F A : Type 0} (short : F) (n : ℕ) (g : Part F A) (p : ℕ) (front back : List ℕ) (y : A) (rest : CursorData) → length front ≡ n → g.read (left p front) ≡ Ok (y, rest)
+    → (block short n g).read (left p (front ++ back)) ≡ Ok (y, left (p + length front) back)
+data_again short n g p front back y rest size whole =
+    let long : nat_lt (length (front ++ back)) n ≡ false = le-ltb _ _ (omega (arith, size, length-append front back)) in
+    let held : take n (front ++ back) ≡ front = take_at front back n size in
+    let behind : drop n (front ++ back) ≡ back = drop_at front back n size in
+    rw (long, held, behind, whole, size) refl
+
+pub data_refused : {F A : Type 0} (short : F) (n : ℕ) (g : Part F A) → ((p : ℕ) (bytes : List ℕ) (f : F) → g.Refuses p bytes f → g.read (left p bytes) ≡ Err f)
+    → (p : ℕ) (bytes : List ℕ) (f : F) → (block short n g).Refuses p bytes f → (block short n g).read (left p bytes) ≡ Err f
+data_refused {F} short n g refused p bytes f (inl a) = let tooshort : nat_lt (length bytes) n ≡ true = lt-ltb _ _ a.0 in rw tooshort (ap (λ (v : F). Err v) (sym a.1))
+data_refused short n g refused p bytes f (inr a) =
+    let long : nat_lt (length bytes) n ≡ false = le-ltb _ _ (omega (arith, ap length a.2, length-append a.0 a.1, a.3)) in
+    let held : take n bytes ≡ a.0 = ap (take n) a.2 ∙ take_at a.0 a.1 n a.3 in
+    rw (long, held, refused p a.0 f a.4) refl
+
 pub block_exact : {F A : Type 0} (short : F) (n : ℕ) (g : Part F A) → IsExact g → IsExact (block short n g)
-block_exact {F} {A} short n g eg = record {
+block_exact short n g eg = record {
   takes = λ r y behind e.
-      let inside = left r.at (take n r.bytes) in
-      let opened = guarded {A = CursorData × CursorData} {B = A × CursorData} (nat_lt (length r.bytes) n) short (inside, skipped n r) (λ d. ◌and_then◌ (g.read d.0) (λ z. Ok (z.0, d.1))) in
-      let a = cond_err (nat_lt (length r.bytes) n) short (◌and_then◌ (g.read inside) (λ z. Ok (z.0, skipped n r))) (y, behind) (sym opened ∙ e) in
-      let long : n ≤ length r.bytes = ltb-false _ _ a.0 in
-      let b = bind_ok (g.read inside) (λ z. Ok (z.0, skipped n r)) (y, behind) a.1 in
-      let t = eg.takes inside b.0.0 b.0.1 b.1 in
-      let size : length (take n r.bytes) ≡ n = omega (arith, length-take n r.bytes) in
-      let made : Takes (block short n g) r b.0.0 (skipped n r) = record {
-        front = take n r.bytes;
-        parts = sym (take-append-drop n r.bytes);
-        place = omega (arith, size);
-        spells = (size, (t.front, b.0.1.bytes, t.parts, t.spells));
-      } in
-      let same : (b.0.0, skipped n r) ≡ (y, behind) = ok_is {F = F} (b.0.0, skipped n r) (y, behind) b.2 in
-      subst (λ (z : A × CursorData). Takes (block short n g) r z.0 z.1) {x = (b.0.0, skipped n r)} {y = (y, behind)} same made;
-  refuses = λ r f e.
-      let inside = left r.at (take n r.bytes) in
-      let opened = guarded {A = CursorData × CursorData} {B = A × CursorData} (nat_lt (length r.bytes) n) short (inside, skipped n r) (λ d. ◌and_then◌ (g.read d.0) (λ z. Ok (z.0, d.1))) in
-      elim (cond_errs (nat_lt (length r.bytes) n) short (◌and_then◌ (g.read inside) (λ z. Ok (z.0, skipped n r))) f (sym opened ∙ e)) [
-        | inl a ↦ inl (ltb-true _ _ a.0, a.1)
-        | inr a ↦
-            let long : n ≤ length r.bytes = ltb-false _ _ a.0 in
-            let size : length (take n r.bytes) ≡ n = omega (arith, length-take n r.bytes) in
-            elim (bind_err (g.read inside) (λ z. Ok (z.0, skipped n r)) f a.1) [
-              | inl stopped ↦ inr (take n r.bytes, drop n r.bytes, sym (take-append-drop n r.bytes), size, eg.refuses inside f stopped)
-              | inr b ↦ absurd (let no = b.2 in cc)
-            ]
-      ];
+      data_takes short n g (block short n g) r y behind e (λ x rest size read. let t = eg.takes (left r.at (take n r.bytes)) x rest read in (size, (t.front, rest.bytes, t.parts, t.spells)));
+  refuses = data_refuses short n g eg.refuses;
   again = λ p front back y s.
-      let long : nat_lt (length (front ++ back)) n ≡ false = le-ltb _ _ (omega (arith, s.0, length-append front back)) in
-      let held : take n (front ++ back) ≡ front = take_at front back n s.0 in
-      let behind : drop n (front ++ back) ≡ back = drop_at front back n s.0 in
       let first = eg.again p s.1.0 s.1.1 y s.1.3 in
-      let whole : g.read (left p front) ≡ Ok (y, left (p + length s.1.0) s.1.1) = ap (λ (bs : List ℕ). g.read (left p bs)) s.1.2 ∙ first in
-      rw (long, held, behind, whole, s.0) refl;
-  refused = λ p bytes f s.
-      elim s [
-        | inl a ↦ let tooshort : nat_lt (length bytes) n ≡ true = lt-ltb _ _ a.0 in rw tooshort (ap (λ (v : F). Err v) (sym a.1))
-        | inr a ↦
-            let long : nat_lt (length bytes) n ≡ false = le-ltb _ _ (omega (arith, ap length a.2, length-append a.0 a.1, a.3)) in
-            let held : take n bytes ≡ a.0 = ap (take n) a.2 ∙ take_at a.0 a.1 n a.3 in
-            let stopped = eg.refused p a.0 f a.4 in
-            rw (long, held, stopped) refl
-      ];
+      data_again short n g p front back y (left (p + length s.1.0) s.1.1) s.0 (ap (λ (bs : List ℕ). g.read (left p bs)) s.1.2 ∙ first);
+  refused = data_refused short n g eg.refused;
+}
+
+-- ---- a part that is stated in another way
+
+pub restated_exact : {F A : Type 0} (g h : Part F A) → ((r : CursorData) → h.read r ≡ g.read r)
+    → ((p : ℕ) (text : List ℕ) (x : A) → (g.Spells p text x → h.Spells p text x) × (h.Spells p text x → g.Spells p text x))
+    → ((p : ℕ) (bytes : List ℕ) (f : F) → (g.Refuses p bytes f → h.Refuses p bytes f) × (h.Refuses p bytes f → g.Refuses p bytes f))
+    → IsExact g → IsExact h
+restated_exact g h reads spells refuses eg = record {
+  takes = λ r x behind e. let t = eg.takes r x behind (sym (reads r) ∙ e) in record { front = t.front; parts = t.parts; place = t.place; spells = (spells r.at t.front x).0 t.spells };
+  refuses = λ r f e. (refuses r.at r.bytes f).0 (eg.refuses r f (sym (reads r) ∙ e));
+  again = λ p front back x s. reads (left p (front ++ back)) ∙ eg.again p front back x ((spells p front x).1 s);
+  refused = λ p bytes f s. reads (left p bytes) ∙ eg.refused p bytes f ((refuses p bytes f).1 s);
 }

@@ -1,5 +1,5 @@
 -- The parts that are read at once are exact: numbers of fixed width, LEB128 numbers and texts.
-use Rattle.std.proofs.Common.{◌≡◌, ℕ, suc, ◌+◌, ◌^◌, ◌<◌, ◌≤◌, ◌⊎◌, ℤ, List, [], ◌∷◌, ◌++◌, length, take, drop, Bool, true, false, cond, Option, Some, None, Ok, Err, nat_lt, nat_eq, refl, sym, ap, subst, ◌∙◌, append_assoc, length-append, arith, inl, inr}
+use Rattle.std.proofs.Common.{◌≡◌, ℕ, suc, ◌+◌, ◌^◌, ◌<◌, ◌≤◌, ◌⊎◌, List, [], ◌∷◌, ◌++◌, length, take, drop, Bool, true, false, cond, Option, Some, None, Result, Ok, Err, nat_lt, nat_eq, refl, sym, ap, subst, ◌∙◌, append_assoc, length-append, arith, inl, inr}
 use Rattle.std.specs.Option.{option_map}
 use Rattle.std.proofs.lemmas.Bool.{ltb-false, ltb-true, le-ltb, lt-ltb, eqb-true}
 use Rattle.std.proofs.lemmas.List.{take-append-drop, take_at, drop_at, length-take}
@@ -11,7 +11,8 @@ use Rattle.eh_bytes.specs.CursorData.{CursorData, skipped, text_len, text_of, te
 use Rattle.eh_bytes.specs.Leb.{IsLeb, leb_len, uleb_value, sleb_value, fits_signed, uleb_of, sleb_of}
 use Rattle.eh_bytes.specs.Fields.{fixed, uleb, sleb, text}
 use Rattle.eh_bytes.proofs.Results.{ok_is, guard_ok, guard_err, fits_ok, fits_err}
-use Rattle.eh_bytes.proofs.Exact.{left, Takes, IsExact}
+use Rattle.eh_bytes.specs.Grammar.{Part}
+use Rattle.eh_bytes.proofs.Exact.{left, Takes, IsExact, restated_exact}
 
 -- ---- numbers of fixed width
 
@@ -84,115 +85,97 @@ IsLeb-take xs n e =
     let size : length (take n xs) ≡ n = omega (arith, a.0, length-take n xs) in
     (size, a.1 ∙ ap (λ (k : ℕ). Some k) (sym size))
 
--- ---- unsigned numbers
+-- ---- numbers of any length
 
-uleb_some : (r : CursorData) (o : Option ℕ) (x : ℕ) (behind : CursorData) → uleb_of r o ≡ Ok (x, behind)
-    → (n : ℕ) × (o ≡ Some n) × (nat_lt (uleb_value (take n r.bytes)) (2 ^ 64) ≡ true) × (let made : ℕ × CursorData = (uleb_value (take n r.bytes), skipped n r) in made ≡ (x, behind))
-unfolding uleb_of
-uleb_some r None x behind e = absurd cc
-uleb_some r (Some n) x behind e =
-    let g = fits_ok (nat_lt (uleb_value (take n r.bytes)) (2 ^ 64)) (bytes.TooWide r.at) (uleb_value (take n r.bytes), skipped n r) (x, behind) e in
+-- a number with its value, which fits or does not
+abbrev leb_read : {V : Type 0} → (List ℕ → V) → (List ℕ → Bool) → CursorData → Option ℕ → Result (V × CursorData) ByteFault
+leb_read value fits r None = Err (bytes.Short r.at)
+leb_read value fits r (Some n) = cond (fits (take n r.bytes)) (Ok (value (take n r.bytes), skipped n r)) (Err (bytes.TooWide r.at))
+
+abbrev leb : {V : Type 0} → (List ℕ → V) → (List ℕ → Bool) → Part ByteFault V
+leb value fits = record {
+  Spells = λ p text x. IsLeb text × (fits text ≡ true) × (value text ≡ x);
+  Refuses = λ p bs f.
+      ((leb_len bs ≡ None) × (f ≡ bytes.Short p))
+      ⊎ ((text : List ℕ) × (back : List ℕ) × (bs ≡ text ++ back) × IsLeb text × (fits text ≡ false) × (f ≡ bytes.TooWide p));
+  read = λ r. leb_read value fits r (leb_len r.bytes);
+}
+
+leb_some : {V : Type 0} (value : List ℕ → V) (fits : List ℕ → Bool) (r : CursorData) (o : Option ℕ) (x : V) (behind : CursorData) → leb_read value fits r o ≡ Ok (x, behind)
+    → (n : ℕ) × (o ≡ Some n) × (fits (take n r.bytes) ≡ true) × (let made : V × CursorData = (value (take n r.bytes), skipped n r) in made ≡ (x, behind))
+leb_some value fits r None x behind e = absurd cc
+leb_some value fits r (Some n) x behind e =
+    let g = fits_ok (fits (take n r.bytes)) (bytes.TooWide r.at) (value (take n r.bytes), skipped n r) (x, behind) e in
     (n, refl, g.0, g.1)
 
-uleb_none : (r : CursorData) (o : Option ℕ) (e : ByteFault) → uleb_of r o ≡ Err e
-    → ((o ≡ None) × (e ≡ bytes.Short r.at)) ⊎ ((n : ℕ) × (o ≡ Some n) × (nat_lt (uleb_value (take n r.bytes)) (2 ^ 64) ≡ false) × (e ≡ bytes.TooWide r.at))
-unfolding uleb_of
-uleb_none r None e same = inl (refl, sym (let made : bytes.Short r.at ≡ e = cc in made))
-uleb_none r (Some n) e same =
-    let g = fits_err (nat_lt (uleb_value (take n r.bytes)) (2 ^ 64)) (bytes.TooWide r.at) e (uleb_value (take n r.bytes), skipped n r) same in
+leb_none : {V : Type 0} (value : List ℕ → V) (fits : List ℕ → Bool) (r : CursorData) (o : Option ℕ) (e : ByteFault) → leb_read value fits r o ≡ Err e
+    → ((o ≡ None) × (e ≡ bytes.Short r.at)) ⊎ ((n : ℕ) × (o ≡ Some n) × (fits (take n r.bytes) ≡ false) × (e ≡ bytes.TooWide r.at))
+leb_none value fits r None e same = inl (refl, sym (let made : bytes.Short r.at ≡ e = cc in made))
+leb_none value fits r (Some n) e same =
+    let g = fits_err (fits (take n r.bytes)) (bytes.TooWide r.at) e (value (take n r.bytes), skipped n r) same in
     inr (n, refl, g.0, g.1)
+
+leb_exact : {V : Type 0} (value : List ℕ → V) (fits : List ℕ → Bool) → IsExact (leb value fits)
+leb_exact {V} value fits = record {
+  takes = λ r x behind e.
+      let a = leb_some value fits r (leb_len r.bytes) x behind e in
+      let is = IsLeb-take r.bytes a.0 a.1 in
+      let made : Takes (leb value fits) r (value (take a.0 r.bytes)) (skipped a.0 r) = record {
+        front = take a.0 r.bytes;
+        parts = sym (take-append-drop a.0 r.bytes);
+        place = omega (arith, is.0);
+        spells = (is.1, a.2, refl);
+      } in
+      subst (λ (z : V × CursorData). Takes (leb value fits) r z.0 z.1) a.3 made;
+  refuses = λ r f e.
+      elim (leb_none value fits r (leb_len r.bytes) f e) [
+        | inl a ↦ inl (a.0, a.1)
+        | inr a ↦
+            let is = IsLeb-take r.bytes a.0 a.1 in
+            inr (take a.0 r.bytes, drop a.0 r.bytes, sym (take-append-drop a.0 r.bytes), is.1, a.2, a.3)
+      ];
+  again = λ p front back x s.
+      let ends = leb_len-append front back (length front) s.0 in
+      let held : take (length front) (front ++ back) ≡ front = take_at front back (length front) refl in
+      let behind : drop (length front) (front ++ back) ≡ back = drop_at front back (length front) refl in
+      rw (ends, held, behind, s.1, s.2) refl;
+  refused = λ p bytes f s.
+      elim s [
+        | inl a ↦ rw a.0 (ap (λ (v : ByteFault). Err v) (sym a.1))
+        | inr a ↦
+            let ends : leb_len bytes ≡ Some (length a.0) = ap leb_len a.2 ∙ leb_len-append a.0 a.1 (length a.0) a.3 in
+            let held : take (length a.0) bytes ≡ a.0 = ap (take (length a.0)) a.2 ∙ take_at a.0 a.1 (length a.0) refl in
+            rw (ends, held, a.4) (ap (λ (v : ByteFault). Err v) (sym a.5))
+      ];
+}
+
+abbrev fits_unsigned : List ℕ → Bool
+fits_unsigned text = nat_lt (uleb_value text) (2 ^ 64)
+
+uleb_read : (r : CursorData) (o : Option ℕ) → uleb_of r o ≡ leb_read uleb_value fits_unsigned r o
+unfolding uleb_of
+uleb_read r None = refl
+uleb_read r (Some n) = refl
 
 pub uleb_exact : IsExact uleb
-unfolding uleb_of
-uleb_exact = record {
-  takes = λ r x behind e.
-      let a = uleb_some r (leb_len r.bytes) x behind e in
-      let leb = IsLeb-take r.bytes a.0 a.1 in
-      let made : Takes uleb r (uleb_value (take a.0 r.bytes)) (skipped a.0 r) = record {
-        front = take a.0 r.bytes;
-        parts = sym (take-append-drop a.0 r.bytes);
-        place = omega (arith, leb.0);
-        spells = (leb.1, ltb-true _ _ a.2, refl);
-      } in
-      subst (λ (z : ℕ × CursorData). Takes uleb r z.0 z.1) a.3 made;
-  refuses = λ r f e.
-      elim (uleb_none r (leb_len r.bytes) f e) [
-        | inl a ↦ inl (a.0, a.1)
-        | inr a ↦
-            let leb = IsLeb-take r.bytes a.0 a.1 in
-            inr (take a.0 r.bytes, drop a.0 r.bytes, sym (take-append-drop a.0 r.bytes), leb.1, ltb-false _ _ a.2, a.3)
-      ];
-  again = λ p front back x s.
-      let ends = leb_len-append front back (length front) s.0 in
-      let held : take (length front) (front ++ back) ≡ front = take_at front back (length front) refl in
-      let behind : drop (length front) (front ++ back) ≡ back = drop_at front back (length front) refl in
-      let fits : (nat_lt (uleb_value front) (2 ^ 64)) ≡ true = lt-ltb _ _ s.1 in
-      rw (ends, held, behind, fits, s.2) refl;
-  refused = λ p bytes f s.
-      elim s [
-        | inl a ↦ rw a.0 (ap (λ (v : ByteFault). Err v) (sym a.1))
-        | inr a ↦
-            let ends : leb_len bytes ≡ Some (length a.0) = ap leb_len a.2 ∙ leb_len-append a.0 a.1 (length a.0) a.3 in
-            let held : take (length a.0) bytes ≡ a.0 = ap (take (length a.0)) a.2 ∙ take_at a.0 a.1 (length a.0) refl in
-            let wide : (nat_lt (uleb_value a.0) (2 ^ 64)) ≡ false = le-ltb _ _ a.4 in
-            rw (ends, held, wide) (ap (λ (v : ByteFault). Err v) (sym a.5))
-      ];
-}
+uleb_exact =
+    restated_exact (leb uleb_value fits_unsigned) uleb (λ r. uleb_read r (leb_len r.bytes))
+    (λ p text x. (λ s. (s.0, ltb-true _ _ s.1, s.2), λ s. (s.0, lt-ltb _ _ s.1, s.2)))
+    (λ p bytes f. (
+      λ s. elim s [ inl a ↦ inl a | inr a ↦ inr (a.0, a.1, a.2, a.3, ltb-false _ _ a.4, a.5) ],
+      λ s. elim s [ inl a ↦ inl a | inr a ↦ inr (a.0, a.1, a.2, a.3, le-ltb _ _ a.4, a.5) ],
+    ))
+    (leb_exact uleb_value fits_unsigned)
 
--- ---- signed numbers
-
-sleb_some : (r : CursorData) (o : Option ℕ) (x : ℤ) (behind : CursorData) → sleb_of r o ≡ Ok (x, behind)
-    → (n : ℕ) × (o ≡ Some n) × (fits_signed (sleb_value (take n r.bytes)) ≡ true) × (let made : ℤ × CursorData = (sleb_value (take n r.bytes), skipped n r) in made ≡ (x, behind))
+sleb_read : (r : CursorData) (o : Option ℕ) → sleb_of r o ≡ leb_read sleb_value (λ text. fits_signed (sleb_value text)) r o
 unfolding sleb_of
-sleb_some r None x behind e = absurd cc
-sleb_some r (Some n) x behind e =
-    let g = fits_ok (fits_signed (sleb_value (take n r.bytes))) (bytes.TooWide r.at) (sleb_value (take n r.bytes), skipped n r) (x, behind) e in
-    (n, refl, g.0, g.1)
-
-sleb_none : (r : CursorData) (o : Option ℕ) (e : ByteFault) → sleb_of r o ≡ Err e
-    → ((o ≡ None) × (e ≡ bytes.Short r.at)) ⊎ ((n : ℕ) × (o ≡ Some n) × (fits_signed (sleb_value (take n r.bytes)) ≡ false) × (e ≡ bytes.TooWide r.at))
-unfolding sleb_of
-sleb_none r None e same = inl (refl, sym (let made : bytes.Short r.at ≡ e = cc in made))
-sleb_none r (Some n) e same =
-    let g = fits_err (fits_signed (sleb_value (take n r.bytes))) (bytes.TooWide r.at) e (sleb_value (take n r.bytes), skipped n r) same in
-    inr (n, refl, g.0, g.1)
+sleb_read r None = refl
+sleb_read r (Some n) = refl
 
 pub sleb_exact : IsExact sleb
-unfolding sleb_of
-sleb_exact = record {
-  takes = λ r x behind e.
-      let a = sleb_some r (leb_len r.bytes) x behind e in
-      let leb = IsLeb-take r.bytes a.0 a.1 in
-      let made : Takes sleb r (sleb_value (take a.0 r.bytes)) (skipped a.0 r) = record {
-        front = take a.0 r.bytes;
-        parts = sym (take-append-drop a.0 r.bytes);
-        place = omega (arith, leb.0);
-        spells = (leb.1, a.2, refl);
-      } in
-      subst (λ (z : ℤ × CursorData). Takes sleb r z.0 z.1) a.3 made;
-  refuses = λ r f e.
-      elim (sleb_none r (leb_len r.bytes) f e) [
-        | inl a ↦ inl (a.0, a.1)
-        | inr a ↦
-            let leb = IsLeb-take r.bytes a.0 a.1 in
-            inr (take a.0 r.bytes, drop a.0 r.bytes, sym (take-append-drop a.0 r.bytes), leb.1, a.2, a.3)
-      ];
-  again = λ p front back x s.
-      let ends = leb_len-append front back (length front) s.0 in
-      let held : take (length front) (front ++ back) ≡ front = take_at front back (length front) refl in
-      let behind : drop (length front) (front ++ back) ≡ back = drop_at front back (length front) refl in
-      let fits : (fits_signed (sleb_value front)) ≡ true = s.1 in
-      rw (ends, held, behind, fits, s.2) refl;
-  refused = λ p bytes f s.
-      elim s [
-        | inl a ↦ rw a.0 (ap (λ (v : ByteFault). Err v) (sym a.1))
-        | inr a ↦
-            let ends : leb_len bytes ≡ Some (length a.0) = ap leb_len a.2 ∙ leb_len-append a.0 a.1 (length a.0) a.3 in
-            let held : take (length a.0) bytes ≡ a.0 = ap (take (length a.0)) a.2 ∙ take_at a.0 a.1 (length a.0) refl in
-            let wide : (fits_signed (sleb_value a.0)) ≡ false = a.4 in
-            rw (ends, held, wide) (ap (λ (v : ByteFault). Err v) (sym a.5))
-      ];
-}
+sleb_exact =
+    restated_exact (leb sleb_value (λ text. fits_signed (sleb_value text))) sleb (λ r. sleb_read r (leb_len r.bytes)) (λ p text x. (λ s. s, λ s. s)) (λ p bytes f. (λ s. s, λ s. s))
+    (leb_exact sleb_value (λ text. fits_signed (sleb_value text)))
 
 -- ---- texts
 

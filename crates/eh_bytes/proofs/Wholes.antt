@@ -1,12 +1,11 @@
 -- A part is whole where it takes all that is left, and reading it and its two relations agree.
-use Rattle.std.proofs.Common.{◌≡◌, ℕ, ◌+◌, ◌≤◌, List, [], ◌++◌, length, take, drop, Bool, true, false, Result, Ok, Err, nat_lt, refl, sym, ap, subst, ◌∙◌, length-append, arith, inl, inr}
-use Rattle.std.proofs.lemmas.Bool.{ltb-false, ltb-true, le-ltb, lt-ltb}
-use Rattle.std.proofs.lemmas.List.{append-nil, take-append-drop, take_at, drop_at, length-take}
-use Rattle.eh_bytes.specs.CursorData.{CursorData, skipped}
+use Rattle.std.proofs.Common.{◌≡◌, ℕ, ◌+◌, List, [], ◌++◌, length, take, Bool, true, false, Result, Ok, Err, refl, sym, ap, subst, ◌∙◌, length-append, arith, inl, inr}
+use Rattle.std.proofs.lemmas.List.{append-nil}
+use Rattle.eh_bytes.specs.CursorData.{CursorData}
 use Rattle.eh_bytes.specs.Results.{◌and_then◌}
 use Rattle.eh_bytes.specs.Grammar.{Part, ◌>>=◌, give, when, lift, filled, with_rest, ended, bytes_of}
-use Rattle.eh_bytes.proofs.Results.{ok_is, bind_ok, bind_err, with_fault_ok, with_fault_err, cond_err, cond_errs, guarded}
-use Rattle.eh_bytes.proofs.Exact.{left, Takes, IsExact}
+use Rattle.eh_bytes.proofs.Results.{ok_is, bind_ok, bind_err, with_fault_ok, with_fault_err}
+use Rattle.eh_bytes.proofs.Exact.{left, IsExact, then_refuses, then_refused, data_takes, data_refuses, data_again, data_refused}
 
 -- the part spells all that is left
 pub record TakesAll {F A : Type 0} (g : Part F A) (r : CursorData) (x : A) (behind : CursorData) : Type 0 where
@@ -32,29 +31,14 @@ then_whole {F} {A} {B} g h eg eh = record {
         nothing = t.nothing ∙ ap (λ (q : ℕ). left q []) size;
         spells = (a.0.0, s.front, a.0.1.bytes, s.parts, s.spells, subst (λ (p : ℕ). (h a.0.0).Spells p a.0.1.bytes y) s.place t.spells);
       };
-  refuses = λ r f e.
-      elim (bind_err (g.read r) (λ z. (h z.0).read z.1) f e) [
-        | inl stopped ↦ inl (eg.refuses r f stopped)
-        | inr a ↦
-            let s = eg.takes r a.0.0 a.0.1 a.1 in
-            let later = (eh a.0.0).refuses a.0.1 f a.2 in
-            inr (a.0.0, s.front, a.0.1.bytes, s.parts, s.spells, subst (λ (p : ℕ). (h a.0.0).Refuses p a.0.1.bytes f) s.place later)
-      ];
+  refuses = then_refuses g h eg (λ x. (eh x).refuses);
   again = λ p text y s.
       let first = eg.again p s.1 s.2 s.0 s.4 in
       let second = (eh s.0).again (p + length s.1) s.2 y s.5 in
       let place : p + length s.1 + length s.2 ≡ p + length text = omega (arith, length-append s.1 s.2, ap length s.3) in
       let whole : ◌and_then◌ (g.read (left p (s.1 ++ s.2))) (λ z. (h z.0).read z.1) ≡ Ok (y, left (p + length s.1 + length s.2) []) = rw first second in
       ap (λ (bs : List ℕ). ◌and_then◌ (g.read (left p bs)) (λ z. (h z.0).read z.1)) s.3 ∙ whole ∙ ap (λ (q : ℕ). Ok (y, left q [])) place;
-  refused = λ p bytes f s.
-      elim s [
-        | inl stopped ↦ rw (eg.refused p bytes f stopped) refl
-        | inr a ↦
-            let first = eg.again p a.1 a.2 a.0 a.4 in
-            let second = (eh a.0).refused (p + length a.1) a.2 f a.5 in
-            let whole : ◌and_then◌ (g.read (left p (a.1 ++ a.2))) (λ z. (h z.0).read z.1) ≡ Err f = rw first second in
-            ap (λ (bs : List ℕ). ◌and_then◌ (g.read (left p bs)) (λ z. (h z.0).read z.1)) a.3 ∙ whole
-      ];
+  refused = then_refused g h eg (λ x. (eh x).refused);
 }
 
 -- a whole part, whose value is looked at in another way
@@ -164,49 +148,9 @@ bytes_of_whole {F} {A} g eg = record {
 
 -- data that a whole part fills
 pub filled_exact : {F A : Type 0} (short : F) (n : ℕ) (g : Part F A) → IsWhole g → IsExact (filled short n g)
-filled_exact {F} {A} short n g eg = record {
-  takes = λ r y behind e.
-      let inside = left r.at (take n r.bytes) in
-      let opened = guarded {A = CursorData × CursorData} {B = A × CursorData} (nat_lt (length r.bytes) n) short (inside, skipped n r) (λ d. ◌and_then◌ (g.read d.0) (λ z. Ok (z.0, d.1))) in
-      let a = cond_err (nat_lt (length r.bytes) n) short (◌and_then◌ (g.read inside) (λ z. Ok (z.0, skipped n r))) (y, behind) (sym opened ∙ e) in
-      let long : n ≤ length r.bytes = ltb-false _ _ a.0 in
-      let b = bind_ok (g.read inside) (λ z. Ok (z.0, skipped n r)) (y, behind) a.1 in
-      let t = eg.takes inside b.0.0 b.0.1 b.1 in
-      let size : length (take n r.bytes) ≡ n = omega (arith, length-take n r.bytes) in
-      let made : Takes (filled short n g) r b.0.0 (skipped n r) = record {
-        front = take n r.bytes;
-        parts = sym (take-append-drop n r.bytes);
-        place = omega (arith, size);
-        spells = (size, t.spells);
-      } in
-      let same : (b.0.0, skipped n r) ≡ (y, behind) = ok_is {F = F} (b.0.0, skipped n r) (y, behind) b.2 in
-      subst (λ (z : A × CursorData). Takes (filled short n g) r z.0 z.1) {x = (b.0.0, skipped n r)} {y = (y, behind)} same made;
-  refuses = λ r f e.
-      let inside = left r.at (take n r.bytes) in
-      let opened = guarded {A = CursorData × CursorData} {B = A × CursorData} (nat_lt (length r.bytes) n) short (inside, skipped n r) (λ d. ◌and_then◌ (g.read d.0) (λ z. Ok (z.0, d.1))) in
-      elim (cond_errs (nat_lt (length r.bytes) n) short (◌and_then◌ (g.read inside) (λ z. Ok (z.0, skipped n r))) f (sym opened ∙ e)) [
-        | inl a ↦ inl (ltb-true _ _ a.0, a.1)
-        | inr a ↦
-            let long : n ≤ length r.bytes = ltb-false _ _ a.0 in
-            let size : length (take n r.bytes) ≡ n = omega (arith, length-take n r.bytes) in
-            elim (bind_err (g.read inside) (λ z. Ok (z.0, skipped n r)) f a.1) [
-              | inl stopped ↦ inr (take n r.bytes, drop n r.bytes, sym (take-append-drop n r.bytes), size, eg.refuses inside f stopped)
-              | inr b ↦ absurd (let never = b.2 in cc)
-            ]
-      ];
-  again = λ p front back y s.
-      let long : nat_lt (length (front ++ back)) n ≡ false = le-ltb _ _ (omega (arith, s.0, length-append front back)) in
-      let held : take n (front ++ back) ≡ front = take_at front back n s.0 in
-      let behind : drop n (front ++ back) ≡ back = drop_at front back n s.0 in
-      let whole = eg.again p front y s.1 in
-      rw (long, held, behind, whole, s.0) refl;
-  refused = λ p bytes f s.
-      elim s [
-        | inl a ↦ let tooshort : nat_lt (length bytes) n ≡ true = lt-ltb _ _ a.0 in rw tooshort (ap (λ (v : F). Err v) (sym a.1))
-        | inr a ↦
-            let long : nat_lt (length bytes) n ≡ false = le-ltb _ _ (omega (arith, ap length a.2, length-append a.0 a.1, a.3)) in
-            let held : take n bytes ≡ a.0 = ap (take n) a.2 ∙ take_at a.0 a.1 n a.3 in
-            let stopped = eg.refused p a.0 f a.4 in
-            rw (long, held, stopped) refl
-      ];
+filled_exact short n g eg = record {
+  takes = λ r y behind e. data_takes short n g (filled short n g) r y behind e (λ x rest size read. (size, (eg.takes (left r.at (take n r.bytes)) x rest read).spells));
+  refuses = data_refuses short n g eg.refuses;
+  again = λ p front back y s. data_again short n g p front back y (left (p + length front) []) s.0 (eg.again p front y s.1);
+  refused = data_refused short n g eg.refused;
 }
