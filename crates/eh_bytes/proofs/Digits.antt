@@ -1,48 +1,22 @@
 -- LEB128 numbers from their places: the digit at a place, and the number of the digits from it on.
-use Rattle.std.proofs.Common.{◌≡◌, ℕ, zero, suc, ◌+◌, ◌-◌, ◌*◌, ◌%◌, ◌^◌, ◌<◌, ◌≤◌, ℤ, pos, negsuc, ◌+ℤ◌, ◌-ℤ◌, ◌*ℤ◌, ◌≤ℤ◌, ◌<ℤ◌, true, false, List, [], ◌∷◌, length, drop, get_or, Option, Some, None, Ok, nat_lt, refl, ap, arith, add-one, drop-cons, inl, inr, ◌⊎◌}
-use Rattle.std.specs.Option.{option_map}
+use Rattle.std.proofs.Common.{◌≡◌, ℕ, zero, suc, ◌+◌, ◌-◌, ◌*◌, ◌%◌, ◌^◌, ◌<◌, ◌≤◌, ℤ, pos, negsuc, ◌+ℤ◌, ◌-ℤ◌, ◌*ℤ◌, ◌≤ℤ◌, ◌<ℤ◌, true, false, List, [], ◌∷◌, length, take, drop, get_or, Result, Ok, nat_lt, refl, arith, drop-cons, inl, inr, ◌⊎◌}
 use Rattle.std.proofs.lemmas.Int.{ints}
 use Rattle.std.specs.Int.{w64}
 use mir.Val.{SFits, to_z}
 use Rattle.std.proofs.lemmas.Bool.{cases_lt, ltb-false, le-ltb, lt-ltb}
-use Rattle.std.proofs.lemmas.List.{drop_all}
-use Rattle.std.proofs.lemmas.Bool.Decides.{nat_tests}
+use Rattle.std.proofs.lemmas.List.{drop_all, take_all, length-drop}
+use Rattle.eh_bytes.specs.declared.fault.ByteFault.{ByteFault}
+use Rattle.eh_bytes.specs.CursorData.{CursorData}
 use Rattle.eh_bytes.specs.Leb.{leb_len, uleb_value, sleb_value, signed_digit, fits_signed, uleb_of, uleb_at, sleb_of, sleb_at}
 
--- a length, counted from i places before
-abbrev pub shifted : ℕ → Option ℕ → Option ℕ
-shifted i None = None
-shifted i (Some n) = Some (n + i)
-
-pub shifted-zero : (o : Option ℕ) → o ≡ shifted 0 o
-shifted-zero None = refl
-shifted-zero (Some n) = ap (λ (k : ℕ). Some k) (omega arith)
-
-pub shifted-suc : (i : ℕ) (o : Option ℕ) → shifted i (option_map suc o) ≡ shifted (i + 1) o
-shifted-suc i None = refl
-shifted-suc i (Some n) = ap (λ (k : ℕ). Some k) (omega arith)
-
--- a byte below 128 is the last
-pub leb_len-last : (bs : List ℕ) (i : ℕ) → i < length bs → get_or bs i 0 < 128 → leb_len (drop i bs) ≡ Some 1
-unfolding leb_len
-leb_len-last bs i lt low = rw (drop-cons bs i 0 lt) (grind (arith, nat_tests))
-
--- any other leads on
-pub leb_len-more : (bs : List ℕ) (i : ℕ) → i < length bs → 128 ≤ get_or bs i 0 → leb_len (drop i bs) ≡ option_map suc (leb_len (drop (i + 1) bs))
-unfolding leb_len
-leb_len-more bs i lt high = rw (drop-cons bs i 0 lt, add-one) (grind (arith, nat_tests))
-
-pub leb_len-end : (bs : List ℕ) (i : ℕ) → length bs ≤ i → leb_len (drop i bs) ≡ None
-unfolding leb_len
-leb_len-end [] zero le = refl
-leb_len-end [] (suc i) le = refl
-leb_len-end (b ∷ bs) zero le = absurd (omega arith)
-leb_len-end (b ∷ bs) (suc i) le = leb_len-end bs i (omega arith)
-
--- one digit more below
-pub uleb_value-digit : (bs : List ℕ) (i : ℕ) → i < length bs → uleb_value (drop i bs) ≡ get_or bs i 0 % 128 + 128 * uleb_value (drop (i + 1) bs)
+-- one digit more, below those from place k on
+pub uleb_value-digit : (bs : List ℕ) (k : ℕ) → 0 < k → k ≤ length bs → uleb_value (drop (k - 1) bs) ≡ get_or bs (k - 1) 0 % 128 + 128 * uleb_value (drop k bs)
 unfolding uleb_value
-uleb_value-digit bs i lt = rw (drop-cons bs i 0 lt, add-one) refl
+uleb_value-digit bs zero some le = absurd (omega arith)
+uleb_value-digit bs (suc i) some le =
+    let here : i < length bs = omega arith in
+    let below : suc i - 1 ≡ i = omega arith in
+    rw (below, drop-cons bs i 0 here) refl
 
 pub uleb_value-drop : (bs : List ℕ) (i : ℕ) → uleb_value (drop i bs) ≤ uleb_value bs
 unfolding uleb_value
@@ -51,12 +25,13 @@ uleb_value-drop [] (suc i) = omega arith
 uleb_value-drop (b ∷ bs) (suc i) = omega (arith, uleb_value-drop bs i)
 
 -- the same for signed numbers, whose last digit has the sign
-pub sleb_value-digit : (bs : List ℕ) (i : ℕ) → i + 1 < length bs → sleb_value (drop i bs) ≡ pos (get_or bs i 0 % 128) +ℤ pos 128 *ℤ sleb_value (drop (i + 1) bs)
+pub sleb_value-digit : (bs : List ℕ) (k : ℕ) → 0 < k → k < length bs → sleb_value (drop (k - 1) bs) ≡ pos (get_or bs (k - 1) 0 % 128) +ℤ pos 128 *ℤ sleb_value (drop k bs)
 unfolding sleb_value
-sleb_value-digit bs i lt =
+sleb_value-digit bs zero some lt = absurd (omega arith)
+sleb_value-digit bs (suc i) some lt =
     let here : i < length bs = omega arith in
-    let next : suc i < length bs = omega arith in
-    rw (add-one, drop-cons bs i 0 here, drop-cons bs (suc i) 0 next) refl
+    let below : suc i - 1 ≡ i = omega arith in
+    rw (below, drop-cons bs i 0 here, drop-cons bs (suc i) 0 lt) refl
 
 pub sleb_value-last : (bs : List ℕ) (i : ℕ) → i < length bs → length bs ≤ i + 1 → sleb_value (drop i bs) ≡ signed_digit (get_or bs i 0)
 unfolding sleb_value
@@ -149,6 +124,15 @@ sleb_at-byte [] at some low = absurd (omega arith)
 sleb_at-byte (b ∷ bs) at some low =
     let last : nat_lt b 128 ≡ true = lt-ltb _ _ low in
     rw (last, digit-fits b) refl
+
+-- a cursor that has its end and not its place, after n bytes
+pub after-bytes : {V : Type 0} (x : V) (bs : List ℕ) (end n : ℕ) → n ≤ length bs → length bs ≤ end
+    → (let made : ℕ → List ℕ → Result (V × CursorData) ByteFault = λ at rest. Ok (x, record { bytes = rest; at = at }) in
+    made (end - length bs + n) (drop n bs) ≡ made (end - length (take (length bs - n) (drop n bs))) (take (length bs - n) (drop n bs)))
+after-bytes x bs end n le within =
+    let behind : take (length bs - n) (drop n bs) ≡ drop n bs = take_all (length bs - n) (drop n bs) (omega (arith, length-drop n bs)) in
+    let moved : end - length bs + n ≡ end - length (drop n bs) = omega (arith, length-drop n bs) in
+    rw (behind, moved) refl
 
 -- the bits of a signed number of 64 bits
 pub fits-cast : (n : ℕ) → n < 2 ^ 64 → fits_signed (to_z w64 n) ≡ true

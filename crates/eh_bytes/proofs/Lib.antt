@@ -1,5 +1,5 @@
 pub mod Digits
-pub mod Texts
+pub mod Ends
 pub mod Results
 pub mod Exact
 pub mod Wholes

@@ -41,6 +41,11 @@ data_at short n r = if nat_lt (length r.bytes) n
 abbrev pub part_at : ℕ → CursorData → Result (CursorData × CursorData) ByteFault
 part_at n r = data_at (Short r.at) n r
 
+-- how many bytes stand before the first below a bound
+unfoldable pub first_below : ℕ → List ℕ → Option ℕ
+first_below n [] = None
+first_below n (b ∷ bs) = if nat_lt b n then Some 0 else option_map suc (first_below n bs)
+
 -- how many bytes stand before the first 0
 unfoldable pub text_len : List ℕ → Option ℕ
 text_len [] = None

@@ -13,7 +13,7 @@ use crate::encoding::{
     DW_EH_PE_udata4, DW_EH_PE_uleb128, application_of, is_format, is_pointer,
 };
 use crate::fault::ByteFault;
-use crate::leb::{leb_length, signed_digit, sleb_number, uleb_number};
+use crate::leb::{first_below, leb_length, signed_digit, sleb_number, uleb_number};
 use byteorder::{ByteOrder, LittleEndian};
 use std::marker::Model;
 
@@ -320,14 +320,10 @@ impl<'a> Cursor<'a> {
 }
 
 /// How many bytes stand before the first 0, or `None` where there is none.
+#[inline]
 fn text_length(bytes: &[u8]) -> Option<usize>
     ensures length { result ≡ text_len bytes.now }
     ensures within { IfSome result (λ n. n < length bytes.now) }
 {
-    for (i, b) in bytes.iter().enumerate() {
-        if *b == 0 {
-            return Some(i);
-        }
-    }
-    None
+    first_below(bytes, 1)
 }

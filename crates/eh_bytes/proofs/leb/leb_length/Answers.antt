@@ -1,20 +1,10 @@
-use Rattle.std.proofs.Common.{ℕ, ◌+◌, Some, drop, ap, sym, ◌∙◌, arith}
-use Rattle.eh_bytes.specs.Leb.{leb_len}
-use Rattle.eh_bytes.proofs.Digits.{shifted, shifted-zero, shifted-suc, leb_len-last, leb_len-more, leb_len-end}
+use Rattle.std.proofs.Common.{ℕ, suc, Some, ap, sym, ◌∙◌, arith}
+use Rattle.std.specs.Option.{option_map}
+use Rattle.eh_bytes.proofs.Ends.{leb_len-below}
 use Rattle.eh_bytes.proofs.leb.leb_length.Goals as goal
 
-pub loop-i-init : goal.loop-i-init
-loop-i-init c = shifted-zero (leb_len c.args.bytes.now)
-
-pub returns-then-b-lt128-clause-length : goal.returns-then-b-lt128-clause-length
-returns-then-b-lt128-clause-length c =
-    let here = leb_len-last c.args.bytes.now c.loop-i.i (omega arith) (omega arith) in
-    sym (c.loop-i.invariant ∙ ap (shifted c.loop-i.i) here ∙ ap (λ (k : ℕ). Some k) (omega arith))
-
-pub loop-i-preserved : goal.loop-i-preserved
-loop-i-preserved c =
-    let here = leb_len-more c.args.bytes.now c.loop-i.i (omega arith) (omega arith) in
-    c.loop-i.invariant ∙ ap (shifted c.loop-i.i) here ∙ shifted-suc c.loop-i.i (leb_len (drop (c.loop-i.i + 1) c.args.bytes.now))
-
 pub returns-clause-length : goal.returns-clause-length
-returns-clause-length c = sym (c.loop-i.invariant ∙ ap (shifted c.loop-i.i) (leb_len-end c.args.bytes.now c.loop-i.i (omega arith)))
+returns-clause-length c = sym (leb_len-below c.args.bytes.now ∙ ap (option_map suc) (sym c.in_ok-first_below.ensures.first) ∙ ap (λ (k : ℕ). Some k) (omega arith))
+
+pub returns-in_err-first_below-clause-length : goal.returns-in_err-first_below-clause-length
+returns-in_err-first_below-clause-length c = c.from_residual.ensures ∙ sym (leb_len-below c.args.bytes.now ∙ ap (option_map suc) (sym c.in_err-first_below.ensures.first))

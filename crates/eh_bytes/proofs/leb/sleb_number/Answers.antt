@@ -1,4 +1,4 @@
-use Rattle.std.proofs.Common.{◌≡◌, ◌%◌, ◌+◌, ◌-◌, pos, ◌+ℤ◌, ◌*ℤ◌, length, drop, get_or, refl, ap, sym, ◌∙◌, arith, false}
+use Rattle.std.proofs.Common.{◌≡◌, ◌%◌, ◌-◌, pos, ◌+ℤ◌, ◌*ℤ◌, length, drop, get_or, refl, ap, sym, ◌∙◌, arith, false}
 use Rattle.std.proofs.lemmas.Int.{ints}
 use Rattle.std.specs.Int.{w64}
 use mir.Val.{to_z}
@@ -14,25 +14,19 @@ loop-i-init c =
 
 pub loop-i-preserved : goal.loop-i-preserved
 loop-i-preserved c =
-    let text = c.args.text.now in
-    let i = c.loop-i.i - 1 in
-    let step : i + 1 ≡ c.loop-i.i = omega arith in
-    let digit = sleb_value-digit text i (omega arith) in
-    let same = ap (λ k. sleb_value (drop k text)) step in
-    record { within = omega arith; so_far = omega (arith, ints, digit, same, c.in-Some.ensures) }
+    let digit = sleb_value-digit c.args.text.now c.loop-i.i (omega arith) (omega arith) in
+    record { within = omega arith; so_far = omega (arith, ints, digit, c.in_ok-signed.ensures) }
 
-pub returns-in-None : goal.returns-in-None
-returns-in-None c =
+pub returns-in_err-signed : goal.returns-in_err-signed
+returns-in_err-signed c =
     let text = c.args.text.now in
     let i = c.loop-i.i - 1 in
     let number = to_z w64 c.loop-i.signed-bits in
-    let step : i + 1 ≡ c.loop-i.i = omega arith in
-    let digit = sleb_value-digit text i (omega arith) in
-    let here : sleb_value (drop i text) ≡ pos (get_or text i 0 % 128) +ℤ pos 128 *ℤ number =
-    digit ∙ ap (λ k. pos (get_or text i 0 % 128) +ℤ pos 128 *ℤ sleb_value (drop k text)) step ∙ ap (λ z. pos (get_or text i 0 % 128) +ℤ pos 128 *ℤ z) (sym c.loop-i.invariant.so_far) in
-    let wide : fits_signed (sleb_value (drop i text)) ≡ false = rw here (fits-product (get_or text i 0 % 128) number (omega arith) (λ fits. c.in-None.ensures fits)) in
+    let digit = pos (get_or text i 0 % 128) in
+    let here : sleb_value (drop i text) ≡ digit +ℤ pos 128 *ℤ number = sleb_value-digit text c.loop-i.i (omega arith) (omega arith) ∙ ap (λ z. digit +ℤ pos 128 *ℤ z) (sym c.loop-i.invariant.so_far) in
+    let wide : fits_signed (sleb_value (drop i text)) ≡ false = rw here (fits-product (get_or text i 0 % 128) number (omega arith) (λ fits. c.in_err-signed.ensures fits)) in
     let refused : fits_signed (sleb_value text) ≡ false = fits-drop text i (omega arith) wide in
-    rw refused refl
+    rw (c.from_residual.ensures, refused) refl
 
 pub returns : goal.returns
 returns c =

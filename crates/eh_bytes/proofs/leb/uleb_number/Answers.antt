@@ -1,4 +1,4 @@
-use Rattle.std.proofs.Common.{◌≡◌, ◌^◌, ◌+◌, ◌-◌, ◌*◌, ◌<◌, ◌≤◌, drop, refl, ap, sym, arith, false}
+use Rattle.std.proofs.Common.{◌≡◌, ◌^◌, ◌-◌, ◌*◌, ◌<◌, ◌≤◌, drop, refl, ap, sym, arith, false}
 use Rattle.std.specs.Prelude.{nat_lt}
 use Rattle.std.proofs.lemmas.Bool.{le-ltb, lt-ltb}
 use Rattle.eh_bytes.specs.Leb.{uleb_value}
@@ -10,23 +10,16 @@ loop-i-init c = record { within = omega arith; fits = omega arith; so_far = sym 
 
 pub loop-i-preserved : goal.loop-i-preserved
 loop-i-preserved c =
-    let text = c.args.text.now in
-    let i = c.loop-i.i - 1 in
-    let step : i + 1 ≡ c.loop-i.i = omega arith in
-    let digit = uleb_value-digit text i (omega arith) in
-    let same = ap (λ k. uleb_value (drop k text)) step in
-    record { within = omega arith; fits = omega (arith, c.in-Some.ensures); so_far = omega (arith, digit, same, c.in-Some.ensures) }
+    let digit = uleb_value-digit c.args.text.now c.loop-i.i (omega arith) (omega arith) in
+    record { within = omega arith; fits = omega (arith, c.in_ok-number.ensures); so_far = omega (arith, digit, c.in_ok-number.ensures) }
 
-pub returns-in-None : goal.returns-in-None
-returns-in-None c =
+pub returns-in_err-number : goal.returns-in_err-number
+returns-in_err-number c =
     let text = c.args.text.now in
-    let i = c.loop-i.i - 1 in
-    let step : i + 1 ≡ c.loop-i.i = omega arith in
-    let digit = uleb_value-digit text i (omega arith) in
-    let same = ap (λ k. uleb_value (drop k text)) step in
-    let high : 2 ^ 64 ≤ c.loop-i.number * 128 = omega (arith, c.in-None.ensures) in
-    let wide : nat_lt (uleb_value text) (2 ^ 64) ≡ false = le-ltb _ _ (omega (arith, digit, same, uleb_value-drop text i)) in
-    rw wide refl
+    let digit = uleb_value-digit text c.loop-i.i (omega arith) (omega arith) in
+    let high : 2 ^ 64 ≤ c.loop-i.number * 128 = omega (arith, c.in_err-number.ensures) in
+    let wide : nat_lt (uleb_value text) (2 ^ 64) ≡ false = le-ltb _ _ (omega (arith, digit, uleb_value-drop text (c.loop-i.i - 1))) in
+    rw (c.from_residual.ensures, wide) refl
 
 pub returns : goal.returns
 returns c =
