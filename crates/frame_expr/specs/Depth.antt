@@ -6,39 +6,28 @@ use Rattle.frame_expr.specs.declared.operation.Operation.TheVariants.{Dup, Drop,
 use Rattle.frame_expr.specs.declared.operation.Operation.TheVariants.{Rot, Unary, PlusUconst}
 use Rattle.frame_expr.specs.declared.operation.Operation.TheVariants.{Binary, Compare}
 
--- the entries that it takes
-abbrev pub needs : Operation → ℕ
-needs Nop = 0
-needs (Constant n) = 0
-needs (Breg r n) = 0
-needs Deref = 1
-needs Dup = 1
-needs Drop = 1
-needs Over = 2
-needs (Pick n) = n + 1
-needs Swap = 2
-needs Rot = 3
-needs (Unary u) = 1
-needs (PlusUconst n) = 1
-needs (Binary k) = 2
-needs (Compare k) = 2
+-- how many entries it takes, and how many it puts in their place
+abbrev pub needed_and_left : Operation → ℕ × ℕ
+needed_and_left Nop = (0, 0)
+needed_and_left (Constant n) = (0, 1)
+needed_and_left (Breg r n) = (0, 1)
+needed_and_left Deref = (1, 1)
+needed_and_left Dup = (1, 2)
+needed_and_left Drop = (1, 0)
+needed_and_left Over = (2, 3)
+needed_and_left (Pick n) = (n + 1, n + 2)
+needed_and_left Swap = (2, 2)
+needed_and_left Rot = (3, 3)
+needed_and_left (Unary u) = (1, 1)
+needed_and_left (PlusUconst n) = (1, 1)
+needed_and_left (Binary k) = (2, 1)
+needed_and_left (Compare k) = (2, 1)
 
--- those that it puts in their place
+abbrev pub needs : Operation → ℕ
+needs o = (needed_and_left o).0
+
 abbrev pub leaves : Operation → ℕ
-leaves Nop = 0
-leaves (Constant n) = 1
-leaves (Breg r n) = 1
-leaves Deref = 1
-leaves Dup = 2
-leaves Drop = 0
-leaves Over = 3
-leaves (Pick n) = n + 2
-leaves Swap = 2
-leaves Rot = 3
-leaves (Unary u) = 1
-leaves (PlusUconst n) = 1
-leaves (Binary k) = 1
-leaves (Compare k) = 1
+leaves o = (needed_and_left o).1
 
 -- the depth of a stack after an operation
 abbrev pub depth_after : ℕ → Operation → ℕ
@@ -56,19 +45,7 @@ fits d o = nat_le (needs o) d && nat_le (depth_after d o) most_entries
 -- what an operation needs depends on its operand
 abbrev pub is_pick : Operation → Bool
 is_pick (Pick n) = true
-is_pick Nop = false
-is_pick (Constant n) = false
-is_pick (Breg r n) = false
-is_pick Deref = false
-is_pick Dup = false
-is_pick Drop = false
-is_pick Over = false
-is_pick Swap = false
-is_pick Rot = false
-is_pick (Unary u) = false
-is_pick (PlusUconst n) = false
-is_pick (Binary k) = false
-is_pick (Compare k) = false
+is_pick _ = false
 
 -- what the operation's byte alone says of the depth: nothing of pick's, which its operand tells
 abbrev pub byte_fits : ℕ → Operation → Bool

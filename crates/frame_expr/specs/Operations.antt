@@ -126,16 +126,7 @@ operand_of Sleb = wrapped sleb
 
 abbrev pub is_absent : Operand → Bool
 is_absent Absent = true
-is_absent U8 = false
-is_absent U16 = false
-is_absent U32 = false
-is_absent U64 = false
-is_absent I8 = false
-is_absent I16 = false
-is_absent I32 = false
-is_absent I64 = false
-is_absent Uleb = false
-is_absent Sleb = false
+is_absent _ = false
 
 -- the operation with its operand in place
 abbrev pub operation_with : ℕ → Operation → Operation
