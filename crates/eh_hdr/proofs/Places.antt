@@ -1,9 +1,11 @@
 -- The FDE that begins at a place, found among places that ascend.
-use Rattle.std.proofs.Common.{◌≡◌, ◌≢◌, ℕ, zero, suc, ◌+◌, ◌-◌, ◌%◌, ◌^◌, ◌<◌, ◌≤◌, List, [], ◌∷◌, length, get_or, Bool, true, false, cond, Some, None, nat_lt, refl, sym, ap, ◌∙◌, arith, inl, inr, slice_get}
+use Rattle.std.proofs.Common.{◌≡◌, ◌≢◌, ℕ, ◌+◌, ◌-◌, ◌%◌, ◌^◌, ◌<◌, ◌≤◌, List, length, get_or, Bool, true, false, cond, Some, None, nat_lt, refl, sym, ap, ◌∙◌, arith, inl, inr, slice_get}
 use Rattle.std.specs.List.{position, position_or_len}
 use Rattle.std.specs.Option.{option_map}
 use Rattle.std.proofs.lemmas.Bool.{and_left, cases_lt, ne_eqb, lt-ltb, le-ltb}
+use Rattle.std.proofs.lemmas.List.{length-map}
 use Rattle.std.proofs.lemmas.List.Sums.{position_or_len_is}
+use Rattle.std.proofs.Math.ListN.{get_or-map}
 use Rattle.std.proofs.lemmas.Option.{slice_get-map, slice_get-get_or, get_or_from_slice_get}
 use Rattle.frame_parse.specs.Entries.{FdeRecord, no_cie}
 use Rattle.frame_parse.specs.Sections.{SectionData, fde_starts, IsAscending}
@@ -12,14 +14,8 @@ use Rattle.eh_hdr.specs.Places.{is_fde_at, section_place}
 abbrev pub no_fde : FdeRecord
 no_fde = record { start = 0; cie = no_cie; first = 0; range = 0; lsda = None; program = record { at = 0; end = 0 } }
 
-pub starts-at : (fs : List FdeRecord) (k : ℕ) (d : FdeRecord) → d.start ≡ 0 → get_or (fde_starts fs) k 0 ≡ (get_or fs k d).start
-starts-at [] k d e = sym e
-starts-at (f ∷ fs) zero d e = refl
-starts-at (f ∷ fs) (suc k) d e = starts-at fs k d e
-
-pub starts-length : (fs : List FdeRecord) → length (fde_starts fs) ≡ length fs
-starts-length [] = refl
-starts-length (f ∷ fs) = ap suc (starts-length fs)
+pub fdes-count : (fs : List FdeRecord) → length (fde_starts fs) ≡ length fs
+fdes-count fs = length-map fs (λ (f : FdeRecord). f.start)
 
 -- what a place was told to be
 pub place_told : (fs : List FdeRecord) (k r : ℕ) → option_map (λ (f : FdeRecord). f.start) (slice_get fs k) ≡ Some r → get_or (fde_starts fs) k 0 ≡ r
@@ -37,16 +33,16 @@ elsewhere place location f other = and_left _ _ (ne_eqb f.start place other)
 before_first : (fs : List FdeRecord) (place location k j : ℕ) → IsFirstFrom fs place k → j < k → is_fde_at place location (get_or fs j no_fde) ≡ false
 before_first fs place location k j at lt =
     let low = at.below j lt in
-    let here = starts-at fs j no_fde refl in
+    let here = get_or-map (λ (f : FdeRecord). f.start) fs j no_fde in
     elsewhere place location (get_or fs j no_fde) (λ e. absurd (omega (arith, low, here, e)))
 
 -- those after the first one begin above the place
 after_first : (fs : List FdeRecord) (place location k j : ℕ) → IsAscending (fde_starts fs) → IsFirstFrom fs place k → k < j → j < length fs → is_fde_at place location (get_or fs j no_fde) ≡ false
 after_first fs place location k j up at lt within =
-    let size = starts-length fs in
+    let size = fdes-count fs in
     let high = at.above k (omega arith) (omega arith) in
     let more = up k j lt (omega (arith, size)) in
-    let here = starts-at fs j no_fde refl in
+    let here = get_or-map (λ (f : FdeRecord). f.start) fs j no_fde in
     elsewhere place location (get_or fs j no_fde) (λ e. absurd (omega (arith, high, more, here, e)))
 
 chosen : {X : Type 0} (p : X → Bool) (xs : List X) (n : ℕ) → position_or_len p xs ≡ n → position p xs ≡ cond (nat_lt n (length xs)) (Some n) None
