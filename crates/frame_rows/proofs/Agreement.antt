@@ -34,12 +34,7 @@ full_step base s (Set q rule) full = (length-set s.row.columns q (rule_of rule) 
 full_step base s (Restore q) full = (length-set s.row.columns q (get_or base.columns q rules.Unset) ∙ full.0, full.1)
 full_step base s Remember full = (full.0, (full.0, full.1))
 full_step base s RestoreState full = full_back s.row s.remembered full.0 full.1
-full_step base s Nop full = full
-full_step base s Advance full = full
-full_step base s (Cfa q n) full = full
-full_step base s (CfaColumn q) full = full
-full_step base s (CfaOffset n) full = full
-full_step base s (CfaExpression e) full = full
+full_step base s _ full = full
 
 full_fold : (base : PlacedRow) (s : Rows) (is : List PlacedInstruction) → IsFull s → IsFull (fold (rows_step base) s is)
 full_fold base s [] full = full
