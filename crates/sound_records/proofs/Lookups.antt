@@ -16,7 +16,7 @@ use Rattle.sound_records.specs.declared.answer.FdeAnswer.{FdeAnswer}
 use Rattle.sound_records.specs.declared.answer.FdeAnswer.TheVariants.{Found, Claimed}
 use Rattle.sound_records.specs.Items.{Item, Sound, Refused, by_result, extent, claimed, claims, items_from, items_of, sound_in, refused_in, answer_at}
 use Rattle.sound_records.specs.Laws.{answer_of}
-use Rattle.sound_records.specs.Sections.{claim_among, first_claim, nearest, unless_before}
+use Rattle.sound_records.specs.Sections.{SoundData, claim_among, first_claim, nearest, unless_before}
 use Rattle.sound_records.proofs.Items.{extent_exact}
 use Rattle.sound_records.proofs.SoFar.{Stand}
 
@@ -132,6 +132,13 @@ answer_by stand pc s refused o claim are cover first =
     ∙ ap (λ (k : Option RefusedRecord). nearest (first_cover pc (fdes_of (sound_in (items_of s.address s.bytes)))) k) (first ∙ ap (λ (xs : List RefusedRecord). first_claim pc xs) are.1)
     ∙ sym (answer_is_nearest stand pc s.address s.bytes)
 
+-- the same of the section as contracts see it
+pub answer_seen : Stand → (pc : ℕ) (s : SectionData) (refused : List RefusedRecord) (o : Option FdeRecord) (claim : Option RefusedRecord)
+    → (s.fdes ≡ fdes_of (sound_in (items_of s.address s.bytes))) × (refused ≡ refused_in (items_of s.address s.bytes)) → o ≡ first_cover pc s.fdes → claim ≡ first_claim pc refused
+    → (d : SoundData) → record { section = s; refused = refused } ≡ d → nearest o claim ≡ answer_at pc (items_of d.section.address d.section.bytes)
+answer_seen stand pc s refused o claim are cover first d is =
+    subst (λ (k : SoundData). nearest o claim ≡ answer_at pc (items_of k.section.address k.section.bytes)) is (answer_by stand pc s refused o claim are cover first)
+
 -- the claim that answers, and where none does the section's own answer
 abbrev pub ClaimAnswers : FdeAnswer FdeRecord → Option FdeRecord → Option RefusedRecord → Type 0
 ClaimAnswers answer o claim = IfSome claim (λ x. answer ≡ Claimed x) × IfNone claim (answer ≡ answer_of o)
@@ -146,9 +153,12 @@ nearest_claims (Some f) None = (tt, refl)
 nearest_claims None (Some x) = (refl, tt)
 nearest_claims (Some f) (Some x) = claim_choice_answers (nat_lt f.start x.start) f x
 
-pub claim_answers : Stand → (pc : ℕ) (s : SectionData) (refused : List RefusedRecord) → (s.fdes ≡ fdes_of (sound_in (items_of s.address s.bytes))) × (refused ≡ refused_in (items_of s.address s.bytes))
-    → ClaimAnswers (answer_at pc (items_of s.address s.bytes)) (first_cover pc s.fdes) (claim_among pc s.fdes refused)
-claim_answers stand pc s refused are =
+pub claim_seen : Stand → (pc : ℕ) (s : SectionData) (refused : List RefusedRecord) (claim : Option RefusedRecord)
+    → (s.fdes ≡ fdes_of (sound_in (items_of s.address s.bytes))) × (refused ≡ refused_in (items_of s.address s.bytes)) → claim ≡ claim_among pc s.fdes refused
+    → (d : SoundData) → record { section = s; refused = refused } ≡ d → ClaimAnswers (answer_at pc (items_of d.section.address d.section.bytes)) (first_cover pc d.section.fdes) claim
+claim_seen stand pc s refused claim are is d seen =
     let o = first_cover pc s.fdes in
-    let claim = first_claim pc refused in
-    subst (λ (k : FdeAnswer FdeRecord). ClaimAnswers k o (unless_before claim o)) (answer_by stand pc s refused o claim are refl refl) (nearest_claims o claim)
+    let first = first_claim pc refused in
+    let whole = subst (λ (k : FdeAnswer FdeRecord). ClaimAnswers k o (unless_before first o)) (answer_by stand pc s refused o first are refl refl) (nearest_claims o first) in
+    let told = subst (λ (k : Option RefusedRecord). ClaimAnswers (answer_at pc (items_of s.address s.bytes)) o k) (sym is) whole in
+    subst (λ (k : SoundData). ClaimAnswers (answer_at pc (items_of k.section.address k.section.bytes)) (first_cover pc k.section.fdes) claim) seen told

@@ -1,18 +1,22 @@
 -- Places among the bytes: what is left from one on, and lists of them that ascend.
-use Rattle.std.proofs.Common.{◌≡◌, ℕ, ◌+◌, ◌-◌, ◌<◌, ◌≤◌, List, [], ◌∷◌, ◌++◌, length, drop, get_or, sym, ap, ◌∙◌, length-append, arith, inl, inr}
+use Rattle.std.proofs.Common.{◌≡◌, ℕ, ◌+◌, ◌-◌, ◌<◌, ◌≤◌, List, [], ◌∷◌, ◌++◌, length, drop, get_or, Bool, sym, ap, ◌∙◌, length-append, arith, inl, inr}
 use Rattle.std.specs.Prelude.{slice_range}
 use Rattle.std.specs.List.{All}
 use Rattle.std.proofs.lemmas.Bool.{cases_lt}
 use Rattle.std.proofs.lemmas.List.{drop-drop, length-drop, take_all, get_or_append_left}
 use Rattle.std.proofs.Math.Seq.{drop-append_seam, get_or-append_seam}
 use Rattle.eh_bytes.specs.CursorData.{CursorData}
-use Rattle.frame_parse.specs.Sections.{IsAscending}
+use Rattle.frame_parse.specs.Sections.{IsAscending, is_end}
 use Rattle.sound_records.specs.Sections.{left_from}
 
 -- ---- what is left
 
 pub all_left : (bytes : List ℕ) (at : ℕ) → slice_range bytes at (length bytes) ≡ drop at bytes
 all_left bytes at = take_all (length bytes - at) (drop at bytes) (omega (arith, length-drop at bytes))
+
+-- whether the data ends there
+pub end_told : (bytes : List ℕ) (at : ℕ) (b : Bool) → b ≡ is_end (slice_range bytes at (length bytes)) → is_end (drop at bytes) ≡ b
+end_told bytes at b told = ap is_end (sym (all_left bytes at)) ∙ sym told
 
 -- a cursor over all bytes from a place on
 pub cursor_left : (bytes : List ℕ) (at : ℕ) (r : CursorData) → r.bytes ≡ slice_range bytes at (length bytes) → r.at ≡ at → r ≡ left_from bytes at

@@ -119,6 +119,10 @@ nothing_yet section bytes = record {
   held = nothing_held section bytes;
 }
 
+-- the FDEs of the items that are left, which are told anew
+fdes_left : (all before : List FdeRecord) (is js : List Item) → all ≡ before ++ fdes_of (sound_in is) → is ≡ js → all ≡ before ++ fdes_of (sound_in js)
+fdes_left all before is js are same = are ∙ ap (λ (l : List Item). before ++ fdes_of (sound_in l)) same
+
 pub next_cie : Stand → AreKept → (section : ℕ) (bytes : List ℕ) (at : ℕ) (cies : List CieRecord) (fdes : List FdeEntry) (refused : List RefusedRecord) (c : CieRecord) (new : CursorData)
     → ReadSoFar section bytes at cies fdes refused → is_end (drop at bytes) ≡ false → (whole_record section cies).read (left_from bytes at) ≡ Ok (Cie c, new) → ReadSoFar section bytes new.at (cies ++ c ∷ []) fdes refused
 next_cie stand are_kept section bytes at cies fdes refused c new s on e =
@@ -132,9 +136,7 @@ next_cie stand are_kept section bytes at cies fdes refused c new s on e =
       within = x.within;
       steps = n.fewer;
       enough = omega (arith, s.enough, n.one, x.moves);
-      fdes_are =
-          s.fdes_are ∙ ap (λ (is : List Item). map (fde_among cies) fdes ++ fdes_of (sound_in is)) behind
-          ∙ ap (λ (fs : List FdeRecord). fs ++ fdes_of (sound_in (items_from n.fewer section (cies ++ c ∷ []) (left_from bytes new.at)))) (sym among);
+      fdes_are = fdes_left _ _ _ _ s.fdes_are behind ∙ ap (λ (fs : List FdeRecord). fs ++ fdes_of (sound_in (items_from n.fewer section (cies ++ c ∷ []) (left_from bytes new.at)))) (sym among);
       refused_are = s.refused_are ∙ ap (λ (is : List Item). refused ++ refused_in is) behind;
       has_cies = within-end cies c fdes s.has_cies;
       ascending =
@@ -162,9 +164,7 @@ next_fde stand are_kept section bytes at cies fdes refused f new s on e has =
       within = x.within;
       steps = n.fewer;
       enough = omega (arith, s.enough, n.one, x.moves);
-      fdes_are =
-          s.fdes_are ∙ ap (λ (is : List Item). map (fde_among cies) fdes ++ fdes_of (sound_in is)) behind
-          ∙ sym (append_assoc (map (fde_among cies) fdes) (g ∷ []) later) ∙ ap (λ (fs : List FdeRecord). fs ++ later) (sym more);
+      fdes_are = fdes_left _ _ _ _ s.fdes_are behind ∙ sym (append_assoc (map (fde_among cies) fdes) (g ∷ []) later) ∙ ap (λ (fs : List FdeRecord). fs ++ later) (sym more);
       refused_are = s.refused_are ∙ ap (λ (is : List Item). refused ++ refused_in is) behind;
       has_cies = All-append (HasCie (length cies)) fdes (f ∷ []) s.has_cies (All-cons (HasCie (length cies)) f [] has (All-nil (HasCie (length cies))));
       ascending = s.ascending;
