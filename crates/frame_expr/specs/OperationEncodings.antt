@@ -125,7 +125,7 @@ DW_OP_lt = 0x2d
 abbrev pub DW_OP_ne : ℕ
 DW_OP_ne = 0x2e
 
--- ---- small numbers, and registers
+-- ---- small numbers, registers, and no operation
 
 abbrev pub DW_OP_lit0 : ℕ
 DW_OP_lit0 = 0x30
@@ -138,8 +138,6 @@ DW_OP_breg0 = 0x70
 
 abbrev pub DW_OP_breg16 : ℕ
 DW_OP_breg16 = 0x80
-
--- ---- no operation
 
 abbrev pub DW_OP_nop : ℕ
 DW_OP_nop = 0x96

@@ -56,8 +56,6 @@ struct Region {
 }
 
 impl Model for Region {
-    ghost use Rattle.frame_expr.specs.Regions.{RegionData};
-
     ghost Value = { RegionData };
 
     ghost view = { λ r. record { address = r.address; bytes = r.bytes.items } };

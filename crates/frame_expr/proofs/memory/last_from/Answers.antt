@@ -6,24 +6,18 @@ use Rattle.frame_expr.proofs.memory.last_from.Goals as goal
 
 pub loop-left-preserved-then-first-address : goal.loop-left-preserved-then-first-address
 loop-left-preserved-then-first-address c =
-    let left = c.loop-left.left.now in
-    let front = c.split_at.result.0.now in
-    let back = c.split_at.result.1.now in
-    let parts : left ≡ front ++ back = rw (c.split_at.ensures.front, c.split_at.ensures.back) (sym (take-append-drop _ left)) in
-    let some : 0 < length back = omega (arith, c.split_at.ensures.back_len, c.loop-left-test.true) in
+    let parts : c.loop-left.left.now ≡ c.split_at.result.0.now ++ c.split_at.result.1.now = rw (c.split_at.ensures.front, c.split_at.ensures.back) (sym (take-append-drop _ c.loop-left.left.now)) in
+    let some : 0 < length c.split_at.result.1.now = omega (arith, c.split_at.ensures.back_len, c.loop-left-test.true) in
     let le : c.index-high-0.result.address ≤ c.args.address = omega (arith, c.if-first-address.true, ap (λ (r : RegionData). r.address) c.first.view_is) in
-    let high = in_upper_half c.args.address c.loop-left.invariant.0 left front back c.index-high-0.result parts some c.index-high-0.is c.loop-left.invariant.1 le in
+    let high = in_upper_half c.args.address c.loop-left.invariant.0 _ _ _ c.index-high-0.result parts some c.index-high-0.is c.loop-left.invariant.1 le in
     (high.0, high.1, λ n many. high.2 n many ∙ c.loop-left.invariant.2 n many)
 
 pub loop-left-preserved : goal.loop-left-preserved
 loop-left-preserved c =
-    let left = c.loop-left.left.now in
-    let front = c.split_at.result.0.now in
-    let back = c.split_at.result.1.now in
-    let parts : left ≡ front ++ back = rw (c.split_at.ensures.front, c.split_at.ensures.back) (sym (take-append-drop _ left)) in
-    let some : 0 < length back = omega (arith, c.split_at.ensures.back_len, c.loop-left-test.true) in
+    let parts : c.loop-left.left.now ≡ c.split_at.result.0.now ++ c.split_at.result.1.now = rw (c.split_at.ensures.front, c.split_at.ensures.back) (sym (take-append-drop _ c.loop-left.left.now)) in
+    let some : 0 < length c.split_at.result.1.now = omega (arith, c.split_at.ensures.back_len, c.loop-left-test.true) in
     let lt : c.args.address < c.index-high-0.result.address = omega (arith, c.if-first-address.false, ap (λ (r : RegionData). r.address) c.first.view_is) in
-    let low = in_lower_half c.args.address c.loop-left.invariant.0 left front back c.index-high-0.result parts some c.index-high-0.is c.loop-left.invariant.1 lt in
+    let low = in_lower_half c.args.address c.loop-left.invariant.0 _ _ _ c.index-high-0.result parts some c.index-high-0.is c.loop-left.invariant.1 lt in
     (low.0, low.1, λ n many. low.2 n many ∙ c.loop-left.invariant.2 n many)
 
 pub returns-in-empty-clause-held : goal.returns-in-empty-clause-held
