@@ -94,8 +94,8 @@ unfolding module_at
 in_no_module pc [] lt = refl
 in_no_module pc (y ∷ ys) lt = absurd (omega (arith, lt))
 
-pub in_one_module : (pc : ℕ) (left : List ModuleData) (y : ModuleData) → length left ≤ 1 → 1 ≤ length left → y ≡ get_or left 0 y → module_at pc left ≡ cond (has_code_at pc y) (Some y) None
+pub answer_of_one : (pc : ℕ) (left : List ModuleData) (y : ModuleData) (b : Bool) → length left ≤ 1 → 1 ≤ length left → y ≡ get_or left 0 y → has_code_at pc y ≡ b → cond b (Some y) None ≡ module_at pc left
 unfolding module_at
-in_one_module pc [] y le some is = absurd (omega (arith, some))
-in_one_module pc (z ∷ []) y le some is = ap (λ (m : ModuleData). cond (has_code_at pc m) (Some m) None) (sym is)
-in_one_module pc (z ∷ w ∷ zs) y le some is = absurd (omega (arith, le))
+answer_of_one pc [] y b le some is has = absurd (omega (arith, some))
+answer_of_one pc (z ∷ []) y b le some is has = ap (λ (k : Bool). cond k (Some y) None) (sym has) ∙ ap (λ (m : ModuleData). cond (has_code_at pc m) (Some m) None) is
+answer_of_one pc (z ∷ w ∷ zs) y b le some is has = absurd (omega (arith, le))

@@ -10,6 +10,7 @@ ghost use Rattle.unwind_step.specs.Sources.{IsStepIn};
 ghost use Rattle.stack_walk.specs.Modules.{AreModulesFrom, IsModuleFault, has_code_at, module_at};
 ghost use Rattle.stack_walk.specs.Modules.{modules_end, module_end};
 ghost use Rattle.stack_walk.specs.StackWalks.{GoesUp};
+ghost use Rattle.stack_walk.specs.declared.list.ModuleFault.TheVariants.{NoMemory};
 
 use crate::going_up::take_step;
 use crate::modules::{ModuleList, ModuleStep};
@@ -81,8 +82,6 @@ pub enum ModuleFault {
 }
 
 impl<T: Drop> From<AllocFailed<T>> for ModuleFault {
-    ghost use Rattle.stack_walk.specs.declared.list.ModuleFault.TheVariants.{NoMemory};
-
     ghost from_gives = { λ _ e. e ≡ NoMemory };
 
     fn from(_e: AllocFailed<T>) -> ModuleFault {
