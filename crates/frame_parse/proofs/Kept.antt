@@ -22,6 +22,7 @@ use Rattle.eh_bytes.specs.Steps.{AreSteps}
 use Rattle.frame_parse.specs.Sections.{FdeData, AreRecords, with_record, fdes_of, IsSection, HasFdes}
 use Rattle.frame_parse.specs.Keeping.{CieKept, EndsLow, RecordKept}
 use Rattle.frame_parse.proofs.Ends.{record_ends}
+use Rattle.frame_parse.proofs.RecordParts.{parts_length}
 use Rattle.frame_parse.specs.Records.{cie, fde, cie_from, cie_after, content, record_at, whole_record}
 
 -- ---- what a step doesn't look at
@@ -85,27 +86,7 @@ cie_place : (section start end p : ℕ) (front : List ℕ) (c : CieRecord) → (
 unfolding cie
 cie_place section start end p front c s =
     let s1 = s.5 in let s2 = s1.5 in let s3 = s2.5 in let s4 = s3.5 in let s5 = s4.5 in let s6 = s5.5 in
-    let place : s6.0 ≡ p + length front =
-    omega (
-      arith,
-      s6.4.1,
-      ap length s.3,
-      length-append s.1 s.2,
-      ap length s1.3,
-      length-append s1.1 s1.2,
-      ap length s2.3,
-      length-append s2.1 s2.2,
-      ap length s3.3,
-      length-append s3.1 s3.2,
-      ap length s4.3,
-      length-append s4.1 s4.2,
-      ap length s5.3,
-      length-append s5.1 s5.2,
-      ap length s6.3,
-      length-append s6.1 s6.2,
-      ap length s6.4.0,
-      ap length s6.5.0,
-    ) in
+    let place : s6.0 ≡ p + length front = omega (arith, s6.4.1, parts_length front s.1 s.2 s.3, parts_length s.2 s1.1 s1.2 s1.3, parts_length s1.2 s2.1 s2.2 s2.3, parts_length s2.2 s3.1 s3.2 s3.3, parts_length s3.2 s4.1 s4.2 s4.3, parts_length s4.2 s5.1 s5.2 s5.3, parts_length s5.2 s6.1 s6.2 s6.3, ap length s6.4.0, ap length s6.5.0) in
     let made : Extent = record { at = s6.0; end = end } in
     let found : c.initial ≡ made = sym (ap (λ (k : CieRecord). k.initial) s6.5.1) in
     found ∙ ap (λ (q : ℕ). record { at = q; end = end }) place
@@ -115,21 +96,7 @@ fde_place : (section start end p : ℕ) (c : CieRecord) (front : List ℕ) (f : 
 unfolding fde
 fde_place section start end p c front f s =
     let s1 = s.5 in let s2 = s1.5 in let s3 = s2.5 in
-    let place : s3.0 ≡ p + length front =
-    omega (
-      arith,
-      s3.4.1,
-      ap length s.3,
-      length-append s.1 s.2,
-      ap length s1.3,
-      length-append s1.1 s1.2,
-      ap length s2.3,
-      length-append s2.1 s2.2,
-      ap length s3.3,
-      length-append s3.1 s3.2,
-      ap length s3.4.0,
-      ap length s3.5.0,
-    ) in
+    let place : s3.0 ≡ p + length front = omega (arith, s3.4.1, parts_length front s.1 s.2 s.3, parts_length s.2 s1.1 s1.2 s1.3, parts_length s1.2 s2.1 s2.2 s2.3, parts_length s2.2 s3.1 s3.2 s3.3, ap length s3.4.0, ap length s3.5.0) in
     let made : Extent = record { at = s3.0; end = end } in
     let found : f.program ≡ made = sym (ap (λ (k : FdeRecord). k.program) s3.5.1) in
     (found ∙ ap (λ (q : ℕ). record { at = q; end = end }) place, sym (ap (λ (k : FdeRecord). k.cie) s3.5.1))

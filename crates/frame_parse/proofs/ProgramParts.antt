@@ -1,5 +1,5 @@
 -- Instructions are exact.
-use Rattle.std.proofs.Common.{ℕ, ◌≤◌, List, length, length-append, ap, arith, nat_lt}
+use Rattle.std.proofs.Common.{ℕ, ◌≤◌, List, length, arith, nat_lt}
 use Rattle.std.specs.Prelude.{◌||◌}
 use Rattle.frame_parse.specs.declared.fault.RecordFault.TheVariants as faults
 use Rattle.frame_parse.specs.declared.instructions.context.Context.{Context}
@@ -14,7 +14,7 @@ use Rattle.eh_bytes.proofs.Exact.{IsExact, then_exact, give_exact, here_exact, r
 use Rattle.eh_bytes.proofs.Steps.{AreSound}
 use Rattle.frame_parse.specs.Instructions.{PlacedStep}
 use Rattle.eh_bytes.proofs.Fields.{fixed_exact, uleb_exact, sleb_exact}
-use Rattle.frame_parse.proofs.RecordParts.{field_exact, pointer_exact}
+use Rattle.frame_parse.proofs.RecordParts.{field_exact, parts_length, pointer_exact}
 
 cfa_column_exact : IsExact cfa_column
 unfolding cfa_column
@@ -101,18 +101,7 @@ unfolding step operation
 step_grows c s p front x a =
     let spelled = a.5.4 in
     let byte = spelled.5.4 in
-    omega (
-      arith,
-      byte.0,
-      ap length spelled.5.3,
-      length-append spelled.5.1 spelled.5.2,
-      ap length spelled.3,
-      length-append spelled.1 spelled.2,
-      ap length a.5.3,
-      length-append a.5.1 a.5.2,
-      ap length a.3,
-      length-append a.1 a.2,
-    )
+    omega (arith, byte.0, parts_length spelled.2 spelled.5.1 spelled.5.2 spelled.5.3, parts_length a.5.1 spelled.1 spelled.2 spelled.3, parts_length a.2 a.5.1 a.5.2 a.5.3, parts_length front a.1 a.2 a.3)
 
 pub steps_sound : (c : Context) → AreSound (step c)
 steps_sound c = record { exact = step_exact c; grows = step_grows c }

@@ -1,5 +1,5 @@
 -- The fields, records and their lengths are exact, part by part.
-use Rattle.std.proofs.Common.{ℕ, ◌+◌, ◌^◌, List, [], ◌∷◌, Bool, None, nat_lt}
+use Rattle.std.proofs.Common.{◌≡◌, ℕ, ◌+◌, ◌^◌, List, [], ◌∷◌, ◌++◌, length, Bool, None, nat_lt, ap, ◌∙◌, length-append}
 use Rattle.std.specs.Prelude.{◌==◌, ◌||◌, ◌&&◌, not}
 use Rattle.frame_parse.specs.declared.fault.RecordFault.TheVariants.{Short, Encoding, Version, Column, Range}
 use Rattle.frame_parse.specs.declared.fault.RecordFault.TheVariants as faults
@@ -113,3 +113,7 @@ fde_exact section start end c =
     then_exact _ _ (range_exact c.augmentation.pointers first) (λ size.
     then_exact _ _ (lsda_exact section c) (λ l.
     then_exact _ _ here_exact (λ at. give_exact _))))
+
+-- a text that is a part and what stands behind it
+pub parts_length : (text front back : List ℕ) → text ≡ front ++ back → length text ≡ length front + length back
+parts_length text front back parts = ap length parts ∙ length-append front back
