@@ -134,49 +134,45 @@ nothing_yet section bytes = record {
 }
 
 -- the next record after those so far
-next_spelled : (section : ℕ) (bytes : List ℕ) (cursor : CursorData) (cies : List CieRecord) (fdes : List FdeEntry) (r : Record) (new : CursorData) (s : ReadSoFar section bytes cursor cies fdes)
-    → (t : Takes (whole_record section cies) cursor r new) → AreRecords section 0 [] (s.front ++ t.front) (s.records ++ r ∷ [])
-next_spelled section bytes cursor cies fdes r new s t =
+next_record : (section : ℕ) (bytes : List ℕ) (cursor : CursorData) (cies : List CieRecord) (fdes : List FdeEntry) (r : Record) (new : CursorData) (s : ReadSoFar section bytes cursor cies fdes)
+    → Takes (whole_record section cies) cursor r new → (more : List CieRecord) (entries : List FdeEntry) → more ≡ cies_of (s.records ++ r ∷ []) → map (fde_among more) entries ≡ fdes_of (s.records ++ r ∷ [])
+    → All (HasCie (length more)) entries → IsAscending (starts more) → ((i : ℕ) → i < length more → get_or (starts more) i 0 < new.at) → ReadSoFar section bytes new more entries
+next_record section bytes cursor cies fdes r new s t more entries cies_are fdes_are within ascending below =
     let place : cursor.at ≡ 0 + length s.front = omega (arith, s.place) in
-    AreRecords-end section 0 [] s.records s.front t.front r s.spelled
-    (subst (λ (q : ℕ). (whole_record section (cies_of s.records)).Spells q t.front r) place
-    (subst (λ (cs : List CieRecord). (whole_record section cs).Spells cursor.at t.front r) s.cies_are t.spells))
+    record {
+      records = s.records ++ r ∷ [];
+      front = s.front ++ t.front;
+      parts = s.parts ∙ ap (λ (l : List ℕ). s.front ++ l) t.parts ∙ sym (append_assoc s.front t.front new.bytes);
+      place = omega (arith, t.place, s.place, length-append s.front t.front);
+      spelled =
+          AreRecords-end section 0 [] s.records s.front t.front r s.spelled
+          (subst (λ (q : ℕ). (whole_record section (cies_of s.records)).Spells q t.front r) place
+          (subst (λ (cs : List CieRecord). (whole_record section cs).Spells cursor.at t.front r) s.cies_are t.spells));
+      cies_are = cies_are;
+      fdes_are = fdes_are;
+      within = within;
+      ascending = ascending;
+      below = below;
+    }
 
 pub next_cie : (section : ℕ) (bytes : List ℕ) (cursor : CursorData) (cies : List CieRecord) (fdes : List FdeEntry) (c : CieRecord) (new : CursorData) → ReadSoFar section bytes cursor cies fdes
     → (whole_record section cies).read cursor ≡ Ok (Cie c, new) → c.start ≡ cursor.at → ReadSoFar section bytes new (cies ++ c ∷ []) fdes
 next_cie section bytes cursor cies fdes c new s e begins =
     let t = (whole_record_exact section cies).takes cursor (Cie c) new e in
     let grown = record_grows section cursor.at cies t.front (Cie c) t.spells in
-    record {
-      records = s.records ++ Cie c ∷ [];
-      front = s.front ++ t.front;
-      parts = s.parts ∙ ap (λ (l : List ℕ). s.front ++ l) t.parts ∙ sym (append_assoc s.front t.front new.bytes);
-      place = omega (arith, t.place, s.place, length-append s.front t.front);
-      spelled = next_spelled section bytes cursor cies fdes (Cie c) new s t;
-      cies_are = ap (λ (cs : List CieRecord). cs ++ c ∷ []) s.cies_are ∙ sym (cies_of-cie s.records c);
-      fdes_are = among-end cies c fdes s.within ∙ s.fdes_are ∙ sym (fdes_of-cie s.records c);
-      within = within-end cies c fdes s.within;
-      ascending = ascending-end cies c s.ascending (λ i lt. let low = s.below i lt in omega arith);
-      below = below-end cies c cursor.at new.at s.below begins (omega (arith, t.place, grown));
-    }
+    next_record section bytes cursor cies fdes (Cie c) new s t (cies ++ c ∷ []) fdes (ap (λ (cs : List CieRecord). cs ++ c ∷ []) s.cies_are ∙ sym (cies_of-cie s.records c))
+    (among-end cies c fdes s.within ∙ s.fdes_are ∙ sym (fdes_of-cie s.records c)) (within-end cies c fdes s.within)
+    (ascending-end cies c s.ascending (λ i lt. let low = s.below i lt in omega arith)) (below-end cies c cursor.at new.at s.below begins (omega (arith, t.place, grown)))
 
 pub next_fde : (section : ℕ) (bytes : List ℕ) (cursor : CursorData) (cies : List CieRecord) (fdes : List FdeEntry) (f : FdeEntry) (new : CursorData) → ReadSoFar section bytes cursor cies fdes
     → (whole_record section cies).read cursor ≡ Ok (Fde (fde_among cies f), new) → HasCie (length cies) f → ReadSoFar section bytes new cies (fdes ++ f ∷ [])
 next_fde section bytes cursor cies fdes f new s e has =
     let g = fde_among cies f in
     let t = (whole_record_exact section cies).takes cursor (Fde g) new e in
-    record {
-      records = s.records ++ Fde g ∷ [];
-      front = s.front ++ t.front;
-      parts = s.parts ∙ ap (λ (l : List ℕ). s.front ++ l) t.parts ∙ sym (append_assoc s.front t.front new.bytes);
-      place = omega (arith, t.place, s.place, length-append s.front t.front);
-      spelled = next_spelled section bytes cursor cies fdes (Fde g) new s t;
-      cies_are = s.cies_are ∙ sym (cies_of-fde s.records g);
-      fdes_are = map-append (fde_among cies) fdes (f ∷ []) ∙ ap (λ (fs : List FdeRecord). fs ++ g ∷ []) s.fdes_are ∙ sym (fdes_of-fde s.records g);
-      within = All-append (HasCie (length cies)) fdes (f ∷ []) s.within (All-cons (HasCie (length cies)) f [] has (All-nil (HasCie (length cies))));
-      ascending = s.ascending;
-      below = λ i lt. let low = s.below i lt in omega (arith, t.place);
-    }
+    next_record section bytes cursor cies fdes (Fde g) new s t cies (fdes ++ f ∷ []) (s.cies_are ∙ sym (cies_of-fde s.records g))
+    (map-append (fde_among cies) fdes (f ∷ []) ∙ ap (λ (fs : List FdeRecord). fs ++ g ∷ []) s.fdes_are ∙ sym (fdes_of-fde s.records g))
+    (All-append (HasCie (length cies)) fdes (f ∷ []) s.within (All-cons (HasCie (length cies)) f [] has (All-nil (HasCie (length cies))))) s.ascending
+    (λ i lt. let low = s.below i lt in omega (arith, t.place))
 
 -- ---- the end, and a refusal
 
