@@ -130,40 +130,16 @@ ordered p steps a = record {
 -- ---- the same where expressions are told in another way
 
 moves_told : {A B C D : Type 0} (f : A → B) (g : C → D) (i : InstructionWith A C) (k l : ℕ) → Moves i k l → Moves (instruction_told f g i) k l
-moves_told f g Nop k l m = m
 moves_told f g Advance k l m = m
-moves_told f g (Set r rule) k l m = m
-moves_told f g (Restore r) k l m = m
-moves_told f g Remember k l m = m
-moves_told f g RestoreState k l m = m
-moves_told f g (Cfa r n) k l m = m
-moves_told f g (CfaColumn r) k l m = m
-moves_told f g (CfaOffset n) k l m = m
-moves_told f g (CfaExpression e) k l m = m
+moves_told f g _ k l m = m
 
 may_told : {A B C D : Type 0} (f : A → B) (g : C → D) (i : InstructionWith A C) (depth : ℕ) → MayStandAt depth i → MayStandAt depth (instruction_told f g i)
-may_told f g Nop depth m = m
-may_told f g Advance depth m = m
-may_told f g (Set r rule) depth m = m
-may_told f g (Restore r) depth m = m
 may_told f g Remember depth m = m
-may_told f g RestoreState depth m = m
-may_told f g (Cfa r n) depth m = m
-may_told f g (CfaColumn r) depth m = m
-may_told f g (CfaOffset n) depth m = m
-may_told f g (CfaExpression e) depth m = m
+may_told f g _ depth m = m
 
 after_told : {A B C D : Type 0} (f : A → B) (g : C → D) (i : InstructionWith A C) (depth : ℕ) → remembered_after depth i ≡ remembered_after depth (instruction_told f g i)
-after_told f g Nop depth = refl
-after_told f g Advance depth = refl
-after_told f g (Set r rule) depth = refl
-after_told f g (Restore r) depth = refl
 after_told f g Remember depth = refl
-after_told f g RestoreState depth = refl
-after_told f g (Cfa r n) depth = refl
-after_told f g (CfaColumn r) depth = refl
-after_told f g (CfaOffset n) depth = refl
-after_told f g (CfaExpression e) depth = refl
+after_told f g _ depth = refl
 
 ascending_told : {A B C D : Type 0} (f : A → B) (g : C → D) (location : ℕ) (steps : List (StepWith A C)) → IsAscendingFrom location steps → IsAscendingFrom location (map (step_told f g) steps)
 ascending_told f g location [] a = tt

@@ -60,26 +60,20 @@ number_or-none : (o : Option ℕ) → number_or o None ≡ o
 number_or-none (Some n) = refl
 number_or-none None = refl
 
+-- it begins where the higher one does, and up to an address the lower one does too
+tests_of : (pc : ℕ) (high low p : CoverPiece) (b : Bool) → nat_le high.first pc ≡ b → p.first ≡ high.first → low.first ≤ high.first → (nat_le p.first pc ≡ b) × (b ≡ true → nat_le low.first pc ≡ true)
+tests_of pc high low p b e at le = (ap (λ (n : ℕ). nat_le n pc) at ∙ e, λ up. let reached = leb-true _ _ (e ∙ up) in le-leb _ _ (omega (arith, le)))
+
 -- what the piece tells and what is left tell together what was left before
 tell_left : (pc : ℕ) (x y p : CoverPiece) (xs ys : List CoverPiece) (b : Bool) → nat_le x.first pc ≡ b → p.first ≡ x.first → y.first ≤ x.first → p.fde ≡ number_or x.fde y.fde
     → piece_number pc (p ∷ []) (both_tell pc xs (y ∷ ys)) ≡ both_tell pc (x ∷ xs) (y ∷ ys)
-tell_left pc x y p xs ys true e at le is =
-    let here : nat_le p.first pc ≡ true = ap (λ (n : ℕ). nat_le n pc) at ∙ e in
-    let there : nat_le y.first pc ≡ true = (let up = leb-true _ _ e in le-leb _ _ (omega arith)) in
-    rw (here, there, e) is
-tell_left pc x y p xs ys false e at le is =
-    let here : nat_le p.first pc ≡ false = ap (λ (n : ℕ). nat_le n pc) at ∙ e in
-    rw (here, e) refl
+tell_left pc x y p xs ys true e at le is = let tests = tests_of pc x y p true e at le in rw (tests.0, tests.1 refl, e) is
+tell_left pc x y p xs ys false e at le is = let tests = tests_of pc x y p false e at le in rw (tests.0, e) refl
 
 tell_right : (pc : ℕ) (x y p : CoverPiece) (xs ys : List CoverPiece) (b : Bool) → nat_le y.first pc ≡ b → p.first ≡ y.first → x.first ≤ y.first → p.fde ≡ number_or x.fde y.fde
     → piece_number pc (p ∷ []) (both_tell pc (x ∷ xs) ys) ≡ both_tell pc (x ∷ xs) (y ∷ ys)
-tell_right pc x y p xs ys true e at le is =
-    let here : nat_le p.first pc ≡ true = ap (λ (n : ℕ). nat_le n pc) at ∙ e in
-    let there : nat_le x.first pc ≡ true = (let up = leb-true _ _ e in le-leb _ _ (omega arith)) in
-    rw (here, there, e) is
-tell_right pc x y p xs ys false e at le is =
-    let here : nat_le p.first pc ≡ false = ap (λ (n : ℕ). nat_le n pc) at ∙ e in
-    rw (here, e) refl
+tell_right pc x y p xs ys true e at le is = let tests = tests_of pc y x p true e at le in rw (tests.0, tests.1 refl, e) is
+tell_right pc x y p xs ys false e at le is = let tests = tests_of pc y x p false e at le in rw (tests.0, e) refl
 
 tell_both : (pc : ℕ) (x y p : CoverPiece) (xs ys : List CoverPiece) (b : Bool) → nat_le x.first pc ≡ b → p.first ≡ x.first → y.first ≡ x.first → p.fde ≡ number_or x.fde y.fde
     → piece_number pc (p ∷ []) (both_tell pc xs ys) ≡ both_tell pc (x ∷ xs) (y ∷ ys)
