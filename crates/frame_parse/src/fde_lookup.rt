@@ -2,7 +2,8 @@
 //! in order when the section is read, and then a lookup passes by most of those that are left at
 //! each step. Where two share one, the addresses are put in order in pieces (`cover_pieces`).
 
-ghost use Rattle.std.specs.Prelude.{◌≡◌, ◌<◌, ◌^◌, length, map, true, false, nat_le, if◌then◌else◌};
+ghost use Rattle.std.specs.Prelude.{◌≡◌, ◌+◌, ◌<◌, ◌^◌, length, map, true, false, nat_le};
+ghost use Rattle.std.specs.Prelude.{if◌then◌else◌};
 ghost use Rattle.std.specs.Prelude.{IfOk, IfNone, IfSome, Some, slice_get, option_and_then};
 ghost use Rattle.std.specs.List.{All, Contains};
 ghost use Rattle.frame_parse.specs.Entries.{fde_among, with_cie, HasCie};
@@ -138,13 +139,20 @@ fn lookup_of(alloc: Global, fdes: &[FdeEntry]) -> Result<Lookup, AllocError>
     Ok(Lookup::Pieces(pieces))
 }
 
+/// Whether a range ends before another begins.
+fn ends_before(range: &CoveredRange, next: &CoveredRange) -> bool
+    ensures { result ≡ nat_le (range.now.first + range.now.range) next.now.first }
+{
+    range.first <= next.first && next.first - range.first >= range.range
+}
+
 /// Whether each range ends before the next begins.
 fn are_apart(ranges: &[CoveredRange]) -> bool
     ensures { result ≡ are_apart ranges.now }
 {
     let mut left = ranges;
     while let [first, second, ..] = left {
-        if second.first < first.first || second.first - first.first < first.range {
+        if !ends_before(first, second) {
             return false;
         }
         left = &left[1..];
