@@ -21,7 +21,7 @@ use cie::cie;
 use eh_bytes::Cursor;
 use fde::fde;
 pub use fde::range;
-use fields::data;
+use fields::{at_front, data};
 pub use fields::{four_bytes, pointer};
 
 /// A part of the section's bytes, by places.
@@ -115,10 +115,7 @@ fn length4(cursor: &mut Cursor, start: usize) -> Result<u32, RecordFault>
     ensures { Gives (λ x. x) (lift (λ f. RecordFault.Short start) (fixed 4)).read
         cursor.old result cursor.new }
 {
-    match cursor.u32() {
-        Ok(length) => Ok(length),
-        Err(_) => Err(RecordFault::Short { at: start }),
-    }
+    at_front(cursor.u32(), start)
 }
 
 /// A number of eight bytes at the front of a record.
@@ -126,10 +123,7 @@ fn length8(cursor: &mut Cursor, start: usize) -> Result<u64, RecordFault>
     ensures { Gives (λ x. x) (lift (λ f. RecordFault.Short start) (fixed 8)).read
         cursor.old result cursor.new }
 {
-    match cursor.u64() {
-        Ok(length) => Ok(length),
-        Err(_) => Err(RecordFault::Short { at: start }),
-    }
+    at_front(cursor.u64(), start)
 }
 
 /// How many bytes follow in a record that begins at `start`.

@@ -28,6 +28,16 @@ fn field<T: Drop>(read: Result<T, ByteFault>) -> Result<T, RecordFault>
     }
 }
 
+/// What was read at the front of a record, where the record's start is refused if it isn't whole.
+pub(super) fn at_front<T: Drop>(read: Result<T, ByteFault>, start: usize) -> Result<T, RecordFault>
+    ensures { result ≡ with_fault (λ _. RecordFault.Short start) read }
+{
+    match read {
+        Ok(length) => Ok(length),
+        Err(_) => Err(RecordFault::Short { at: start }),
+    }
+}
+
 #[inline(always)]
 pub(crate) fn byte(cursor: &mut Cursor) -> Result<u8, RecordFault>
     ensures { Gives (λ x. x) (field (fixed 1)).read cursor.old result cursor.new }
