@@ -1,4 +1,5 @@
 -- Ranges that are apart: at most one has an address. So the one that has it is the first FDE's that covers it.
+use Rattle.std.proofs.lemmas.Bool.{false_from_ne_true}
 use Rattle.std.proofs.Common.{map, Option, ◌≡◌, ℕ, zero, suc, ◌+◌, ◌-◌, ◌*◌, ◌<◌, ◌≤◌, Bool, cond, List, [], ◌∷◌, length, get_or, true, false, Some, None, nat_le, nat_lt, refl, sym, ap, subst, ◌∙◌, arith, inl, inr, leb-true, leb-false, ltb-true, le-ltb}
 use Rattle.std.proofs.lemmas.Bool.{and_parts, and_left, and_right, cases_lt, lt-leb}
 use Rattle.std.specs.List.{All, Contains, find}
@@ -199,10 +200,6 @@ find_cover-none pc (f ∷ fs) none =
     let no : entry_covers pc f ≡ false = none 0 f (omega arith) in
     rw no (find_cover-none pc fs (λ j d h. none (suc j) d (omega arith)))
 
-refuted : (b : Bool) → (b ≡ true → ⊥) → b ≡ false
-refuted true h = absurd (h refl)
-refuted false h = refl
-
 not_empty : (pc : ℕ) (f : FdeEntry) → entry_covers pc f ≡ true → 0 < f.range
 not_empty pc f e =
     let parts = and_parts (nat_le f.first pc) (nat_lt pc (f.first + f.range)) e in
@@ -218,7 +215,7 @@ permuted fs n rs moved h p = record {
 
 pub none_covers : (pc : ℕ) (fs : List FdeEntry) (rs : List CoveredRange) → HasRanges fs (length fs) rs → All (λ r. holds pc r ≡ false) rs → find (entry_covers pc) fs ≡ None
 none_covers pc fs rs h none = find_cover-none pc fs (λ j d lt.
-    refuted (entry_covers pc (get_or fs j d)) (λ e.
+    false_from_ne_true (entry_covers pc (get_or fs j d)) (λ e.
     let here = h.whole j d lt lt (not_empty pc (get_or fs j d) e) in
     let not : entry_covers pc (get_or fs j d) ≡ false = All-contains (λ r. holds pc r ≡ false) rs (range_of j (get_or fs j d)) none here in
     let both : true ≡ false = sym e ∙ not in
@@ -233,7 +230,7 @@ one_covers pc fs rs r d h up here e =
     let at : entry_covers pc (get_or fs r.fde d) ≡ true = subst (λ x. holds pc x ≡ true) is e in (
       of.0,
       find_cover-at pc fs r.fde d of.0 at (λ j lt.
-          refuted (entry_covers pc (get_or fs j d)) (λ c.
+          false_from_ne_true (entry_covers pc (get_or fs j d)) (λ c.
           let other = h.whole j d (omega arith) (omega arith) (not_empty pc (get_or fs j d) c) in
           let same = one_holds rs pc (range_of j (get_or fs j d)) r up other here c e in
           let number : j ≡ r.fde = ap (λ (x : CoveredRange). x.fde) same in

@@ -20,10 +20,10 @@ use Rattle.frame_parse.proofs.RecordWholes.{whole_record_exact}
 
 -- ---- a record has bytes, and is not the end
 
-grows : (a b c : List ℕ) → a ≡ b ++ c → length b ≤ length a
+pub grows : (a b c : List ℕ) → a ≡ b ++ c → length b ≤ length a
 grows a b c e = omega (arith, ap length e, length-append b c)
 
-behind : (a b c : List ℕ) → a ≡ b ++ c → length c ≤ length a
+pub behind : (a b c : List ℕ) → a ≡ b ++ c → length c ≤ length a
 behind a b c e = omega (arith, ap length e, length-append b c)
 
 -- a record has at least the four bytes of its length

@@ -1,4 +1,5 @@
 -- Tables of FDEs whose ranges are apart: a search by halves finds the one that has the address, and it is the first that covers it.
+use Rattle.std.proofs.lemmas.Bool.{false_from_ne_true}
 use Rattle.std.specs.Prelude.{◌⊎◌, slice_get, slice_set}
 use Rattle.std.proofs.lemmas.Option.{slice_get-get_or}
 use Rattle.std.proofs.lemmas.List.{take_more_set, append-nil, get_or_default, length-map}
@@ -192,10 +193,6 @@ told : (pc : ℕ) (fdes : List FdeRecord) → Told pc fdes
 told pc [] = inl (refl, All-nil (λ e. entry_has pc e ≡ false))
 told pc (f ∷ fs) = told_first (covers pc f) pc f fs refl (told pc fs)
 
-refuted : (b : Bool) → (b ≡ true → ⊥) → b ≡ false
-refuted true h = absurd (h refl)
-refuted false h = refl
-
 within_both : (pc : ℕ) (a b : FramesEntry) → entry_has pc a ≡ true → entry_has pc b ≡ true → a.first + a.range ≤ b.first → ⊥
 within_both pc a b ha hb le =
     let pa = and_parts (nat_le a.first pc) (nat_lt pc (a.first + a.range)) ha in
@@ -211,7 +208,7 @@ found_told pc fdes es p h (inr (f, is, has, here)) =
     let (i, lt, at) = Contains-permutation (entries_told fdes) es (entry_told f) p has in
     let e = entry_told f in
     rw is (find-here pc es i e lt (subst (λ k. entry_has pc k ≡ true) (sym at) here) (λ j below.
-    refuted (entry_has pc (get_or es j e)) (λ other.
+    false_from_ne_true (entry_has pc (get_or es j e)) (λ other.
     within_both pc (get_or es j e) (get_or es i e) other (subst (λ k. entry_has pc k ≡ true) (sym at) here) (apart es j i e h below lt)))
     ∙ ap (λ k. Some k) at)
 

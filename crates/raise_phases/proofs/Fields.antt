@@ -1,5 +1,5 @@
 -- The header and a call site are exact, part by part.
-use Rattle.std.proofs.Common.{◌≡◌, ℕ, ◌≤◌, List, [], ◌∷◌, ◌++◌, length, Bool, ap, length-append, arith}
+use Rattle.std.proofs.Common.{◌≡◌, ℕ, ◌≤◌, List, [], ◌∷◌, ◌++◌, length, Bool, arith}
 use Rattle.std.specs.Prelude.{◌==◌}
 use Rattle.eh_bytes.specs.declared.fault.ByteFault.{ByteFault}
 use Rattle.eh_bytes.specs.PointerEncodings.{DW_EH_PE_omit}
@@ -12,6 +12,7 @@ use Rattle.eh_bytes.proofs.Pointers.{encoded_number_exact, encoded_pointer_exact
 use Rattle.raise_phases.specs.declared.call_sites.CallSite.{CallSite}
 use Rattle.raise_phases.specs.declared.fault.LsdaFault.TheVariants.{Encoding}
 use Rattle.raise_phases.specs.CallSites.{lsda_fault, lsda_field, accepted_encoding, is_pad_encoding, is_type_encoding, is_site_encoding, pad_start, type_table, types_told, table_header, call_site}
+use Rattle.frame_parse.proofs.OneAnswer.{grows, behind}
 
 field_exact : {A : Type 0} (g : Part ByteFault A) → IsExact g → IsExact (lsda_field g)
 field_exact g e = lift_exact lsda_fault g e
@@ -68,19 +69,13 @@ unfolding leb_len
 leb_some [] e = absurd cc
 leb_some (b ∷ bs) e = omega arith
 
-back_fits : (text front back : List ℕ) → text ≡ front ++ back → length back ≤ length text
-back_fits text front back e = omega (arith, ap length e, length-append front back)
-
-front_fits : (text front back : List ℕ) → text ≡ front ++ back → length front ≤ length text
-front_fits text front back e = omega (arith, ap length e, length-append front back)
-
 pub site_grows : (e p : ℕ) (text : List ℕ) (s : CallSite) → (call_site e).Spells p text s → 1 ≤ length text
 unfolding call_site
 site_grows e p text s t =
     let action = t.5.5.5.5 in
-    let own = front_fits _ action.1 action.2 action.3 in
-    let placed = back_fits _ t.5.5.5.1 t.5.5.5.2 t.5.5.5.3 in
-    let pad = back_fits _ t.5.5.1 t.5.5.2 t.5.5.3 in
-    let size = back_fits _ t.5.1 t.5.2 t.5.3 in
-    let start = back_fits text t.1 t.2 t.3 in
+    let own = grows _ action.1 action.2 action.3 in
+    let placed = behind _ t.5.5.5.1 t.5.5.5.2 t.5.5.5.3 in
+    let pad = behind _ t.5.5.1 t.5.5.2 t.5.5.3 in
+    let size = behind _ t.5.1 t.5.2 t.5.3 in
+    let start = behind text t.1 t.2 t.3 in
     omega (arith, leb_some action.1 action.4.0, own, placed, pad, size, start)
