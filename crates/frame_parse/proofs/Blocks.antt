@@ -19,9 +19,9 @@ use Rattle.frame_parse.specs.declared.instructions.context.Context.{Context}
 use Rattle.frame_parse.specs.Instructions.{PlacedInstruction, PlacedReadRule, PlacedStep}
 use Rattle.frame_parse.specs.declared.instructions.ReadRuleWith.TheVariants as rules
 use Rattle.frame_parse.specs.declared.instructions.InstructionWith.TheVariants.{Nop, Set, Restore, CfaExpression}
-use Rattle.frame_parse.specs.declared.instructions.Operation.{Operation}
-use Rattle.frame_parse.specs.declared.instructions.Operation.TheVariants as operations
-use Rattle.frame_parse.specs.declared.program_state.State.{State}
+use Rattle.frame_parse.specs.declared.instructions.RawInstruction.{RawInstruction}
+use Rattle.frame_parse.specs.declared.instructions.RawInstruction.TheVariants as operations
+use Rattle.frame_parse.specs.declared.program_state.ProgramState.{ProgramState}
 use Rattle.frame_parse.specs.declared.records.Extent.{Extent}
 use Rattle.frame_parse.specs.Fields.{field, pointer}
 use Rattle.std.specs.Int.{w64, cast_unsigned}
@@ -127,7 +127,7 @@ column_block_keeps r = record {
 
 -- ---- operations
 
-abbrev HasOperationExpression : List ℕ → Operation → Type 0
+abbrev HasOperationExpression : List ℕ → RawInstruction → Type 0
 HasOperationExpression bytes (operations.Advance d) = Unit {0}
 HasOperationExpression bytes (operations.SetLocation a) = Unit {0}
 HasOperationExpression bytes (operations.Other i) = HasItsExpression bytes i
@@ -146,7 +146,7 @@ restore_by bytes r false = tt
 restore_has : (bytes : List ℕ) (r : ℕ) → HasOperationExpression bytes (other (restore r))
 restore_has bytes r = restore_by bytes r (is_above_columns r)
 
-abbrev Q : List ℕ → Operation → Type 0
+abbrev Q : List ℕ → RawInstruction → Type 0
 Q = HasOperationExpression
 
 -- a rule without an expression
@@ -198,23 +198,23 @@ operation_keeps c =
     (when_keeps Q _ _ _ (give_keeps Q _ (λ bytes. restore_has bytes (b % 64)))
     (extended_keeps c at b)))))
 
-instruction_has : (bytes : List ℕ) (o : Operation) → HasOperationExpression bytes o → HasItsExpression bytes (instruction_of o)
+instruction_has : (bytes : List ℕ) (o : RawInstruction) → HasOperationExpression bytes o → HasItsExpression bytes (instruction_of o)
 instruction_has bytes (operations.Advance d) has = tt
 instruction_has bytes (operations.SetLocation a) has = tt
 instruction_has bytes (operations.Other i) has = has
 
 -- ---- steps
 
-step_has : (c : Context) (s m : State) (bytes : List ℕ) (p : ℕ) (front : List ℕ) (x : PlacedStep) → StandsAt bytes p front → (step c s).Spells p front (x, m) → HasItsExpression bytes x.instruction
+step_has : (c : Context) (s m : ProgramState) (bytes : List ℕ) (p : ℕ) (front : List ℕ) (x : PlacedStep) → StandsAt bytes p front → (step c s).Spells p front (x, m) → HasItsExpression bytes x.instruction
 unfolding step
 step_has c s m bytes p front x a t =
     let b = t.5 in
     let d = b.5 in
     let there = front_at bytes (p + length t.1) t.2 b.1 b.2 b.3 (back_at bytes p front t.1 t.2 t.3 a) in
     let own = instruction_has bytes b.0 ((operation_keeps c).keeps bytes (p + length t.1) b.1 b.0 there b.4) in
-    subst (λ (i : PlacedInstruction). HasItsExpression bytes i) (ap (λ (z : PlacedStep × State). z.0.instruction) d.5.1) own
+    subst (λ (i : PlacedInstruction). HasItsExpression bytes i) (ap (λ (z : PlacedStep × ProgramState). z.0.instruction) d.5.1) own
 
-steps_have : (c : Context) (bytes : List ℕ) (p : ℕ) (s : State) (text : List ℕ) (steps : List PlacedStep) (t : State) → StandsAt bytes p text → AreSteps (step c) p s text steps t → HaveExpressions bytes steps
+steps_have : (c : Context) (bytes : List ℕ) (p : ℕ) (s : ProgramState) (text : List ℕ) (steps : List PlacedStep) (t : ProgramState) → StandsAt bytes p text → AreSteps (step c) p s text steps t → HaveExpressions bytes steps
 steps_have c bytes p s text [] t a spelled = tt
 steps_have c bytes p s text (x ∷ xs) t a spelled = (
   step_has c s spelled.0 bytes p spelled.1 x (front_at bytes p text spelled.1 spelled.2 spelled.3 a) spelled.4,
@@ -222,7 +222,7 @@ steps_have c bytes p s text (x ∷ xs) t a spelled = (
 )
 
 -- the expressions of a program that stands at an extent of the bytes
-pub program_has : (c : Context) (s : State) (bytes : List ℕ) (e : Extent) (text : List ℕ) (steps : List PlacedStep) → IsExtent bytes e text
+pub program_has : (c : Context) (s : ProgramState) (bytes : List ℕ) (e : Extent) (text : List ℕ) (steps : List PlacedStep) → IsExtent bytes e text
     → (let p : PlacedProgramData = record { context = c; state = s; rest = record { bytes = text_in bytes e; at = e.at } } in HasPlacedSteps p steps) → HaveExpressions bytes steps
 unfolding HasPlacedSteps
 program_has c s bytes e text steps is has =

@@ -11,9 +11,9 @@ use Rattle.frame_parse.specs.declared.records.CieRecord.{CieRecord}
 use Rattle.frame_parse.specs.Entries.{FdeRecord, Record, Cie, Fde}
 use Rattle.frame_parse.specs.Instructions.{PlacedInstruction, PlacedStep}
 use Rattle.frame_parse.specs.declared.instructions.InstructionWith.TheVariants.{Nop, Advance, Set, Restore, Remember, RestoreState, Cfa, CfaColumn, CfaOffset, CfaExpression}
-use Rattle.frame_parse.specs.declared.instructions.Operation.{Operation}
-use Rattle.frame_parse.specs.declared.instructions.Operation.TheVariants as operations
-use Rattle.frame_parse.specs.declared.program_state.State.{State}
+use Rattle.frame_parse.specs.declared.instructions.RawInstruction.{RawInstruction}
+use Rattle.frame_parse.specs.declared.instructions.RawInstruction.TheVariants as operations
+use Rattle.frame_parse.specs.declared.program_state.ProgramState.{ProgramState}
 use Rattle.frame_parse.specs.declared.instructions.context.ProgramKind.TheVariants.{Initial, Own}
 use Rattle.eh_bytes.specs.Grammar.{given, found}
 use Rattle.frame_parse.specs.Programs.{most_remembered, context_of, effect_of, effect, step, top, below_top, initial_state, first_state, PlacedProgramData, HasPlacedSteps, initial_of, text_in, IsExtent, HasPrograms}
@@ -28,14 +28,14 @@ use Rattle.frame_parse.specs.Records.{cie, fde, cie_from, cie_after, content, re
 -- ---- what a step doesn't look at
 
 -- the location, where it can't move
-given_lift : (b : Bool) (x m : State) (f : RecordFault) (p : ℕ) (text : List ℕ) (k : State → State) → (given (cond b (Ok x) (Err f))).Spells p text m → (given (cond b (Ok (k x)) (Err f))).Spells p text (k m)
+given_lift : (b : Bool) (x m : ProgramState) (f : RecordFault) (p : ℕ) (text : List ℕ) (k : ProgramState → ProgramState) → (given (cond b (Ok x) (Err f))).Spells p text m → (given (cond b (Ok (k x)) (Err f))).Spells p text (k m)
 given_lift true x m f p text k a = (a.0, ap k a.1)
 given_lift false x m f p text k a = absurd a
 
-abbrev moved : ℕ → State → State
+abbrev moved : ℕ → ProgramState → ProgramState
 moved l s = record s { location = l }
 
-given_at : (at l p : ℕ) (s m : State) (i : PlacedInstruction) (text : List ℕ) → (given (effect_of at s i)).Spells p text m → (given (effect_of at (moved l s) i)).Spells p text (moved l m)
+given_at : (at l p : ℕ) (s m : ProgramState) (i : PlacedInstruction) (text : List ℕ) → (given (effect_of at s i)).Spells p text m → (given (effect_of at (moved l s) i)).Spells p text (moved l m)
 given_at at l p s m Nop text a = (a.0, ap (moved l) a.1)
 given_at at l p s m Advance text a = (a.0, ap (moved l) a.1)
 given_at at l p s m (Set r rule) text a = (a.0, ap (moved l) a.1)
@@ -47,21 +47,21 @@ given_at at l p s m RestoreState text a = given_lift (nat_lt 0 (length s.remembe
 given_at at l p s m (CfaColumn r) text a = given_lift s.offset s m (faults.CfaRule at) p text (moved l) a
 given_at at l p s m (CfaOffset n) text a = given_lift s.offset s m (faults.CfaRule at) p text (moved l) a
 
-effect_at : (section at l p : ℕ) (c : CieRecord) (s m : State) (o : Operation) (text : List ℕ) → (given (effect at (context_of section c Initial) s o)).Spells p text m → (given (effect at (context_of section c Initial) (moved l s) o)).Spells p text (moved l m)
+effect_at : (section at l p : ℕ) (c : CieRecord) (s m : ProgramState) (o : RawInstruction) (text : List ℕ) → (given (effect at (context_of section c Initial) s o)).Spells p text m → (given (effect at (context_of section c Initial) (moved l s) o)).Spells p text (moved l m)
 effect_at section at l p c s m (operations.Advance d) text a = absurd a
 effect_at section at l p c s m (operations.SetLocation d) text a = absurd a
 effect_at section at l p c s m (operations.Other i) text a = given_at at l p s m i text a
 
-step_at : (section l p : ℕ) (c : CieRecord) (s m : State) (front : List ℕ) (x : PlacedStep) → (step (context_of section c Initial) s).Spells p front (x, m)
+step_at : (section l p : ℕ) (c : CieRecord) (s m : ProgramState) (front : List ℕ) (x : PlacedStep) → (step (context_of section c Initial) s).Spells p front (x, m)
     → (step (context_of section c Initial) (moved l s)).Spells p front (record x { location = l }, moved l m)
 unfolding step
 step_at section l p c s m front x a =
     let b = a.5 in
     let d = b.5 in
-    let both : PlacedStep × State → PlacedStep × State = λ z. (record z.0 { location = l }, moved l z.1) in
+    let both : PlacedStep × ProgramState → PlacedStep × ProgramState = λ z. (record z.0 { location = l }, moved l z.1) in
     (a.0, a.1, a.2, a.3, a.4, (b.0, b.1, b.2, b.3, b.4, (moved l d.0, d.1, d.2, d.3, effect_at section a.0 l _ c s d.0 b.0 d.1 d.4, (d.5.0, ap both d.5.1))))
 
-AreSteps_at : (section l : ℕ) (c : CieRecord) (p : ℕ) (s : State) (text : List ℕ) (steps : List PlacedStep) (t : State) → AreSteps (step (context_of section c Initial)) p s text steps t
+AreSteps_at : (section l : ℕ) (c : CieRecord) (p : ℕ) (s : ProgramState) (text : List ℕ) (steps : List PlacedStep) (t : ProgramState) → AreSteps (step (context_of section c Initial)) p s text steps t
     → (others : List PlacedStep) × AreSteps (step (context_of section c Initial)) p (moved l s) text others (moved l t) × HaveOneProgram others steps
 AreSteps_at section l c p s text [] t a = ([], (a.0, ap (moved l) a.1), refl)
 AreSteps_at section l c p s text (x ∷ xs) t a =
@@ -151,7 +151,7 @@ kept_after section bytes true cs place c all e = absurd cc
 kept_after section bytes false cs place c all e = cie_from-kept section bytes cs place c all e
 
 -- the programs of an FDE, whose CIE was kept
-programs_of : (section : ℕ) (bytes text : List ℕ) (f : FdeRecord) (steps : List PlacedStep) (t : State) → CieKept section bytes f.cie → IsExtent bytes f.program text
+programs_of : (section : ℕ) (bytes text : List ℕ) (f : FdeRecord) (steps : List PlacedStep) (t : ProgramState) → CieKept section bytes f.cie → IsExtent bytes f.program text
     → AreSteps (step (context_of section f.cie Own)) f.program.at (first_state f.cie f.first) text steps t → HasPrograms section bytes f
 unfolding HasPlacedSteps
 programs_of section bytes text f steps t kept inside a =

@@ -11,108 +11,108 @@ use Rattle.frame_parse.specs.declared.instructions.StepWith.{StepWith}
 use Rattle.frame_parse.specs.Blocks.{block_in}
 use Rattle.frame_parse.specs.Steps.{ProgramData, HasSteps}
 use Rattle.frame_parse.specs.declared.instructions.InstructionWith.TheVariants.{Nop, Advance, Set, Restore, Remember, RestoreState, Cfa, CfaColumn, CfaOffset, CfaExpression}
-use Rattle.frame_parse.specs.declared.instructions.Operation.{Operation}
-use Rattle.frame_parse.specs.declared.instructions.Operation.TheVariants as operations
-use Rattle.frame_parse.specs.declared.program_state.State.{State}
+use Rattle.frame_parse.specs.declared.instructions.RawInstruction.{RawInstruction}
+use Rattle.frame_parse.specs.declared.instructions.RawInstruction.TheVariants as operations
+use Rattle.frame_parse.specs.declared.program_state.ProgramState.{ProgramState}
 use Rattle.eh_bytes.specs.Grammar.{given}
 use Rattle.frame_parse.specs.Programs.{most_remembered, moves, effect_of, effect, step, instruction_of, top, below_top, PlacedProgramData, HasPlacedSteps}
 use Rattle.eh_bytes.specs.Steps.{AreSteps}
 use Rattle.frame_parse.specs.Order.{Moves, IsAscendingFrom, AreAt, MayStandAt, remembered_after, IsBalanced, AreOrdered}
 
 -- what a step does to the location and to the number of remembered states
-record Changes (moving : Bool) (s : State) (i : PlacedInstruction) (m : State) : Type 0 where
+record Changes (moving : Bool) (s : ProgramState) (i : PlacedInstruction) (m : ProgramState) : Type 0 where
   up : Moves i s.location m.location
   still : moving ≡ false → m.location ≡ s.location
   may : MayStandAt (length s.remembered) i
   depth : length m.remembered ≡ remembered_after (length s.remembered) i
 
-chosen : (b : Bool) (x m : State) (f : RecordFault) (p : ℕ) (text : List ℕ) → (given (cond b (Ok x) (Err f))).Spells p text m → (b ≡ true) × (x ≡ m)
+chosen : (b : Bool) (x m : ProgramState) (f : RecordFault) (p : ℕ) (text : List ℕ) → (given (cond b (Ok x) (Err f))).Spells p text m → (b ≡ true) × (x ≡ m)
 chosen true x m f p text a = (refl, a.1)
 chosen false x m f p text a = absurd a
 
-same : (moving : Bool) (s m : State) (i : PlacedInstruction) → Moves i s.location s.location → MayStandAt (length s.remembered) i → remembered_after (length s.remembered) i ≡ length s.remembered → s ≡ m → Changes moving s i m
+same : (moving : Bool) (s m : ProgramState) (i : PlacedInstruction) → Moves i s.location s.location → MayStandAt (length s.remembered) i → remembered_after (length s.remembered) i ≡ length s.remembered → s ≡ m → Changes moving s i m
 same moving s m i up may depth e =
     let made : Changes moving s i s = record { up = up; still = λ _. refl; may = may; depth = sym depth } in
-    subst (λ (k : State). Changes moving s i k) e made
+    subst (λ (k : ProgramState). Changes moving s i k) e made
 
-changes_of : (at : ℕ) (moving : Bool) (s m : State) (i : PlacedInstruction) (p : ℕ) (text : List ℕ) → (given (effect_of at s i)).Spells p text m → Changes moving s i m
+changes_of : (at : ℕ) (moving : Bool) (s m : ProgramState) (i : PlacedInstruction) (p : ℕ) (text : List ℕ) → (given (effect_of at s i)).Spells p text m → Changes moving s i m
 changes_of at moving s m Nop p text a = same moving s m Nop refl tt refl a.1
 changes_of at moving s m Advance p text a = same moving s m Advance (omega arith) tt refl a.1
 changes_of at moving s m (Set r rule) p text a = same moving s m (Set r rule) refl tt refl a.1
 changes_of at moving s m (Restore r) p text a = same moving s m (Restore r) refl tt refl a.1
 changes_of at moving s m (Cfa r n) p text a =
-    let kept : State = record s { offset = true } in
+    let kept : ProgramState = record s { offset = true } in
     let made : Changes moving s (Cfa r n) kept = record { up = refl; still = λ _. refl; may = tt; depth = refl } in
-    subst (λ (k : State). Changes moving s (Cfa r n) k) a.1 made
+    subst (λ (k : ProgramState). Changes moving s (Cfa r n) k) a.1 made
 changes_of at moving s m (CfaExpression e) p text a =
-    let kept : State = record s { offset = false } in
+    let kept : ProgramState = record s { offset = false } in
     let made : Changes moving s (CfaExpression e) kept = record { up = refl; still = λ _. refl; may = tt; depth = refl } in
-    subst (λ (k : State). Changes moving s (CfaExpression e) k) a.1 made
+    subst (λ (k : ProgramState). Changes moving s (CfaExpression e) k) a.1 made
 changes_of at moving s m (CfaColumn r) p text a = same moving s m (CfaColumn r) refl tt refl (chosen s.offset s m _ p text a).1
 changes_of at moving s m (CfaOffset n) p text a = same moving s m (CfaOffset n) refl tt refl (chosen s.offset s m _ p text a).1
 changes_of at moving s m Remember p text a =
-    let kept : State = record s { remembered = s.remembered ++ s.offset ∷ [] } in
+    let kept : ProgramState = record s { remembered = s.remembered ++ s.offset ∷ [] } in
     let b = chosen (nat_lt (length s.remembered) most_remembered) kept m _ p text a in
     let made : Changes moving s Remember kept = record { up = refl; still = λ _. refl; may = ltb-true _ _ b.0; depth = length-append s.remembered (s.offset ∷ []) } in
-    subst (λ (k : State). Changes moving s Remember k) b.1 made
+    subst (λ (k : ProgramState). Changes moving s Remember k) b.1 made
 changes_of at moving s m RestoreState p text a =
-    let kept : State = record s { offset = top s.remembered; remembered = below_top s.remembered } in
+    let kept : ProgramState = record s { offset = top s.remembered; remembered = below_top s.remembered } in
     let b = chosen (nat_lt 0 (length s.remembered)) kept m _ p text a in
     let made : Changes moving s RestoreState kept = record { up = refl; still = λ _. refl; may = ltb-true _ _ b.0; depth = omega (arith, length-take (length s.remembered - 1) s.remembered) } in
-    subst (λ (k : State). Changes moving s RestoreState k) b.1 made
+    subst (λ (k : ProgramState). Changes moving s RestoreState k) b.1 made
 
 both : (a b : Bool) → a && b ≡ true → (a ≡ true) × (b ≡ true)
 both true b e = (refl, e)
 both false b e = absurd cc
 
-changes : (at : ℕ) (c : Context) (s m : State) (o : Operation) (p : ℕ) (text : List ℕ) → (given (effect at c s o)).Spells p text m → Changes (moves c.kind) s (instruction_of o) m
+changes : (at : ℕ) (c : Context) (s m : ProgramState) (o : RawInstruction) (p : ℕ) (text : List ℕ) → (given (effect at c s o)).Spells p text m → Changes (moves c.kind) s (instruction_of o) m
 changes at c s m (operations.Advance d) p text a =
-    let kept : State = record s { location = s.location + d * c.code_alignment } in
+    let kept : ProgramState = record s { location = s.location + d * c.code_alignment } in
     let b = chosen (moves c.kind && nat_lt (s.location + d * c.code_alignment) (2 ^ 64)) kept m _ p text a in
     let t = both (moves c.kind) (nat_lt (s.location + d * c.code_alignment) (2 ^ 64)) b.0 in
     let made : Changes (moves c.kind) s Advance kept = record { up = omega arith; still = λ e. absurd (let never = sym e ∙ t.0 in cc); may = tt; depth = refl } in
-    subst (λ (k : State). Changes (moves c.kind) s Advance k) b.1 made
+    subst (λ (k : ProgramState). Changes (moves c.kind) s Advance k) b.1 made
 changes at c s m (operations.SetLocation d) p text a =
-    let kept : State = record s { location = d } in
+    let kept : ProgramState = record s { location = d } in
     let b = chosen (moves c.kind && nat_le s.location d) kept m _ p text a in
     let t = both (moves c.kind) (nat_le s.location d) b.0 in
     let made : Changes (moves c.kind) s Advance kept = record { up = leb-true _ _ t.1; still = λ e. absurd (let never = sym e ∙ t.0 in cc); may = tt; depth = refl } in
-    subst (λ (k : State). Changes (moves c.kind) s Advance k) b.1 made
+    subst (λ (k : ProgramState). Changes (moves c.kind) s Advance k) b.1 made
 changes at c s m (operations.Other i) p text a = changes_of at (moves c.kind) s m i p text a
 
 -- a step that is spelled: its location is that of the state after it
-record Stepped (moving : Bool) (s : State) (x : PlacedStep) (m : State) : Type 0 where
+record Stepped (moving : Bool) (s : ProgramState) (x : PlacedStep) (m : ProgramState) : Type 0 where
   here : x.location ≡ m.location
   change : Changes moving s x.instruction m
 
-stepped : (c : Context) (s m : State) (p : ℕ) (front : List ℕ) (x : PlacedStep) → (step c s).Spells p front (x, m) → Stepped (moves c.kind) s x m
+stepped : (c : Context) (s m : ProgramState) (p : ℕ) (front : List ℕ) (x : PlacedStep) → (step c s).Spells p front (x, m) → Stepped (moves c.kind) s x m
 unfolding step
 stepped c s m p front x a =
     let b = a.5 in
     let d = b.5 in
     let made : PlacedStep = record { location = d.0.location; instruction = instruction_of b.0 } in
-    let one : made ≡ x = ap (λ (z : PlacedStep × State). z.0) d.5.1 in
-    let two : d.0 ≡ m = ap (λ (z : PlacedStep × State). z.1) d.5.1 in
+    let one : made ≡ x = ap (λ (z : PlacedStep × ProgramState). z.0) d.5.1 in
+    let two : d.0 ≡ m = ap (λ (z : PlacedStep × ProgramState). z.1) d.5.1 in
     let change = changes a.0 c s d.0 b.0 _ d.1 d.4 in
     let first : Stepped (moves c.kind) s made d.0 = record { here = refl; change = change } in
     let second : Stepped (moves c.kind) s x d.0 = subst (λ (k : PlacedStep). Stepped (moves c.kind) s k d.0) one first in
-    subst (λ (k : State). Stepped (moves c.kind) s x k) two second
+    subst (λ (k : ProgramState). Stepped (moves c.kind) s x k) two second
 
-ascending_from : (c : Context) (p : ℕ) (s : State) (text : List ℕ) (steps : List PlacedStep) (t : State) → AreSteps (step c) p s text steps t → IsAscendingFrom s.location steps
+ascending_from : (c : Context) (p : ℕ) (s : ProgramState) (text : List ℕ) (steps : List PlacedStep) (t : ProgramState) → AreSteps (step c) p s text steps t → IsAscendingFrom s.location steps
 ascending_from c p s text [] t a = tt
 ascending_from c p s text (x ∷ xs) t a =
     let one = stepped c s a.0 p a.1 x a.4 in
     let later = ascending_from c (p + length a.1) a.0 a.2 xs t a.5 in
     (subst (λ (k : ℕ). Moves x.instruction s.location k) (sym one.here) one.change.up, subst (λ (k : ℕ). IsAscendingFrom k xs) (sym one.here) later)
 
-at_from : (c : Context) (p : ℕ) (s : State) (text : List ℕ) (steps : List PlacedStep) (t : State) → moves c.kind ≡ false → AreSteps (step c) p s text steps t → AreAt s.location steps
+at_from : (c : Context) (p : ℕ) (s : ProgramState) (text : List ℕ) (steps : List PlacedStep) (t : ProgramState) → moves c.kind ≡ false → AreSteps (step c) p s text steps t → AreAt s.location steps
 at_from c p s text [] t e a = tt
 at_from c p s text (x ∷ xs) t e a =
     let one = stepped c s a.0 p a.1 x a.4 in
     let later = at_from c (p + length a.1) a.0 a.2 xs t e a.5 in
     (one.here ∙ one.change.still e, subst (λ (k : ℕ). AreAt k xs) (one.change.still e) later)
 
-balanced_from : (c : Context) (p : ℕ) (s : State) (text : List ℕ) (steps : List PlacedStep) (t : State) → AreSteps (step c) p s text steps t → IsBalanced (length s.remembered) steps
+balanced_from : (c : Context) (p : ℕ) (s : ProgramState) (text : List ℕ) (steps : List PlacedStep) (t : ProgramState) → AreSteps (step c) p s text steps t → IsBalanced (length s.remembered) steps
 balanced_from c p s text [] t a = tt
 balanced_from c p s text (x ∷ xs) t a =
     let one = stepped c s a.0 p a.1 x a.4 in

@@ -3,7 +3,7 @@ use Rattle.std.proofs.Common.{ℕ, ◌≤◌, List, length, arith, nat_lt}
 use Rattle.std.specs.Prelude.{◌||◌}
 use Rattle.frame_parse.specs.declared.fault.RecordFault.TheVariants as faults
 use Rattle.frame_parse.specs.declared.instructions.context.Context.{Context}
-use Rattle.frame_parse.specs.declared.program_state.State.{State}
+use Rattle.frame_parse.specs.declared.program_state.ProgramState.{ProgramState}
 use Rattle.frame_expr.specs.Registers.{column_count}
 use Rattle.frame_parse.specs.Programs.{is_above_columns, cfa_column, second_column, expression_fault, expression_block, skipped_block, column_block, extended_operation, operation, effect, step}
 use Rattle.eh_bytes.specs.Grammar.{give, lift}
@@ -88,7 +88,7 @@ operation_exact c =
     (when_exact _ _ _ (give_exact _)
     (extended_operation_exact c at b)))))
 
-pub step_exact : (c : Context) (s : State) → IsExact (step c s)
+pub step_exact : (c : Context) (s : ProgramState) → IsExact (step c s)
 unfolding step
 step_exact c s =
     then_exact _ _ here_exact (λ at.
@@ -96,7 +96,7 @@ step_exact c s =
     then_exact _ _ (given_exact (effect at c s o)) (λ t. give_exact _)))
 
 -- a step takes its first byte at least
-step_grows : (c : Context) (s : State) (p : ℕ) (front : List ℕ) (x : PlacedStep × State) → (step c s).Spells p front x → 1 ≤ length front
+step_grows : (c : Context) (s : ProgramState) (p : ℕ) (front : List ℕ) (x : PlacedStep × ProgramState) → (step c s).Spells p front x → 1 ≤ length front
 unfolding step operation
 step_grows c s p front x a =
     let spelled = a.5.4 in

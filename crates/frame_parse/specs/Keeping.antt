@@ -4,7 +4,7 @@ use Rattle.std.specs.Prelude.{◌≡◌, ℕ, ◌+◌, ◌<◌, ◌^◌, List, �
 use Rattle.std.specs.List.{All}
 use Rattle.eh_bytes.specs.CursorData.{CursorData}
 use Rattle.eh_bytes.specs.Steps.{AreSteps}
-use Rattle.frame_parse.specs.declared.program_state.State.{State}
+use Rattle.frame_parse.specs.declared.program_state.ProgramState.{ProgramState}
 use Rattle.frame_parse.specs.declared.instructions.context.ProgramKind.TheVariants.{Initial}
 use Rattle.frame_parse.specs.declared.records.CieRecord.{CieRecord}
 use Rattle.frame_parse.specs.Entries.{FdeRecord, Record, Cie, Fde}
@@ -20,7 +20,7 @@ pub record CieKept (section : ℕ) (bytes : List ℕ) (c : CieRecord) : Type 0 w
   pub text : List ℕ
   pub inside : IsExtent bytes c.initial text
   pub steps : List PlacedStep
-  pub last : State
+  pub last : ProgramState
   pub spelled : AreSteps (step (context_of section c Initial)) c.initial.at initial_state text steps
       last
 

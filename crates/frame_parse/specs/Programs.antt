@@ -20,9 +20,9 @@ use Rattle.frame_parse.specs.declared.instructions.InstructionWith.TheVariants.{
 use Rattle.frame_parse.specs.declared.instructions.InstructionWith.TheVariants.{CfaColumn}
 use Rattle.frame_parse.specs.declared.instructions.InstructionWith.TheVariants.{CfaOffset}
 use Rattle.frame_parse.specs.declared.instructions.InstructionWith.TheVariants.{CfaExpression}
-use Rattle.frame_parse.specs.declared.instructions.Operation.{Operation}
-use Rattle.frame_parse.specs.declared.instructions.Operation.TheVariants as operations
-use Rattle.frame_parse.specs.declared.program_state.State.{State}
+use Rattle.frame_parse.specs.declared.instructions.RawInstruction.{RawInstruction}
+use Rattle.frame_parse.specs.declared.instructions.RawInstruction.TheVariants as operations
+use Rattle.frame_parse.specs.declared.program_state.ProgramState.{ProgramState}
 use Rattle.frame_parse.specs.InstructionEncodings.{DW_CFA_advance_loc, DW_CFA_offset}
 use Rattle.frame_parse.specs.InstructionEncodings.{DW_CFA_restore, DW_CFA_nop, DW_CFA_set_loc}
 use Rattle.frame_parse.specs.InstructionEncodings.{DW_CFA_advance_loc1, DW_CFA_advance_loc2}
@@ -69,7 +69,7 @@ moves Own = true
 abbrev pub factored : Context → ℕ → ℕ
 factored c n = (n * cast_unsigned w64 c.data_alignment) % 2 ^ 64
 
-abbrev pub other : PlacedInstruction → Operation
+abbrev pub other : PlacedInstruction → RawInstruction
 other i = operations.Other i
 
 -- the return address has the last column
@@ -130,7 +130,7 @@ abbrev pub column_block : ℕ → Part RecordFault ℕ
 column_block r = when (is_above_columns r) skipped_block (expression_block 1)
 
 -- the instructions whose byte is an extended opcode, which is below 64
-unfoldable pub extended_operation : Context → ℕ → ℕ → Part RecordFault Operation
+unfoldable pub extended_operation : Context → ℕ → ℕ → Part RecordFault RawInstruction
 extended_operation c at b =
     when (b == DW_CFA_nop) (give (other Nop))
     (when (b == DW_CFA_set_loc) (pointer c.section c.pointers >>=
@@ -170,7 +170,7 @@ extended_operation c at b =
     (refuse (faults.Opcode at b)))))))))))))))))))))))))
 
 -- the two high bits of the byte are a primary opcode with an operand in the low six, or 0
-unfoldable pub operation : Context → Part RecordFault Operation
+unfoldable pub operation : Context → Part RecordFault RawInstruction
 operation c = do
   at ← here
   b ← field (fixed 1)
@@ -190,7 +190,7 @@ abbrev pub below_top : List Bool → List Bool
 below_top flags = take (length flags - 1) flags
 
 -- a part of the CFA rule changes only where that is a column plus an offset
-abbrev pub change_cfa : ℕ → State → Result State RecordFault
+abbrev pub change_cfa : ℕ → ProgramState → Result ProgramState RecordFault
 change_cfa at s = if s.offset then Ok s else Err (faults.CfaRule at)
 
 -- how many states are remembered at most
@@ -198,7 +198,7 @@ abbrev pub most_remembered : ℕ
 most_remembered = 8
 
 -- remembering and restoring states, and changing a part of the CFA rule
-abbrev pub effect_of : ℕ → State → PlacedInstruction → Result State RecordFault
+abbrev pub effect_of : ℕ → ProgramState → PlacedInstruction → Result ProgramState RecordFault
 effect_of at s Remember =
     if nat_lt (length s.remembered) most_remembered
     then Ok (record s { remembered = s.remembered ++ s.offset ∷ [] }) else Err (faults.Remember at)
@@ -216,7 +216,7 @@ effect_of at s (Set r rule) = Ok s
 effect_of at s (Restore r) = Ok s
 
 -- the location moves up alone, only in an FDE, and not past the last address
-abbrev pub effect : ℕ → Context → State → Operation → Result State RecordFault
+abbrev pub effect : ℕ → Context → ProgramState → RawInstruction → Result ProgramState RecordFault
 effect at c s (operations.Advance d) =
     if moves c.kind && nat_lt (s.location + d * c.code_alignment) (2 ^ 64)
     then Ok (record s { location = s.location + d * c.code_alignment })
@@ -226,22 +226,24 @@ effect at c s (operations.SetLocation a) =
     then Ok (record s { location = a }) else Err (faults.Location at)
 effect at c s (operations.Other i) = effect_of at s i
 
-abbrev pub instruction_of : Operation → PlacedInstruction
+abbrev pub instruction_of : RawInstruction → PlacedInstruction
 instruction_of (operations.Advance d) = Advance
 instruction_of (operations.SetLocation a) = Advance
 instruction_of (operations.Other i) = i
 
 -- the step of an operation, with the location that holds after it, and the state after it
-abbrev pub finished : ℕ → Context → State → Operation → Part RecordFault (PlacedStep × State)
+abbrev pub finished : ℕ → Context → ProgramState → RawInstruction
+    → Part RecordFault (PlacedStep × ProgramState)
 finished at c s o = given (effect at c s o) >>=
     λ t. give (record { location = t.location; instruction = instruction_of o }, t)
 
 -- the step of an instruction whose byte is an extended opcode
-abbrev pub extended_step : Context → State → ℕ → ℕ → Part RecordFault (PlacedStep × State)
+abbrev pub extended_step : Context → ProgramState → ℕ → ℕ
+    → Part RecordFault (PlacedStep × ProgramState)
 extended_step c s at b = extended_operation c at b >>= λ o. finished at c s o
 
 -- an instruction with the location that holds when it is met, and the state after it
-unfoldable pub step : Context → State → Part RecordFault (PlacedStep × State)
+unfoldable pub step : Context → ProgramState → Part RecordFault (PlacedStep × ProgramState)
 step c s = do
   at ← here
   o ← operation c
@@ -250,23 +252,23 @@ step c s = do
 -- ---- programs
 
 -- the state before any instruction: nothing is known of the CFA, and nothing is remembered
-abbrev pub initial_state : State
+abbrev pub initial_state : ProgramState
 initial_state = record { location = 0; offset = false; remembered = [] }
 
 -- the state before the instructions of an FDE, after those of its CIE
-abbrev pub first_state : CieRecord → ℕ → State
+abbrev pub first_state : CieRecord → ℕ → ProgramState
 first_state c first = record { location = first; offset = c.offset; remembered = [] }
 
 -- what contracts see of a program: where it goes on, and what its instructions refer to
 pub record PlacedProgramData : Type 0 where
   pub context : Context
-  pub state : State
+  pub state : ProgramState
   pub rest : CursorData
 
 -- the steps that a program goes on with: the pairs of location and instruction that its bytes spell
 unfoldable pub HasPlacedSteps : PlacedProgramData → List PlacedStep → Type 0
 HasPlacedSteps p steps =
-    (t : State) × AreSteps (step p.context) p.rest.at p.state p.rest.bytes steps t
+    (t : ProgramState) × AreSteps (step p.context) p.rest.at p.state p.rest.bytes steps t
 
 -- the text that stands at an extent of the bytes
 abbrev pub IsExtent : List ℕ → Extent → List ℕ → Type 0

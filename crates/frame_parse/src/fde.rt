@@ -11,7 +11,7 @@ ghost use Rattle.frame_parse.specs.Steps.{left_of_initial, left_of_program};
 use crate::instructions::{Context, ProgramKind, first_state};
 use crate::placed_program::PlacedProgram;
 use crate::program::Program;
-use crate::program_state::{Remembered, State};
+use crate::program_state::{ProgramState, Remembered};
 use crate::records::{CieRecord, FdeEntry};
 use eh_bytes::Cursor;
 use std::marker::Model;
@@ -144,7 +144,7 @@ impl<'a> Fde<'a> {
         let entry = self.entry;
         let cie = self.cie;
         let cursor = Cursor::new(self.bytes, cie.initial.at, cie.initial.end);
-        let state = State {
+        let state = ProgramState {
             location: entry.first,
             offset: false,
             remembered: Remembered::new(),

@@ -74,7 +74,7 @@ pub type PlacedStep = StepWith<usize, usize>;
 
 /// What an instruction spells, before its effect on the location is tested.
 #[derive(Clone, Copy, Debug, PartialEq, Eq)]
-pub enum Operation {
+pub enum RawInstruction {
     /// On by as many code alignments.
     Advance { delta: u64 },
     SetLocation { address: u64 },

@@ -23,15 +23,15 @@ pub use cie_lookup::cie_after;
 pub use fault::{FrameFault, RecordFault};
 pub use fde::Fde;
 pub use instructions::{
-    Context, Instruction, InstructionWith, Operation, PlacedInstruction, PlacedReadRule,
-    PlacedStep, ProgramKind, ReadRule, ReadRuleWith, Step, StepWith, lent_expr,
+    Context, Instruction, InstructionWith, PlacedInstruction, PlacedReadRule, PlacedStep,
+    ProgramKind, RawInstruction, ReadRule, ReadRuleWith, Step, StepWith, lent_expr,
 };
 pub use laws::{
     initial_instructions_are_the_cies, records_are_kept, records_stand, steps_are_ordered,
 };
 pub use placed_program::PlacedProgram;
 pub use program::Program;
-pub use program_state::{Remembered, State};
+pub use program_state::{ProgramState, Remembered};
 pub use records::{
     Augmentation, CieRecord, Entry, Extent, FdeEntry, four_bytes, pointer, range, record_length,
     whole_record,

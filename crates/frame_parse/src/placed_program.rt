@@ -5,7 +5,7 @@ ghost use Rattle.frame_parse.specs.Programs.{HasPlacedSteps};
 ghost use Rattle.frame_parse.specs.Instructions.{PlacedStep};
 
 use crate::instructions::{Context, PlacedStep, step};
-use crate::program_state::State;
+use crate::program_state::ProgramState;
 use eh_bytes::Cursor;
 use std::marker::Model;
 
@@ -14,7 +14,7 @@ use std::marker::Model;
 pub struct PlacedProgram<'a> {
     context: Context,
     cursor: Cursor<'a>,
-    state: State,
+    state: ProgramState,
 }
 
 impl<'a> Model for PlacedProgram<'a> {
@@ -32,7 +32,11 @@ impl<'a> Model for PlacedProgram<'a> {
 
 impl<'a> PlacedProgram<'a> {
     /// What is left after a state, where the rest of the record was read without fault.
-    pub(crate) fn new(context: Context, state: State, cursor: Cursor<'a>) -> PlacedProgram<'a>
+    pub(crate) fn new(
+        context: Context,
+        state: ProgramState,
+        cursor: Cursor<'a>,
+    ) -> PlacedProgram<'a>
         requires { (steps : List PlacedStep)
             × HasPlacedSteps (record { context = context; state = state; rest = cursor }) steps }
         ensures { result ≡ record { context = context; state = state; rest = cursor.entry } }

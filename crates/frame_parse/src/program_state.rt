@@ -57,7 +57,7 @@ impl Remembered {
 
 /// The location, whether the CFA rule is a column plus an offset, and what was remembered of that.
 #[derive(Drop)]
-pub struct State {
+pub struct ProgramState {
     pub location: u64,
     pub remembered: Remembered,
     pub offset: bool,

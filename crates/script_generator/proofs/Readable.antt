@@ -7,7 +7,7 @@ use Rattle.script_generator.proofs.Runnable.{is_bytes}
 use Rattle.std.proofs.Math.Nat.{add-mod_left, mod-eq_of_lt}
 use Rattle.frame_parse.specs.declared.instructions.context.Context.{Context}
 use Rattle.frame_parse.specs.declared.instructions.context.ProgramKind.TheVariants.{Own}
-use Rattle.frame_parse.specs.declared.program_state.State.{State}
+use Rattle.frame_parse.specs.declared.program_state.ProgramState.{ProgramState}
 use Rattle.frame_parse.specs.Reading.{section_of, read_all}
 use Rattle.eh_bytes.specs.CursorData.{CursorData, text_len, text_of}
 use Rattle.eh_bytes.specs.Leb.{leb_len, uleb_value, sleb_value, uleb_of, sleb_of}
@@ -75,7 +75,7 @@ second_at base small = ap (λ n. n % 2 ^ 64) (let e : 18446744073709547488 + (ba
 abbrev own : ℕ → Context
 own base = record { section = base + 4096; code_alignment = 1; data_alignment = negsuc 7; pointers = 27; kind = Own }
 
-abbrev state : ℕ → State
+abbrev state : ℕ → ProgramState
 state location = record { location = location; offset = true; remembered = [] }
 
 one_step : (base : ℕ) → base < 2 ^ 35 → run 15 (step (own base)) (state base) (cursor (65 ∷ 14 ∷ 16 ∷ 134 ∷ 2 ∷ 67 ∷ 13 ∷ 6 ∷ 0 ∷ 0 ∷ 0 ∷ 0 ∷ 0 ∷ 0 ∷ 0 ∷ []) 41)

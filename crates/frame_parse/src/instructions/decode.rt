@@ -9,7 +9,7 @@ ghost use Rattle.frame_parse.specs.Programs.{second_column, extended_operation};
 use super::blocks::{column_block, expression_block};
 use super::context::Context;
 use super::opcodes::*;
-use super::{Operation, PlacedInstruction, PlacedReadRule};
+use super::{PlacedInstruction, PlacedReadRule, RawInstruction};
 use crate::fault::RecordFault;
 use crate::records::fields::{self, four_bytes, pointer, sleb, two_bytes, uleb};
 use eh_bytes::Cursor;
@@ -100,10 +100,10 @@ fn register(first: u64, second: u64) -> PlacedInstruction
 }
 
 #[inline(always)]
-fn other(instruction: PlacedInstruction) -> Operation
+fn other(instruction: PlacedInstruction) -> RawInstruction
     ensures { result ≡ other instruction }
 {
-    Operation::Other { instruction }
+    RawInstruction::Other { instruction }
 }
 
 /// What an instruction spells whose byte is an extended opcode.
@@ -114,7 +114,7 @@ pub(super) fn extended_operation(
     cursor: &mut Cursor,
     at: usize,
     byte: u8,
-) -> Result<Operation, RecordFault>
+) -> Result<RawInstruction, RecordFault>
     ensures { Gives (λ o. o) (extended_operation context.now at byte).read cursor.old result
         cursor.new }
 {
@@ -122,15 +122,15 @@ pub(super) fn extended_operation(
         DW_CFA_nop => Ok(other(PlacedInstruction::Nop)),
         DW_CFA_set_loc => {
             let address = pointer(cursor, context.section, context.pointers)?;
-            Ok(Operation::SetLocation { address })
+            Ok(RawInstruction::SetLocation { address })
         }
-        DW_CFA_advance_loc1 => Ok(Operation::Advance {
+        DW_CFA_advance_loc1 => Ok(RawInstruction::Advance {
             delta: fields::byte(cursor)? as u64,
         }),
-        DW_CFA_advance_loc2 => Ok(Operation::Advance {
+        DW_CFA_advance_loc2 => Ok(RawInstruction::Advance {
             delta: two_bytes(cursor)? as u64,
         }),
-        DW_CFA_advance_loc4 => Ok(Operation::Advance {
+        DW_CFA_advance_loc4 => Ok(RawInstruction::Advance {
             delta: four_bytes(cursor)? as u64,
         }),
         DW_CFA_offset_extended => {

@@ -7,13 +7,13 @@ ghost use Rattle.frame_parse.specs.declared.instructions.InstructionWith.TheVari
 ghost use Rattle.frame_parse.specs.Programs.{change_cfa, effect_of, effect};
 
 use super::context::Context;
-use super::{Operation, PlacedInstruction};
+use super::{PlacedInstruction, RawInstruction};
 use crate::fault::RecordFault;
-use crate::program_state::State;
+use crate::program_state::ProgramState;
 
 /// Remembers whether the CFA rule is a column plus an offset.
 #[inline(always)]
-pub(super) fn remember(at: usize, state: &mut State) -> Result<(), RecordFault>
+pub(super) fn remember(at: usize, state: &mut ProgramState) -> Result<(), RecordFault>
     ensures { Leaves (effect_of at state.old Remember) result state.new }
 {
     if state.remembered.len() == 8 {
@@ -25,7 +25,7 @@ pub(super) fn remember(at: usize, state: &mut State) -> Result<(), RecordFault>
 
 /// Takes back what was remembered last.
 #[inline(always)]
-pub(super) fn restore_state(at: usize, state: &mut State) -> Result<(), RecordFault>
+pub(super) fn restore_state(at: usize, state: &mut ProgramState) -> Result<(), RecordFault>
     ensures { Leaves (effect_of at state.old RestoreState) result state.new }
 {
     if state.remembered.len() == 0 {
@@ -37,7 +37,7 @@ pub(super) fn restore_state(at: usize, state: &mut State) -> Result<(), RecordFa
 
 /// A part of the CFA rule can be changed only where that is a column plus an offset.
 #[inline(always)]
-pub(super) fn change_cfa(at: usize, state: &State) -> Result<(), RecordFault>
+pub(super) fn change_cfa(at: usize, state: &ProgramState) -> Result<(), RecordFault>
     ensures { Leaves (change_cfa at state.now) result state.now }
 {
     if state.offset {
@@ -51,7 +51,7 @@ pub(super) fn change_cfa(at: usize, state: &State) -> Result<(), RecordFault>
 #[inline(always)]
 fn effect_of(
     at: usize,
-    state: &mut State,
+    state: &mut ProgramState,
     instruction: &PlacedInstruction,
 ) -> Result<(), RecordFault>
     ensures { Leaves (effect_of at state.old instruction.now) result state.new }
@@ -94,10 +94,11 @@ fn advanced(location: u64, delta: u64, alignment: u64) -> Option<u64>
 pub(super) fn advance(
     context: &Context,
     at: usize,
-    state: &mut State,
+    state: &mut ProgramState,
     delta: u64,
 ) -> Result<(), RecordFault>
-    ensures { Leaves (effect at context.now state.old (Operation.Advance delta)) result state.new }
+    ensures { Leaves (effect at context.now state.old (RawInstruction.Advance delta))
+        result state.new }
 {
     match advanced(state.location, delta, context.code_alignment) {
         Some(location) if context.kind.moves() => {
@@ -113,14 +114,14 @@ pub(super) fn advance(
 pub(super) fn effect(
     context: &Context,
     at: usize,
-    state: &mut State,
-    operation: &Operation,
+    state: &mut ProgramState,
+    operation: &RawInstruction,
 ) -> Result<(), RecordFault>
     ensures { Leaves (effect at context.now state.old operation.now) result state.new }
 {
     match operation {
-        Operation::Advance { delta } => advance(context, at, state, *delta),
-        Operation::SetLocation { address } => {
+        RawInstruction::Advance { delta } => advance(context, at, state, *delta),
+        RawInstruction::SetLocation { address } => {
             if context.kind.moves() && state.location <= *address {
                 state.location = *address;
                 Ok(())
@@ -128,6 +129,6 @@ pub(super) fn effect(
                 Err(RecordFault::Location { at })
             }
         }
-        Operation::Other { instruction } => effect_of(at, state, instruction),
+        RawInstruction::Other { instruction } => effect_of(at, state, instruction),
     }
 }

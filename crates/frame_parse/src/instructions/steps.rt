@@ -10,26 +10,27 @@ use super::context::Context;
 use super::decode::{cfa_column, extended_operation, factored, restore, set};
 use super::effect::{advance, change_cfa, effect, remember, restore_state};
 use super::opcodes::*;
-use super::{Operation, PlacedInstruction, PlacedReadRule, PlacedStep};
+use super::{PlacedInstruction, PlacedReadRule, PlacedStep, RawInstruction};
 use crate::fault::RecordFault;
-use crate::program_state::{Remembered, State};
+use crate::program_state::{ProgramState, Remembered};
 use crate::records::CieRecord;
 use crate::records::fields::{self, uleb};
 use eh_bytes::Cursor;
 
 #[inline(always)]
-fn instruction_of(operation: &Operation) -> PlacedInstruction
+fn instruction_of(operation: &RawInstruction) -> PlacedInstruction
     ensures { result ≡ instruction_of operation.now }
 {
     match operation {
-        Operation::Advance { .. } | Operation::SetLocation { .. } => PlacedInstruction::Advance,
-        Operation::Other { instruction } => *instruction,
+        RawInstruction::Advance { .. } | RawInstruction::SetLocation { .. } =>
+            PlacedInstruction::Advance,
+        RawInstruction::Other { instruction } => *instruction,
     }
 }
 
 /// An instruction where it is met.
 #[inline(always)]
-fn here(state: &State, instruction: PlacedInstruction) -> PlacedStep
+fn here(state: &ProgramState, instruction: PlacedInstruction) -> PlacedStep
     ensures { result ≡ record { location = state.now.location; instruction = instruction } }
 {
     PlacedStep {
@@ -43,7 +44,7 @@ fn here(state: &State, instruction: PlacedInstruction) -> PlacedStep
 fn decoded_step(
     context: &Context,
     cursor: &mut Cursor,
-    state: &mut State,
+    state: &mut ProgramState,
     at: usize,
     byte: u8,
 ) -> Result<PlacedStep, RecordFault>
@@ -61,7 +62,7 @@ fn decoded_step(
 fn step_by_operation(
     context: &Context,
     cursor: &mut Cursor,
-    state: &mut State,
+    state: &mut ProgramState,
     at: usize,
     byte: u8,
 ) -> Result<PlacedStep, RecordFault>
@@ -78,7 +79,7 @@ fn step_by_operation(
 fn extended_step(
     context: &Context,
     cursor: &mut Cursor,
-    state: &mut State,
+    state: &mut ProgramState,
     at: usize,
     byte: u8,
 ) -> Result<PlacedStep, RecordFault>
@@ -119,7 +120,7 @@ fn extended_step(
 pub(crate) fn step(
     context: &Context,
     cursor: &mut Cursor,
-    state: &mut State,
+    state: &mut ProgramState,
 ) -> Result<PlacedStep, RecordFault>
     ensures { Gives (λ x. (x, state.new)) (step context.now state.old).read
         cursor.old result cursor.new }
@@ -151,8 +152,8 @@ pub(crate) fn step(
 pub(crate) fn steps(
     context: &Context,
     cursor: &mut Cursor,
-    state: State,
-) -> Result<State, RecordFault>
+    state: ProgramState,
+) -> Result<ProgramState, RecordFault>
     ensures { Gives (λ s. s) (steps_from (step context.now) state).read
         cursor.old result cursor.new }
 {
@@ -164,10 +165,10 @@ pub(crate) fn steps(
 }
 
 /// The state before the instructions of a CIE.
-pub(crate) fn initial_state() -> State
+pub(crate) fn initial_state() -> ProgramState
     ensures { result ≡ initial_state }
 {
-    State {
+    ProgramState {
         location: 0,
         offset: false,
         remembered: Remembered::new(),
@@ -175,10 +176,10 @@ pub(crate) fn initial_state() -> State
 }
 
 /// The state before the instructions of an FDE.
-pub(crate) fn first_state(cie: &CieRecord, first: u64) -> State
+pub(crate) fn first_state(cie: &CieRecord, first: u64) -> ProgramState
     ensures { result ≡ first_state cie.now first }
 {
-    State {
+    ProgramState {
         location: first,
         offset: cie.offset,
         remembered: Remembered::new(),
