@@ -1,6 +1,6 @@
 -- Rows as they are made.
 use Rattle.row_table.specs.Tables.{RowsData}
-use Rattle.row_table.specs.declared.making.Rows.{Rows}
+use Rattle.row_table.specs.declared.made_rows.Rows.{Rows}
 
 -- the rows that were made
 abbrev pub rows_in : Rows → RowsData

@@ -12,7 +12,7 @@ use crate::distinct_rows::DistinctRows;
 use crate::fault::TableFault;
 use crate::instructions::is_nop;
 use crate::kept_states::KeptStates;
-use crate::same::are_equal;
+use crate::same_rows::are_equal;
 use crate::states::States;
 use crate::transitions::{Transition, Transitions};
 use frame_parse::PlacedInstruction;

@@ -7,8 +7,8 @@ ghost use Rattle.row_table.specs.Numbering.{first_rows, IsNoneOfTheFirst};
 ghost use Rattle.row_table.specs.Tables.{IsNumbered, IsOneTooMany};
 
 use crate::fault::TableFault;
-use crate::same::{PLACES, are_equal, place_of, same_cfa};
-use crate::words::row_words;
+use crate::row_words::row_words;
+use crate::same_rows::{PLACES, are_equal, place_of, same_cfa};
 use frame_rows::PlacedRow;
 use std::alloc::{AllocError, Global};
 use std::collections::BTreeMap;

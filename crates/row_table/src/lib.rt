@@ -13,14 +13,14 @@ mod following;
 mod instructions;
 mod kept_states;
 mod lent_row;
-mod making;
-mod same;
+mod made_rows;
+mod row_words;
+mod same_rows;
 mod search;
 mod source;
 mod states;
 mod table;
 mod transitions;
-mod words;
 
 pub use fault::TableFault;
 pub use lent_row::LentRow;

@@ -4,7 +4,7 @@ ghost use Rattle.std.specs.Prelude.{◌≡◌, ◌<◌, [], IfOk, IfSome, length
 ghost use Rattle.frame_rows.specs.Rows.{unset};
 ghost use Rattle.row_table.specs.Transitions.{IsNumberOf, IsLonger};
 
-use crate::same::{PLACES, are_equal, place_of};
+use crate::same_rows::{PLACES, are_equal, place_of};
 use frame_rows::PlacedRow;
 use std::alloc::{AllocError, Global};
 use std::marker::Model;

@@ -9,7 +9,7 @@ ghost use Rattle.row_table.specs.Tables.{HasRowsFrom, HasNumber, IsNumberAt};
 use crate::cie_rows::CieRows;
 use crate::fault::TableFault;
 use crate::lent_row::LentRow;
-use crate::making::Rows;
+use crate::made_rows::Rows;
 use crate::search::last_start;
 use frame_parse::{Fde, Section};
 use frame_rows::{PlacedRow, placed_rows_are_rows};

@@ -9,7 +9,7 @@ use Rattle.row_table.specs.Tables.{HasRow}
 use Rattle.row_table.proofs.Growth.{rows_of}
 use Rattle.row_table.proofs.Spans.{HasSpans, no_spans, one_more, last_one, refused_push}
 use Rattle.row_table.proofs.Walks.{GoesOn, on_at_first, moved_on, stayed_on, plain_on, remembered_on, restored_on, row_up_to, row_to_the_end, has_room, has_one}
-use Rattle.row_table.proofs.making.Rows.add.Goals as goal
+use Rattle.row_table.proofs.made_rows.Rows.add.Goals as goal
 
 pub loop-step-init : goal.loop-step-init
 loop-step-init c =

@@ -4,7 +4,7 @@ use Rattle.row_table.specs.Courses.{standing}
 use Rattle.row_table.specs.Making.{rows_in}
 use Rattle.row_table.proofs.Spans.{HasSpans}
 use Rattle.row_table.proofs.Walks.{GoesOn}
-use Rattle.row_table.proofs.making.Rows.add.Given as goal
+use Rattle.row_table.proofs.made_rows.Rows.add.Given as goal
 
 abbrev pub invariant-loop-step : goal.invariant-loop-step
 invariant-loop-step l = record {

@@ -2,7 +2,7 @@ use Rattle.std.proofs.Common.{◌≡◌, ℕ, get_or, true, inl, inr, sym, ap, �
 use Rattle.std.proofs.lemmas.Bool.{cases_lt}
 use Rattle.std.proofs.lemmas.List.{ext_get_or}
 use Rattle.frame_rows.specs.declared.rule.RuleWith.TheVariants.{Unset}
-use Rattle.row_table.proofs.same.same_columns.Goals as goal
+use Rattle.row_table.proofs.same_rows.same_columns.Goals as goal
 
 pub returns : goal.returns
 returns c = record {

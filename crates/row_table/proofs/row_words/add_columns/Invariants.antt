@@ -1,6 +1,6 @@
 use Rattle.std.proofs.Common.{◌≡◌, ◌++◌, length}
 use Rattle.row_table.specs.Numbering.{columns_words}
-use Rattle.row_table.proofs.words.add_columns.Given as goal
+use Rattle.row_table.proofs.row_words.add_columns.Given as goal
 
 -- the words so far, and those of the columns that are left
 abbrev pub invariant-loop-left : goal.invariant-loop-left
