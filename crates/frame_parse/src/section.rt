@@ -41,8 +41,8 @@ fn entries_of(
 {
     let mut cursor = Cursor::new(bytes, 0, bytes.len());
     let mut cies = Vec::new(alloc);
-    // An FDE of a compiler's has some 50 bytes.
-    let mut fdes = Vec::with_capacity(alloc, bytes.len() / 48)?;
+    // An FDE of a compiler's has 40 bytes and more; room that nothing is put into costs nothing.
+    let mut fdes = Vec::with_capacity(alloc, bytes.len() / 32)?;
     while !is_end(cursor.rest()) {
         match whole_record(&mut cursor, section, &cies)? {
             Entry::Cie(cie) => cies.push(cie)?,
@@ -96,6 +96,18 @@ impl Section {
         Ok(Section::of_records(alloc, address, bytes, cies, fdes)?)
     }
 
+    /// The section that keeps these bytes, and not a copy of them, at an address.
+    pub fn keep(alloc: Global, address: u64, bytes: Vec<u8>) -> Result<Section, FrameFault>
+        ensures kept { IfOk result (λ s. (s.address ≡ address) × (s.bytes ≡ bytes.items)) }
+        ensures found { IfOk result (λ s. HasFdes address bytes.items s.fdes) }
+        // Any other refusal than for want of memory is the first one.
+        ensures refused { IfErr result
+            (λ f. (f ≡ FrameFault.NoMemory) ⊎ IsRefused address bytes.items f) }
+    {
+        let (cies, fdes) = entries_of(alloc, address, &bytes)?;
+        Ok(Section::keep_records(alloc, address, bytes, cies, fdes)?)
+    }
+
     /// The section of FDEs that stand in its bytes in this order, each with the number of its CIE.
     pub fn of_records(
         alloc: Global,
@@ -110,8 +122,26 @@ impl Section {
         ensures bytes { IfOk result (λ s. s.bytes ≡ bytes.now) }
         ensures fdes { IfOk result (λ s. s.fdes ≡ map (fde_among cies.items) fdes.items) }
     {
-        let fdes = FdeList::new(alloc, cies, without_spare_room(fdes))?;
         let bytes = Vec::from_slice(alloc, bytes)?;
+        Section::keep_records(alloc, address, bytes, cies, fdes)
+    }
+
+    fn keep_records(
+        alloc: Global,
+        address: u64,
+        bytes: Vec<u8>,
+        cies: Vec<CieRecord>,
+        fdes: Vec<FdeEntry>,
+    ) -> Result<Section, AllocError>
+        requires cies { All (HasCie (length cies.items)) fdes.items }
+        requires kept { KeepsFdes address bytes.items (map (fde_among cies.items) fdes.items) }
+        ensures { IfOk result (λ s. s ≡ record {
+          address = address;
+          bytes = bytes.items;
+          fdes = map (fde_among cies.items) fdes.items;
+        }) }
+    {
+        let fdes = FdeList::new(alloc, cies, without_spare_room(fdes))?;
         Ok(Section {
             address,
             bytes,
