@@ -12,8 +12,7 @@ pub fn moment_of(receipt: &Receipt) -> u32
     match receipt {
         Receipt::Register { answer, .. } => match answer {
             Inserted::Done { number } => *number,
-            Inserted::Overlap { stamp, .. } => *stamp,
-            Inserted::Full { stamp } => *stamp,
+            Inserted::Overlap { stamp, .. } | Inserted::Full { stamp } => *stamp,
             Inserted::Spent => 0,
         },
         Receipt::Replace { answer, .. } => match answer {
@@ -23,23 +22,16 @@ pub fn moment_of(receipt: &Receipt) -> u32
         },
         Receipt::Load { answer, .. } => match answer {
             Loading::Done { number } => *number,
-            Loading::Overlap { stamp, .. } => *stamp,
-            Loading::LoadFull { stamp } => *stamp,
+            Loading::Overlap { stamp, .. } | Loading::LoadFull { stamp } => *stamp,
             Loading::Spent => 0,
         },
-        Receipt::Deregister { answer, .. } => match answer {
-            Removed::Done { number, .. } => *number,
-            Removed::NotFound { stamp } => *stamp,
-            Removed::Spent => 0,
-        },
-        Receipt::Unload { answer, .. } => match answer {
+        Receipt::Deregister { answer, .. } | Receipt::Unload { answer, .. } => match answer {
             Removed::Done { number, .. } => *number,
             Removed::NotFound { stamp } => *stamp,
             Removed::Spent => 0,
         },
         Receipt::Query { found, .. } => match found {
-            Found::Hit { stamp, .. } => *stamp,
-            Found::Miss { stamp } => *stamp,
+            Found::Hit { stamp, .. } | Found::Miss { stamp } => *stamp,
         },
     }
 }
