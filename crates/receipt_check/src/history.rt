@@ -1,8 +1,7 @@
 //! The history that the numbers tell, and the first update that doesn't fit.
 
 ghost use Rattle.std.specs.Prelude.{◌≡◌, ℕ, ◌+◌, ◌<◌, ◌++◌, IfOk, OnOk, MatchOption};
-ghost use Rattle.std.specs.Prelude.{None, replicate};
-ghost use Rattle.std.specs.Prelude.{All, length, slice_index_or};
+ghost use Rattle.std.specs.Prelude.{All, None, length, slice_index_or};
 ghost use Rattle.std.specs.Option.{option_or, option_to_list};
 ghost use Rattle.reg_model.specs.Numbers.{history_of};
 ghost use Rattle.receipt_check.specs.Flaws.{told_receipts, told_history, HasOwnNumber, UpdateFits};
@@ -42,20 +41,9 @@ fn add(history: &mut Vec<Update>, place: &Option<Update>) -> Result<(), NoMemory
 fn places_of(alloc: Global, told: &[Told], updates: usize) -> Result<Vec<Option<Update>>, NoMemory>
     ensures { IfOk result (λ places. AreByNumber (told_receipts told.now) updates places.items) }
 {
-    let mut places = no_updates(alloc, updates)?;
+    let mut places = vec![in alloc; None; updates]?;
     for row in told {
         put(&mut places, &row.receipt);
-    }
-    Ok(places)
-}
-
-/// So many places with no update.
-fn no_updates(alloc: Global, count: usize) -> Result<Vec<Option<Update>>, NoMemory>
-    ensures { IfOk result (λ places. places.items ≡ replicate count None) }
-{
-    let mut places = Vec::with_capacity(alloc, count)?;
-    for _place in 0..count {
-        places.push(None)?;
     }
     Ok(places)
 }

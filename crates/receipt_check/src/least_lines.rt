@@ -1,6 +1,6 @@
 //! The least line of each number.
 
-ghost use Rattle.std.specs.Prelude.{◌≡◌, ℕ, ◌<◌, ◌==◌, IfOk, OnOk, not, false, None, replicate};
+ghost use Rattle.std.specs.Prelude.{◌≡◌, ℕ, ◌<◌, ◌==◌, IfOk, OnOk, not, false, None};
 ghost use Rattle.std.specs.Prelude.{length, slice_set, slice_index_or};
 ghost use Rattle.std.specs.BTreeMap.{get};
 ghost use Rattle.std.specs.Ordering.{nat_cmp};
@@ -27,7 +27,7 @@ impl LeastLines {
         ensures { IfOk result (λ lines. (number : ℕ) → line_of lines number ≡ None) }
     {
         Ok(LeastLines {
-            table: no_lines(alloc, places)?,
+            table: vec![in alloc; None; places]?,
             others: BTreeMap::new(alloc),
         })
     }
@@ -65,17 +65,6 @@ impl LeastLines {
         let least = lower(self.table[place], line, false);
         self.table[place] = least;
     }
-}
-
-/// So many places with no line.
-fn no_lines(alloc: Global, count: usize) -> Result<Vec<Option<u64>>, NoMemory>
-    ensures { IfOk result (λ places. places.items ≡ replicate count None) }
-{
-    let mut places = Vec::with_capacity(alloc, count)?;
-    for _place in 0..count {
-        places.push(None)?;
-    }
-    Ok(places)
 }
 
 /// Keeps a number's line in the map, where none above it is kept.

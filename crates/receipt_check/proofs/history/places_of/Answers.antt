@@ -1,4 +1,4 @@
-use Rattle.std.proofs.Common.{List, subst}
+use Rattle.std.proofs.Common.{List, subst, rules}
 use Rattle.std.proofs.lemmas.List.{take_all}
 use Rattle.receipt_check.specs.declared.account.Told.{Told}
 use Rattle.receipt_check.specs.Flaws.{told_receipts}
@@ -7,7 +7,7 @@ use Rattle.receipt_check.proofs.ByNumber.{places_none, places_more}
 use Rattle.receipt_check.proofs.history.places_of.Goals as goal
 
 pub loop-row-init : goal.loop-row-init
-loop-row-init c = rw c.in_ok-places.ensures (places_none c.args.updates)
+loop-row-init c = rw (c.in_ok-places.ensures.items_if_clones_equal (search rules)) (places_none c.args.updates)
 
 pub loop-row-preserved : goal.loop-row-preserved
 loop-row-preserved c = places_more c.args.told.now c.loop-row.row-index c.row-item.result c.args.updates c.loop-row.places.items c.put.new.places.items c.loop-row-test.true c.row-item.is c.put.ensures.length c.put.ensures.each c.loop-row.invariant

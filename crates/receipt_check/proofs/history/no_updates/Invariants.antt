@@ -1,7 +1,0 @@
-use Rattle.std.proofs.Common.{◌≡◌, None}
-use Rattle.std.specs.Prelude.{replicate}
-use Rattle.receipt_check.proofs.history.no_updates.Given as goal
-
--- so many so far
-abbrev pub invariant-loop-place : goal.invariant-loop-place
-invariant-loop-place l = l.places.items ≡ replicate l._place None
