@@ -13,7 +13,7 @@ use Rattle.reg_model.specs.State.{at_base, at_span, IsFree, AreDisjoint}
 use Rattle.reg_model.specs.History.{without, with_payload}
 use Rattle.reg_model.specs.Query.{member_at}
 use Rattle.reg_model.specs.declared.span.Member.{Member}
-use Rattle.reg_model.proofs.Replacing.{same_span, span_same, span_stays, AreDisjoint-with_payload, All-with_payload, from_with_payload, others_with_payload, new_with_payload}
+use Rattle.reg_model.proofs.Replacing.{same_span, AreDisjoint-with_payload, All-with_payload, from_with_payload, others_with_payload, new_with_payload}
 use Rattle.reg_model.proofs.Spans.{overlap_from, overlap_bounds, contains_bounds}
 use Rattle.reg_model.proofs.Histories.{AreDisjoint-push, AreDisjoint-filter, member_at-contains}
 use Rattle.receipt_check.specs.Maps.{IsMapOf, IsGreatestUpTo}
