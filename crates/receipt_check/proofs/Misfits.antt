@@ -1,5 +1,5 @@
 -- The first update that doesn't fit, found in the order of the turns.
-use Rattle.std.proofs.Common.{◌≡◌, ℕ, ◌+◌, ◌-◌, ◌<◌, ◌≤◌, List, length, get_or, take, Option, Some, None, true, false, ◌&&◌, ◌==◌, All, inl, inr, refl, sym, ◌∙◌, ap, subst, arith}
+use Rattle.std.proofs.Common.{◌≡◌, ℕ, ◌+◌, ◌-◌, ◌<◌, ◌≤◌, List, length, get_or, take, Option, Some, None, Bool, true, false, ◌&&◌, ◌==◌, IsTrue, ◌↔◌, min, All, inl, inr, refl, sym, ◌∙◌, ap, subst, arith}
 use Rattle.std.specs.Option.{is_some, IfSome}
 use Rattle.std.specs.List.{Contains}
 use Rattle.std.proofs.lemmas.Bool.{cases_lt, false≢true, and_parts, eqb-true, eq-eqb}
@@ -15,7 +15,10 @@ use Rattle.reg_model.specs.declared.answer.Receipt.{Receipt}
 use Rattle.receipt_check.specs.declared.account.Told.{Told}
 use Rattle.receipt_check.specs.declared.turns.Turn.{Turn}
 use Rattle.receipt_check.specs.Flaws.{AccountData, told_history, HasOwnNumber, FitsInTurn, UpdateFits, IsFirstMisfit}
-use Rattle.receipt_check.specs.Sweep.{rows_of, AreInTurn, FitsNow}
+use Rattle.receipt_check.specs.declared.present.Present.{Present}
+use Rattle.receipt_check.specs.Maps.{ShowsState}
+use Rattle.receipt_check.specs.Sweep.{rows_of, AreInTurn, FitsNow, IsPresent}
+use Rattle.receipt_check.proofs.States.{state_there}
 use Rattle.receipt_check.proofs.InTurn.{timed_here, row_here}
 
 module _ (start : State) (history : List Update) where
@@ -42,6 +45,11 @@ module _ (start : State) (history : List Update) where
 
   pub fits_from_turn : (t : Told) (k : ℕ) → k ≡ made_before t.receipt → (IfSome (accepted t.receipt) (λ u. Fits u (state_at start history k)) × IsRight (state_at start history k) t.receipt) → FitsThere t
   fits_from_turn t k before parts = subst (λ j. FitsNow (state_at start history j) t.receipt) before (as_one (accepted t.receipt) (λ u. Fits u (state_at start history k)) (IsRight (state_at start history k) t.receipt) parts)
+
+-- what fits the present state fits where it was accepted, if this is the moment before it
+pub fits_as_told : (a : AccountData) (history : List Update) (t : Told) (p : Present) (b : Bool) → history ≡ told_history a → IsPresent a.start history p → p.made ≡ min (made_before t.receipt) (length history) → ((s : State) → ShowsState p.lists s → IsTrue b ↔ FitsNow s t.receipt) → IsTrue b ↔ FitsThere a.start (told_history a) t
+fits_as_told a history t p b told present made fits =
+    subst (λ (h : List Update). IsTrue b ↔ FitsThere a.start h t) told (fits (state_at a.start history (made_before t.receipt)) (state_there a.start history p (made_before t.receipt) present made))
 
 module _ (a : AccountData) (turns : List Turn) (are : AreInTurn a.told turns) where
   abbrev Fitting : Told → Type 0
@@ -96,8 +104,7 @@ module _ (a : AccountData) (turns : List Turn) (are : AreInTurn a.told turns) wh
   found_by t (Some u) is own within wrong earlier = misfit_of_update t u is own within wrong earlier
 
   -- the first turn whose update doesn't fit the state before it
-  pub misfit_found : (i : ℕ) (turn : Turn) (s : State) → All (HasOwnNumber a.told a.updates) a.told → i < length turns → turn ≡ get_or turns i turn → All (λ (t : Turn). Fitting t.row.now) (take i turns) → s ≡ state_at a.start (told_history a) turn.before → ¬ FitsNow s turn.row.now.receipt → IsFirstMisfit a turn.row.now.line
-  misfit_found i turn s own within is fit state wrong =
-      let timed : turn.before ≡ made_before turn.row.now.receipt = timed_here turns i turn within is are.timed in
+  pub misfit_found : (i : ℕ) (turn : Turn) → All (HasOwnNumber a.told a.updates) a.told → i < length turns → turn ≡ get_or turns i turn → All (λ (t : Turn). Fitting t.row.now) (take i turns) → ¬ Fitting turn.row.now → IsFirstMisfit a turn.row.now.line
+  misfit_found i turn own within is fit wrong =
       let inside = listed i turn within is in
-      found_by turn.row.now (accepted turn.row.now.receipt) refl (All-contains (HasOwnNumber a.told a.updates) a.told turn.row.now own inside) inside (λ fits. wrong (subst (λ (t : State). FitsNow t turn.row.now.receipt) (sym (state ∙ ap (state_at a.start (told_history a)) timed)) fits)) (subst (λ n. All (λ (t : Told). made_before t.receipt < n → Fitting t) a.told) timed (earlier_fit i turn within is fit))
+      found_by turn.row.now (accepted turn.row.now.receipt) refl (All-contains (HasOwnNumber a.told a.updates) a.told turn.row.now own inside) inside wrong (subst (λ n. All (λ (t : Told). made_before t.receipt < n → Fitting t) a.told) (timed_here turns i turn within is are.timed) (earlier_fit i turn within is fit))
