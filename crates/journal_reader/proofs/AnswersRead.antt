@@ -26,7 +26,7 @@ use Rattle.event_script.specs.Lawful.{image_member}
 use Rattle.event_script.proofs.Numbers.{decimal_again, hex_again}
 use Rattle.journal_reader.specs.FirstNumbers.{decimal_first, hex_first, past_word}
 use Rattle.journal_reader.specs.Told.{IsToldFound, IsToldPlace, IsToldInserted, IsToldLoading, IsToldRemoved, IsToldReplaced, IsToldFrame, IsToldEnd}
-use Rattle.journal_reader.specs.Reading.{image_in, overlap_in, inserted_in, as_loading, loading_in, removed_in, as_replaced, replaced_in, found_first, if_last, loaded_in, place_from, told_place, frame_in, plain_end, end_in}
+use Rattle.journal_reader.specs.Reading.{◌>?>◌, image_in, overlap_in, inserted_in, as_loading, loading_in, removed_in, as_replaced, replaced_in, found_first, if_last, loaded_in, place_from, told_place, frame_in, plain_end, end_in}
 use Rattle.journal_reader.proofs.Options.{step_parts, going_parts}
 use Rattle.event_script.proofs.Steps.{decimal_is, hex_is}
 use Rattle.journal_reader.proofs.FirstParts.{IsCut, past_is, decimal_first_again, hex_first_again, decimal_first_is, hex_first_is}
@@ -120,53 +120,55 @@ module _ (images : List SpanData) (few : length images < 2 ^ 32) where
 
   -- ---- what is read is told, and spelled so
 
-  pub inserted_is : (text : List ℕ) (answer : Inserted) → inserted_in images text ≡ Some answer → IsToldInserted images answer × (text ≡ inserted_text answer)
+  -- a word, and one thing after it
+  after_word : {A X : Type 0} (word text rest : List ℕ) (read : Option A) (made : A → X) (IsRead : X → List ℕ → Type 0) → past_word word text ≡ Some rest → ((a : A) → read ≡ Some a → IsRead (made a) (word ++ rest)) → (answer : X) → (read >?> λ a. Some (made a)) ≡ Some answer → IsRead answer text
+  after_word word text rest read made IsRead front is answer e =
+      let q = step_parts read (λ a. Some (made a)) answer e in
+      let same : made q.0 ≡ answer = cc in
+      subst (λ x. IsRead x text) same (subst (IsRead (made q.0)) (sym (past_is word text rest front)) (is q.0 q.1))
+
+  -- a word, and a decimal number after it
+  number_after : {X : Type 0} (word text rest : List ℕ) (made : ℕ → X) (IsRead : X → List ℕ → Type 0) → past_word word text ≡ Some rest → ((n : ℕ) → n < 2 ^ 32 → IsRead (made n) (word ++ decimal n)) → (answer : X) → (decimal_in rest >?> λ n. Some (made n)) ≡ Some answer → IsRead answer text
+  number_after word text rest made IsRead front is answer e =
+      after_word word text rest (decimal_in rest) made IsRead front (λ n read. let number = decimal_is rest n read in subst (λ (x : List ℕ). IsRead (made n) (word ++ x)) (sym number.1) (is n number.0)) answer e
+
+  abbrev IsReadInserted : Inserted → List ℕ → Type 0
+  IsReadInserted answer text = IsToldInserted images answer × (text ≡ inserted_text answer)
+
+  abbrev IsReadRemoved : Removed → List ℕ → Type 0
+  IsReadRemoved answer text = IsToldRemoved images answer × (text ≡ removed_text answer)
+
+  pub inserted_is : (text : List ℕ) (answer : Inserted) → inserted_in images text ≡ Some answer → IsReadInserted answer text
   unfolding inserted_in
   inserted_is text answer e =
       elim (going_parts (past_word (codes "done ") text) _ _ answer e) [
-        | inl p ↦
-            let q = step_parts (decimal_in p.0) _ answer p.2 in
-            let number = decimal_is p.0 q.0 q.1 in
-            let front = past_is (codes "done ") text p.0 p.1 in
-            let is : inserted.Done q.0 ≡ answer = cc in
-            subst (λ (x : Inserted). IsToldInserted images x × (text ≡ inserted_text x)) is (number.0, front ∙ ap (λ (x : List ℕ). codes "done " ++ x) number.1)
+        | inl p ↦ number_after (codes "done ") text p.0 inserted.Done IsReadInserted p.1 (λ n lt. (lt, refl)) answer p.2
         | inr r ↦ elim (going_parts (past_word (codes "full at ") text) _ _ answer r.1) [
-          | inl p ↦
-              let q = step_parts (decimal_in p.0) _ answer p.2 in
-              let stamp = decimal_is p.0 q.0 q.1 in
-              let front = past_is (codes "full at ") text p.0 p.1 in
-              let is : inserted.Full q.0 ≡ answer = cc in
-              subst (λ (x : Inserted). IsToldInserted images x × (text ≡ inserted_text x)) is (stamp.0, front ∙ ap (λ (x : List ℕ). codes "full at " ++ x) stamp.1)
+          | inl p ↦ number_after (codes "full at ") text p.0 inserted.Full IsReadInserted p.1 (λ n lt. (lt, refl)) answer p.2
           | inr s ↦
               let p = step_parts (past_word (codes "overlap ") text) _ answer s.1 in
-              let q = step_parts (overlap_in images p.0) _ answer p.2 in
-              let over = overlap_is images few p.0 q.0.0 q.0.1 q.1 in
-              let front = past_is (codes "overlap ") text p.0 p.1 in
-              let is : inserted.Overlap q.0.0 q.0.1 ≡ answer = cc in
-              subst (λ (x : Inserted). IsToldInserted images x × (text ≡ inserted_text x)) is ((over.0, over.1), front ∙ ap (λ (x : List ℕ). codes "overlap " ++ x) over.2)
+              after_word (codes "overlap ") text p.0 (overlap_in images p.0) (λ found. inserted.Overlap found.0 found.1) IsReadInserted p.1 (λ found is. let over = overlap_is images few p.0 found.0 found.1 is in ((over.0, over.1), ap (λ (x : List ℕ). codes "overlap " ++ x) over.2)) answer p.2
         ]
       ]
 
-  loading_from : (text : List ℕ) (read : Inserted) (answer : Loading) → IsToldInserted images read → text ≡ inserted_text read → as_loading read ≡ Some answer → IsToldLoading images answer × (text ≡ loading_text answer)
-  loading_from text (inserted.Done number) answer told is e =
-      let same : loading.Done number ≡ answer = cc in
-      subst (λ (x : Loading). IsToldLoading images x × (text ≡ loading_text x)) same (told, is)
-  loading_from text (inserted.Overlap m stamp) answer told is e =
-      let same : loading.Overlap m stamp ≡ answer = cc in
-      subst (λ (x : Loading). IsToldLoading images x × (text ≡ loading_text x)) same (told, is)
-  loading_from text (inserted.Full stamp) answer told is e =
-      let same : loading.LoadFull stamp ≡ answer = cc in
-      subst (λ (x : Loading). IsToldLoading images x × (text ≡ loading_text x)) same (told, is)
-  loading_from text inserted.Spent answer told is e = absurd told
+  -- an answer that is read as another one, and spelled as it
+  read_as : {X Y : Type 0} (text : List ℕ) (read : Option X) (other : X → Option Y) (IsRead : X → List ℕ → Type 0) (IsReadAs : Y → List ℕ → Type 0) → ((x : X) → read ≡ Some x → IsRead x text) → ((x : X) (y : Y) → other x ≡ Some y → IsRead x text → IsReadAs y text) → (answer : Y) → (read >?> other) ≡ Some answer → IsReadAs answer text
+  read_as text read other IsRead IsReadAs is from answer e = (let p = step_parts read other answer e in from p.0 answer p.2 (is p.0 p.1))
 
-  pub loading_is : (text : List ℕ) (answer : Loading) → loading_in images text ≡ Some answer → IsToldLoading images answer × (text ≡ loading_text answer)
+  abbrev IsReadLoading : Loading → List ℕ → Type 0
+  IsReadLoading answer text = IsToldLoading images answer × (text ≡ loading_text answer)
+
+  loading_from : (text : List ℕ) (read : Inserted) (answer : Loading) → as_loading read ≡ Some answer → IsReadInserted read text → IsReadLoading answer text
+  loading_from text (inserted.Done number) answer e is = (let same : loading.Done number ≡ answer = cc in subst (λ (x : Loading). IsReadLoading x text) same is)
+  loading_from text (inserted.Overlap m stamp) answer e is = (let same : loading.Overlap m stamp ≡ answer = cc in subst (λ (x : Loading). IsReadLoading x text) same is)
+  loading_from text (inserted.Full stamp) answer e is = (let same : loading.LoadFull stamp ≡ answer = cc in subst (λ (x : Loading). IsReadLoading x text) same is)
+  loading_from text inserted.Spent answer e is = absurd is.0
+
+  pub loading_is : (text : List ℕ) (answer : Loading) → loading_in images text ≡ Some answer → IsReadLoading answer text
   unfolding loading_in
-  loading_is text answer e =
-      let p = step_parts (inserted_in images text) as_loading answer e in
-      let q = inserted_is text p.0 p.1 in
-      loading_from text p.0 answer q.0 q.1 p.2
+  loading_is text answer e = read_as text (inserted_in images text) as_loading IsReadInserted IsReadLoading (inserted_is text) (loading_from text) answer e
 
-  pub removed_is : (text : List ℕ) (answer : Removed) → removed_in images text ≡ Some answer → IsToldRemoved images answer × (text ≡ removed_text answer)
+  pub removed_is : (text : List ℕ) (answer : Removed) → removed_in images text ≡ Some answer → IsReadRemoved answer text
   unfolding removed_in
   removed_is text answer e =
       elim (going_parts (past_word (codes "done ") text) _ _ answer e) [
@@ -182,35 +184,27 @@ module _ (images : List SpanData) (few : length images < 2 ^ 32) where
             let member = image_in_is images few c.0 d.0 d.1 in
             let is : removed.Done a.0.0 d.0 ≡ answer = cc in
             let back : b.0 ≡ decimal d.0.payload = image.1 ∙ ap decimal (sym member.1) in
-            subst (λ (x : Removed). IsToldRemoved images x × (text ≡ removed_text x)) is (
+            subst (λ (x : Removed). IsReadRemoved x text) is (
               (number.0, member.0),
               front ∙ ap (λ (x : List ℕ). codes "done " ++ x) (number.1 ∙ ap (λ (x : List ℕ). decimal a.0.0 ++ x) (mid ∙ ap (λ (x : List ℕ). codes " image " ++ x) back)
                   ∙ sym (append_assoc (decimal a.0.0) (codes " image ") (decimal d.0.payload))),
             )
         | inr r ↦
             let p = step_parts (past_word (codes "absent at ") text) _ answer r.1 in
-            let q = step_parts (decimal_in p.0) _ answer p.2 in
-            let stamp = decimal_is p.0 q.0 q.1 in
-            let front = past_is (codes "absent at ") text p.0 p.1 in
-            let is : removed.NotFound q.0 ≡ answer = cc in
-            subst (λ (x : Removed). IsToldRemoved images x × (text ≡ removed_text x)) is (stamp.0, front ∙ ap (λ (x : List ℕ). codes "absent at " ++ x) stamp.1)
+            number_after (codes "absent at ") text p.0 removed.NotFound IsReadRemoved p.1 (λ n lt. (lt, refl)) answer p.2
       ]
 
-  replaced_from : (text : List ℕ) (read : Removed) (answer : Replaced) → IsToldRemoved images read → text ≡ removed_text read → as_replaced read ≡ Some answer → IsToldReplaced images answer × (text ≡ replaced_text answer)
-  replaced_from text (removed.Done number m) answer told spelled e =
-      let is : replaced.Done number m.payload ≡ answer = cc in
-      subst (λ (x : Replaced). IsToldReplaced images x × (text ≡ replaced_text x)) is ((told.0, told.1.named), spelled)
-  replaced_from text (removed.NotFound stamp) answer told spelled e =
-      let is : replaced.NotFound stamp ≡ answer = cc in
-      subst (λ (x : Replaced). IsToldReplaced images x × (text ≡ replaced_text x)) is (told, spelled)
-  replaced_from text removed.Spent answer told spelled e = absurd told
+  abbrev IsReadReplaced : Replaced → List ℕ → Type 0
+  IsReadReplaced answer text = IsToldReplaced images answer × (text ≡ replaced_text answer)
 
-  pub replaced_is : (text : List ℕ) (answer : Replaced) → replaced_in images text ≡ Some answer → IsToldReplaced images answer × (text ≡ replaced_text answer)
+  replaced_from : (text : List ℕ) (read : Removed) (answer : Replaced) → as_replaced read ≡ Some answer → IsReadRemoved read text → IsReadReplaced answer text
+  replaced_from text (removed.Done number m) answer e is = (let same : replaced.Done number m.payload ≡ answer = cc in subst (λ (x : Replaced). IsReadReplaced x text) same ((is.0.0, is.0.1.named), is.1))
+  replaced_from text (removed.NotFound stamp) answer e is = (let same : replaced.NotFound stamp ≡ answer = cc in subst (λ (x : Replaced). IsReadReplaced x text) same is)
+  replaced_from text removed.Spent answer e is = absurd is.0
+
+  pub replaced_is : (text : List ℕ) (answer : Replaced) → replaced_in images text ≡ Some answer → IsReadReplaced answer text
   unfolding replaced_in
-  replaced_is text answer e =
-      let p = step_parts (removed_in images text) as_replaced answer e in
-      let q = removed_is text p.0 p.1 in
-      replaced_from text p.0 answer q.0 q.1 p.2
+  replaced_is text answer e = read_as text (removed_in images text) as_replaced IsReadRemoved IsReadReplaced (removed_is text) (replaced_from text) answer e
 
   pub found_is : (text : List ℕ) (found : Found) (rest : List ℕ) → found_first images text ≡ Some (found, rest) → IsToldFound images found × (text ≡ found_text found ++ rest)
   unfolding found_first
@@ -243,17 +237,23 @@ module _ (images : List SpanData) (few : length images < 2 ^ 32) where
   last_is found last [] e = (refl, cc)
   last_is found last (b ∷ rest) e = absurd cc
 
+  -- a word, what was found after it, and what follows that
+  found_after : {A : Type 0} (word text : List ℕ) (next : Found × List ℕ → Option A) (made : A) → (past_word word text >?> λ rest. found_first images rest >?> next) ≡ Some made
+      → (found : Found) × (rest : List ℕ) × IsToldFound images found × (text ≡ word ++ (found_text found ++ rest)) × (next (found, rest) ≡ Some made)
+  found_after word text next made e =
+      let p = step_parts (past_word word text) (λ rest. found_first images rest >?> next) made e in
+      let q = step_parts (found_first images p.0) next made p.2 in
+      let half = found_is p.0 q.0.0 q.0.1 q.1 in
+      (q.0.0, q.0.1, half.0, past_is word text p.0 p.1 ∙ ap (λ (x : List ℕ). word ++ x) half.1, q.2)
+
   pub loaded_is : (text : List ℕ) (found : Found) → loaded_in images text ≡ Some found → IsToldFound images found × (text ≡ loaded_text (Some found))
   unfolding loaded_in
   loaded_is text found e =
-      let p = step_parts (past_word (codes " loaded ") text) _ found e in
-      let q = step_parts (found_first images p.0) _ found p.2 in
-      let front = past_is (codes " loaded ") text p.0 p.1 in
-      let half = found_is p.0 q.0.0 q.0.1 q.1 in
-      let last = last_is q.0.0 found q.0.1 q.2 in
+      let p = found_after (codes " loaded ") text (λ x. if_last x.0 x.1) found e in
+      let last = last_is p.0 found p.1 p.4 in
       subst (λ (x : Found). IsToldFound images x × (text ≡ loaded_text (Some x))) last.1 (
-        half.0,
-        front ∙ ap (λ (x : List ℕ). codes " loaded " ++ x) (half.1 ∙ ap (λ (x : List ℕ). found_text q.0.0 ++ x) last.0 ∙ append-nil (found_text q.0.0)),
+        p.2,
+        p.3 ∙ ap (λ (x : List ℕ). codes " loaded " ++ x) (ap (λ (x : List ℕ). found_text p.0 ++ x) last.0 ∙ append-nil (found_text p.0)),
       )
 
   place_from_is : (registered : Found) (rest : List ℕ) (place : Place) → IsToldFound images registered → place_from images registered rest ≡ Some place → IsToldPlace images place × (codes "registered " ++ (found_text registered ++ rest) ≡ place_text place)
@@ -277,12 +277,9 @@ module _ (images : List SpanData) (few : length images < 2 ^ 32) where
   pub place_is : (text : List ℕ) (place : Place) → told_place images text ≡ Some place → IsToldPlace images place × (text ≡ place_text place)
   unfolding told_place
   place_is text place e =
-      let p = step_parts (past_word (codes "registered ") text) _ place e in
-      let q = step_parts (found_first images p.0) _ place p.2 in
-      let front = past_is (codes "registered ") text p.0 p.1 in
-      let half = found_is p.0 q.0.0 q.0.1 q.1 in
-      let whole = place_from_is q.0.0 q.0.1 place half.0 q.2 in
-      (whole.0, front ∙ ap (λ (x : List ℕ). codes "registered " ++ x) half.1 ∙ whole.1)
+      let p = found_after (codes "registered ") text (λ x. place_from images x.0 x.1) place e in
+      let whole = place_from_is p.0 p.1 place p.2 p.4 in
+      (whole.0, p.3 ∙ whole.1)
 
   pub frame_is : (text : List ℕ) (line : FrameLine) → frame_in images text ≡ Some line → IsToldFrame images line × (text ≡ frame_rest line)
   unfolding frame_in
@@ -339,11 +336,6 @@ module _ (images : List SpanData) (few : length images < 2 ^ 32) where
   unfolding end_in
   end_is text found e =
       elim (going_parts (past_word (codes "nobytes ") text) _ _ found e) [
-        | inl p ↦
-            let q = step_parts (hex_in p.0) _ found p.2 in
-            let address = hex_is p.0 q.0 q.1 in
-            let front = past_is (codes "nobytes ") text p.0 p.1 in
-            let is : end.NoBytes q.0 ≡ found = cc in
-            subst (λ (x : End). IsToldEnd x × (text ≡ end_text x)) is (address.0, front ∙ ap (λ (x : List ℕ). codes "nobytes " ++ x) address.1)
+        | inl p ↦ after_word (codes "nobytes ") text p.0 (hex_in p.0) end.NoBytes (λ x ys. IsToldEnd x × (ys ≡ end_text x)) p.1 (λ n is. let address = hex_is p.0 n is in (address.0, ap (λ (x : List ℕ). codes "nobytes " ++ x) address.1)) found p.2
         | inr r ↦ plain_end_is text found r.1
       ]
