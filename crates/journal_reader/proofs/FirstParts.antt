@@ -1,5 +1,5 @@
 -- Words and numbers at the front of a text: what is read is spelled so, and what is spelled so is read.
-use Rattle.std.proofs.Common.{◌≡◌, ◌≢◌, ℕ, ◌^◌, ◌<◌, ◌≤◌, Bool, true, false, cond, eqb, List, [], ◌∷◌, ◌++◌, Option, Some, None, refl, sym, ap, ap₂, ◌∙◌, eq-eqb, ne_eqb, eqb-true, arith}
+use Rattle.std.proofs.Common.{◌≡◌, ◌≢◌, ℕ, ◌^◌, ◌<◌, ◌≤◌, Bool, true, false, cond, eqb, List, [], ◌∷◌, ◌++◌, Option, Some, None, refl, sym, ap, ap₂, subst, ◌∙◌, eq-eqb, ne_eqb, eqb-true, arith}
 use Rattle.std.specs.List.{AllByRecursion}
 use Rattle.std.specs.Option.{option_map}
 use Rattle.std.specs.Fmt.{decimal}
@@ -67,38 +67,40 @@ cut_joined (b ∷ bytes) = by (eqb b 32) (cut_joined bytes)
 
 -- ---- numbers
 
+-- a number up to the first space, and what follows it
+abbrev first_read : (List ℕ → Option ℕ) → List ℕ → Option (ℕ × List ℕ)
+first_read number_of bytes = option_map (λ n. (n, from_space bytes)) (number_of (before_space bytes))
+
+-- a number whose spelling is read back, before what follows
+spelled_first : (number_of : List ℕ → Option ℕ) (spelled : ℕ → List ℕ) (n : ℕ) (rest : List ℕ) → AllByRecursion (λ b. (33 ≤ b) × (b ≤ 126)) (spelled n) → IsCut rest → number_of (spelled n) ≡ Some n → first_read number_of (spelled n ++ rest) ≡ Some (n, rest)
+spelled_first number_of spelled n rest visible cut again =
+    let p = cut_parts (spelled n) rest visible cut in
+    ap₂ (λ (field follows : List ℕ). option_map (λ (m : ℕ). (m, follows)) (number_of field)) p.0 p.1
+    ∙ ap (option_map (λ (m : ℕ). (m, rest))) again
+
 pub decimal_first_again : (n : ℕ) (rest : List ℕ) → n < 2 ^ 32 → IsCut rest → decimal_first (decimal n ++ rest) ≡ Some (n, rest)
 unfolding decimal_first
-decimal_first_again n rest lt cut =
-    let p = cut_parts (decimal n) rest (decimal_visible n lt) cut in
-    ap₂ (λ (field follows : List ℕ). option_map (λ (m : ℕ). (m, follows)) (decimal_in field)) p.0 p.1
-    ∙ ap (option_map (λ (m : ℕ). (m, rest))) (decimal_again n lt)
+decimal_first_again n rest lt cut = spelled_first decimal_in decimal n rest (decimal_visible n lt) cut (decimal_again n lt)
 
 pub hex_first_again : (n : ℕ) (rest : List ℕ) → n < 2 ^ 64 → IsCut rest → hex_first (hex n ++ rest) ≡ Some (n, rest)
 unfolding hex_first
-hex_first_again n rest lt cut =
-    let p = cut_parts (hex n) rest (hex_visible n lt) cut in
-    ap₂ (λ (field follows : List ℕ). option_map (λ (m : ℕ). (m, follows)) (hex_in field)) p.0 p.1
-    ∙ ap (option_map (λ (m : ℕ). (m, rest))) (hex_again n lt)
+hex_first_again n rest lt cut = spelled_first hex_in hex n rest (hex_visible n lt) cut (hex_again n lt)
+
+-- a number that is read before what follows is spelled there
+first_spelled : (number_of : List ℕ → Option ℕ) (spelled : ℕ → List ℕ) (end : ℕ) → ((n : ℕ) (field : List ℕ) → number_of field ≡ Some n → (n < end) × (field ≡ spelled n)) → (bytes : List ℕ) (n : ℕ) (rest : List ℕ) → first_read number_of bytes ≡ Some (n, rest) → (n < end) × (bytes ≡ spelled n ++ rest)
+first_spelled number_of spelled end is bytes n rest e =
+    let p = map_parts (λ (m : ℕ). (m, from_space bytes)) (number_of (before_space bytes)) (n, rest) e in
+    let number : p.0 ≡ n = ap (λ (x : ℕ × List ℕ). x.0) p.2 in
+    let follows : from_space bytes ≡ rest = ap (λ (x : ℕ × List ℕ). x.1) p.2 in
+    let q = is p.0 (before_space bytes) p.1 in (
+      subst (λ (m : ℕ). m < end) number q.0,
+      sym (cut_joined bytes) ∙ ap₂ (λ (x y : List ℕ). x ++ y) (q.1 ∙ ap spelled number) follows,
+    )
 
 pub decimal_first_is : (bytes : List ℕ) (n : ℕ) (rest : List ℕ) → decimal_first bytes ≡ Some (n, rest) → (n < 2 ^ 32) × (bytes ≡ decimal n ++ rest)
 unfolding decimal_first
-decimal_first_is bytes n rest e =
-    let p = map_parts (λ (m : ℕ). (m, from_space bytes)) (decimal_in (before_space bytes)) (n, rest) e in
-    let number : p.0 ≡ n = ap (λ (x : ℕ × List ℕ). x.0) p.2 in
-    let follows : from_space bytes ≡ rest = ap (λ (x : ℕ × List ℕ). x.1) p.2 in
-    let q = number_is 10 (2 ^ 32) p.0 (before_space bytes) p.1 in (
-      rw (← number) q.0,
-      sym (cut_joined bytes) ∙ ap₂ (λ (x y : List ℕ). x ++ y) (q.1 ∙ ap decimal number) follows,
-    )
+decimal_first_is = first_spelled decimal_in decimal (2 ^ 32) (number_is 10 (2 ^ 32))
 
 pub hex_first_is : (bytes : List ℕ) (n : ℕ) (rest : List ℕ) → hex_first bytes ≡ Some (n, rest) → (n < 2 ^ 64) × (bytes ≡ hex n ++ rest)
 unfolding hex_first
-hex_first_is bytes n rest e =
-    let p = map_parts (λ (m : ℕ). (m, from_space bytes)) (hex_in (before_space bytes)) (n, rest) e in
-    let number : p.0 ≡ n = ap (λ (x : ℕ × List ℕ). x.0) p.2 in
-    let follows : from_space bytes ≡ rest = ap (λ (x : ℕ × List ℕ). x.1) p.2 in
-    let q = number_is 16 (2 ^ 64) p.0 (before_space bytes) p.1 in (
-      rw (← number) q.0,
-      sym (cut_joined bytes) ∙ ap₂ (λ (x y : List ℕ). x ++ y) (q.1 ∙ ap hex number) follows,
-    )
+hex_first_is = first_spelled hex_in hex (2 ^ 64) (number_is 16 (2 ^ 64))
