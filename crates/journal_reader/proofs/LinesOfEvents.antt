@@ -12,7 +12,7 @@ use Rattle.event_script.specs.declared.journal.Answer.{Answer}
 use Rattle.event_script.specs.declared.journal.Answer.TheVariants.{Register, Deregister, Replace, Load, Unload, Find, Unwind}
 use Rattle.event_script.proofs.Numbers.{decimal_again}
 use Rattle.journal_reader.specs.FirstNumbers.{past_word}
-use Rattle.journal_reader.specs.Told.{IsToldFrame, IsToldEnd, IsToldAnswer}
+use Rattle.journal_reader.specs.Told.{IsToldInserted, IsToldLoading, IsToldRemoved, IsToldReplaced, IsToldPlace, IsToldFrame, IsToldEnd, IsToldAnswer}
 use Rattle.journal_reader.specs.Reading.{◌>?>◌, inserted_in, loading_in, removed_in, replaced_in, told_place, frame_in, end_in, IsOneLine, told_answer, answer_in, head_of, frame_head, end_head, first_line, told_frame, told_end, told_updates}
 use Rattle.journal_reader.specs.JournalLines.{line_at, updates_line}
 use Rattle.journal_reader.proofs.Options.{step_parts}
@@ -33,30 +33,24 @@ rest_of (Unwind snapshot trace) = []
 headed : (n w s r : List ℕ) → n ++ ((w ++ s) ++ r) ≡ (n ++ w) ++ (s ++ r)
 headed n w s r = simp append_assoc
 
+-- a line that says a word, a number, which was asked for, and the rest after a space
+word_headed : (round thread place : ℕ) (word : List ℕ) (digits : ℕ → List ℕ) (told asked : ℕ) (rest : List ℕ) → told ≡ asked → line_at round thread place (word ++ digits told ++ codes " " ++ rest) ≡ (event_number round thread place ++ codes " " ++ (word ++ digits asked)) ++ (codes " " ++ rest)
+word_headed round thread place word digits told asked rest same =
+    ap (λ (n : ℕ). line_at round thread place (word ++ digits n ++ codes " " ++ rest)) same
+    ∙ headed (event_number round thread place ++ codes " ") (word ++ digits asked) (codes " ") rest
+
 frame_glue : (n f d a pc b sp c look space place : List ℕ) → n ++ ((f ++ d ++ (a ++ pc ++ b ++ sp ++ c ++ look ++ space)) ++ place) ≡ (n ++ (f ++ d ++ a)) ++ (pc ++ (b ++ (sp ++ (c ++ (look ++ (space ++ place))))))
 frame_glue n f d a pc b sp c look space place = simp append_assoc
 
 module _ (images : List SpanData) (few : length images < 2 ^ 32) where
   -- the event's own first line begins with its number and itself
   pub line_headed : (round thread place : ℕ) (asked : Event) (answer : Answer) → IsToldAnswer images asked answer → line_at round thread place (answer_line answer) ≡ head_of round thread place asked ++ rest_of answer
-  line_headed round thread place (event.Register image) (Register number answer) told =
-      ap (λ (n : ℕ). line_at round thread place (codes "register " ++ decimal n ++ codes " " ++ inserted_text answer)) told.0
-      ∙ headed (event_number round thread place ++ codes " ") (codes "register " ++ decimal image) (codes " ") (inserted_text answer)
-  line_headed round thread place (event.Deregister base) (Deregister number answer) told =
-      ap (λ (n : ℕ). line_at round thread place (codes "deregister " ++ hex n ++ codes " " ++ removed_text answer)) told.0
-      ∙ headed (event_number round thread place ++ codes " ") (codes "deregister " ++ hex base) (codes " ") (removed_text answer)
-  line_headed round thread place (event.Replace image) (Replace number answer) told =
-      ap (λ (n : ℕ). line_at round thread place (codes "replace " ++ decimal n ++ codes " " ++ replaced_text answer)) told.0
-      ∙ headed (event_number round thread place ++ codes " ") (codes "replace " ++ decimal image) (codes " ") (replaced_text answer)
-  line_headed round thread place (event.Load image) (Load number answer) told =
-      ap (λ (n : ℕ). line_at round thread place (codes "load " ++ decimal n ++ codes " " ++ loading_text answer)) told.0
-      ∙ headed (event_number round thread place ++ codes " ") (codes "load " ++ decimal image) (codes " ") (loading_text answer)
-  line_headed round thread place (event.Unload base) (Unload number answer) told =
-      ap (λ (n : ℕ). line_at round thread place (codes "unload " ++ hex n ++ codes " " ++ removed_text answer)) told.0
-      ∙ headed (event_number round thread place ++ codes " ") (codes "unload " ++ hex base) (codes " ") (removed_text answer)
-  line_headed round thread place (event.Find pc) (Find number found) told =
-      ap (λ (n : ℕ). line_at round thread place (codes "find " ++ hex n ++ codes " " ++ place_text found)) told.0
-      ∙ headed (event_number round thread place ++ codes " ") (codes "find " ++ hex pc) (codes " ") (place_text found)
+  line_headed round thread place (event.Register image) (Register number answer) told = word_headed round thread place (codes "register ") decimal _ _ (inserted_text answer) told.0
+  line_headed round thread place (event.Deregister base) (Deregister number answer) told = word_headed round thread place (codes "deregister ") hex _ _ (removed_text answer) told.0
+  line_headed round thread place (event.Replace image) (Replace number answer) told = word_headed round thread place (codes "replace ") decimal _ _ (replaced_text answer) told.0
+  line_headed round thread place (event.Load image) (Load number answer) told = word_headed round thread place (codes "load ") decimal _ _ (loading_text answer) told.0
+  line_headed round thread place (event.Unload base) (Unload number answer) told = word_headed round thread place (codes "unload ") hex _ _ (removed_text answer) told.0
+  line_headed round thread place (event.Find pc) (Find number found) told = word_headed round thread place (codes "find ") hex _ _ (place_text found) told.0
   line_headed round thread place (event.Unwind snapshot) (Unwind number trace) told =
       ap (λ (n : ℕ). line_at round thread place (codes "unwind " ++ decimal n)) told.0
       ∙ sym (append-nil (head_of round thread place (event.Unwind snapshot)))
@@ -80,38 +74,25 @@ module _ (images : List SpanData) (few : length images < 2 ^ 32) where
       ∙ ap (λ (o : Option (List ℕ)). o >?> answer_in images asked) (past_again (head_of round thread place asked) (rest_of answer))
       ∙ rest_again asked answer one told
 
-  answer_is : (asked : Event) (text : List ℕ) (answer : Answer) → told_answer images asked text ≡ Some answer → IsToldAnswer images asked answer × (codes " " ++ text ≡ rest_of answer)
+  -- what was read as an event's answer is told, and spelled after the space
+  abbrev IsReadFrom : Event → List ℕ → Answer → Type 0
+  IsReadFrom asked text answer = IsToldAnswer images asked answer × (codes " " ++ text ≡ rest_of answer)
+
+  read_is : {X : Type 0} (asked : Event) (text : List ℕ) (made : X → Answer) (IsTold : X → Type 0) (spelled : X → List ℕ) (read : Option X) → ((x : X) → read ≡ Some x → IsTold x × (text ≡ spelled x)) → ((x : X) → IsTold x → IsReadFrom asked (spelled x) (made x)) → (answer : Answer) → (read >?> λ x. Some (made x)) ≡ Some answer → IsReadFrom asked text answer
+  read_is asked text made IsTold spelled read is from answer e =
+      let p = step_parts read (λ x. Some (made x)) answer e in
+      let q = is p.0 p.1 in
+      let same : made p.0 ≡ answer = cc in
+      subst (IsReadFrom asked text) same (subst (λ (x : List ℕ). IsReadFrom asked x (made p.0)) (sym q.1) (from p.0 q.0))
+
+  answer_is : (asked : Event) (text : List ℕ) (answer : Answer) → told_answer images asked text ≡ Some answer → IsReadFrom asked text answer
   unfolding told_answer
-  answer_is (event.Register image) text answer e =
-      let p = step_parts (inserted_in images text) _ answer e in
-      let q = inserted_is images few text p.0 p.1 in
-      let is : Register image p.0 ≡ answer = cc in
-      subst (λ (x : Answer). IsToldAnswer images (event.Register image) x × (codes " " ++ text ≡ rest_of x)) is ((refl, q.0), ap (λ (x : List ℕ). codes " " ++ x) q.1)
-  answer_is (event.Deregister base) text answer e =
-      let p = step_parts (removed_in images text) _ answer e in
-      let q = removed_is images few text p.0 p.1 in
-      let is : Deregister base p.0 ≡ answer = cc in
-      subst (λ (x : Answer). IsToldAnswer images (event.Deregister base) x × (codes " " ++ text ≡ rest_of x)) is ((refl, q.0), ap (λ (x : List ℕ). codes " " ++ x) q.1)
-  answer_is (event.Replace image) text answer e =
-      let p = step_parts (replaced_in images text) _ answer e in
-      let q = replaced_is images few text p.0 p.1 in
-      let is : Replace image p.0 ≡ answer = cc in
-      subst (λ (x : Answer). IsToldAnswer images (event.Replace image) x × (codes " " ++ text ≡ rest_of x)) is ((refl, q.0), ap (λ (x : List ℕ). codes " " ++ x) q.1)
-  answer_is (event.Load image) text answer e =
-      let p = step_parts (loading_in images text) _ answer e in
-      let q = loading_is images few text p.0 p.1 in
-      let is : Load image p.0 ≡ answer = cc in
-      subst (λ (x : Answer). IsToldAnswer images (event.Load image) x × (codes " " ++ text ≡ rest_of x)) is ((refl, q.0), ap (λ (x : List ℕ). codes " " ++ x) q.1)
-  answer_is (event.Unload base) text answer e =
-      let p = step_parts (removed_in images text) _ answer e in
-      let q = removed_is images few text p.0 p.1 in
-      let is : Unload base p.0 ≡ answer = cc in
-      subst (λ (x : Answer). IsToldAnswer images (event.Unload base) x × (codes " " ++ text ≡ rest_of x)) is ((refl, q.0), ap (λ (x : List ℕ). codes " " ++ x) q.1)
-  answer_is (event.Find pc) text answer e =
-      let p = step_parts (told_place images text) _ answer e in
-      let q = place_is images few text p.0 p.1 in
-      let is : Find pc p.0 ≡ answer = cc in
-      subst (λ (x : Answer). IsToldAnswer images (event.Find pc) x × (codes " " ++ text ≡ rest_of x)) is ((refl, q.0), ap (λ (x : List ℕ). codes " " ++ x) q.1)
+  answer_is (event.Register image) text answer e = read_is (event.Register image) text (Register image) (IsToldInserted images) inserted_text (inserted_in images text) (inserted_is images few text) (λ x told. ((refl, told), refl)) answer e
+  answer_is (event.Deregister base) text answer e = read_is (event.Deregister base) text (Deregister base) (IsToldRemoved images) removed_text (removed_in images text) (removed_is images few text) (λ x told. ((refl, told), refl)) answer e
+  answer_is (event.Replace image) text answer e = read_is (event.Replace image) text (Replace image) (IsToldReplaced images) replaced_text (replaced_in images text) (replaced_is images few text) (λ x told. ((refl, told), refl)) answer e
+  answer_is (event.Load image) text answer e = read_is (event.Load image) text (Load image) (IsToldLoading images) loading_text (loading_in images text) (loading_is images few text) (λ x told. ((refl, told), refl)) answer e
+  answer_is (event.Unload base) text answer e = read_is (event.Unload base) text (Unload base) (IsToldRemoved images) removed_text (removed_in images text) (removed_is images few text) (λ x told. ((refl, told), refl)) answer e
+  answer_is (event.Find pc) text answer e = read_is (event.Find pc) text (Find pc) (IsToldPlace images) place_text (told_place images text) (place_is images few text) (λ x told. ((refl, told), refl)) answer e
   answer_is (event.Unwind snapshot) text answer e = absurd cc
 
   pub first_is : (round thread place : ℕ) (asked : Event) (line : List ℕ) (answer : Answer) → first_line images (head_of round thread place asked) asked line ≡ Some answer → IsToldAnswer images asked answer × (line ≡ line_at round thread place (answer_line answer))
