@@ -20,7 +20,7 @@ use Rattle.journal_reader.specs.JournalLines.{line_at, event_lines}
 use Rattle.journal_reader.specs.ReadLines.{AreBarred, IsStuck}
 use Rattle.journal_reader.proofs.LinesOfEvents.{first_again, first_is}
 use Rattle.journal_reader.proofs.Traces.{trace_at, trace_unique}
-use Rattle.journal_reader.proofs.Sequences.{barred_by}
+use Rattle.journal_reader.proofs.Sequences.{barred_by, stuck_here}
 
 module _ (images : List SpanData) (few : length images < 2 ^ 32) where
   -- each event has an answer that is told
@@ -101,29 +101,13 @@ module _ (images : List SpanData) (few : length images < 2 ^ 32) where
     no_line_left asked answer others same = absurd cc
 
     pub event_ends : (asked : Event) (all : List (List ℕ)) (line : List ℕ) → all ≡ line ∷ [] → IsStuck (IsToldAnswer images asked) lines_of all all
-    event_ends asked all line is = subst (λ (x : List (List ℕ)). IsStuck (IsToldAnswer images asked) lines_of x x) (sym is) (record {
-      before = [];
-      cut = refl;
-      some = (some_answer asked).0;
-      is_told = (some_answer asked).1;
-      others = lines_of (some_answer asked).0;
-      begun = refl;
-      barred = λ answer others told same. no_line_left asked answer others same;
-    })
+    event_ends asked all line is = subst (λ (x : List (List ℕ)). IsStuck (IsToldAnswer images asked) lines_of x x) (sym is) (stuck_here (IsToldAnswer images asked) lines_of (some_answer asked).0 (some_answer asked).1 (line ∷ []) (λ answer others told same. no_line_left asked answer others same))
 
     -- the first line is none of the event's
     pub event_stuck : (asked : Event) (all : List (List ℕ)) (line next : List ℕ) (others : List (List ℕ)) → all ≡ line ∷ next ∷ others
         → ((answer : Answer) → IsToldAnswer images asked answer → line ≢ line_at round thread place (answer_line answer))
         → IsStuck (IsToldAnswer images asked) lines_of all all
-    event_stuck asked all line next others is none = subst (λ (x : List (List ℕ)). IsStuck (IsToldAnswer images asked) lines_of x x) (sym is) (record {
-      before = [];
-      cut = refl;
-      some = (some_answer asked).0;
-      is_told = (some_answer asked).1;
-      others = lines_of (some_answer asked).0;
-      begun = refl;
-      barred = λ rest answer follows told same. none answer told cc;
-    })
+    event_stuck asked all line next others is none = subst (λ (x : List (List ℕ)). IsStuck (IsToldAnswer images asked) lines_of x x) (sym is) (stuck_here (IsToldAnswer images asked) lines_of (some_answer asked).0 (some_answer asked).1 (line ∷ next ∷ others) (λ rest answer follows told same. none answer told cc))
 
     -- of an event of one line, what was read
     pub event_read : (asked : Event) (all left : List (List ℕ)) (line : List ℕ) (answer : Answer) → IsOneLine asked → all ≡ line ∷ left → first_line images (head_of round thread place asked) asked line ≡ Some answer

@@ -14,7 +14,7 @@ use Rattle.journal_reader.specs.FormFlaw.{TellsJournal}
 use Rattle.journal_reader.specs.Reading.{told_updates}
 use Rattle.journal_reader.proofs.LinesOfEvents.{updates_again}
 use Rattle.journal_reader.proofs.Events.{some_answer, unique_answer}
-use Rattle.journal_reader.proofs.Sequences.{stuck_first, stuck_second, some_all, unique_all, stuck_at}
+use Rattle.journal_reader.proofs.Sequences.{stuck_here, stuck_first, stuck_second, some_all, unique_all, stuck_at}
 use Rattle.journal_reader.proofs.TextLines.{journal_pieces}
 
 abbrev pub Answers : Type 0
@@ -73,30 +73,14 @@ abbrev last_lines : ℕ → List (List ℕ)
 last_lines updates = updates_line updates ∷ []
 
 pub updates_ends : (all : List (List ℕ)) (line : List ℕ) → all ≡ line ∷ [] → IsStuck IsUpdates last_lines all all
-updates_ends all line is = subst (λ (x : List (List ℕ)). IsStuck IsUpdates last_lines x x) (sym is) (record {
-  before = [];
-  cut = refl;
-  some = 0;
-  is_told = omega arith;
-  others = last_lines 0;
-  begun = refl;
-  barred = λ updates others told same. absurd cc;
-})
+updates_ends all line is = subst (λ (x : List (List ℕ)). IsStuck IsUpdates last_lines x x) (sym is) (stuck_here IsUpdates last_lines 0 (omega arith) (line ∷ []) (λ updates others told same. absurd cc))
 
 pub updates_unread : (all : List (List ℕ)) (line next : List ℕ) (others : List (List ℕ)) → all ≡ line ∷ next ∷ others → told_updates line ≡ None → IsStuck IsUpdates last_lines all all
-updates_unread all line next others cut unread = subst (λ (x : List (List ℕ)). IsStuck IsUpdates last_lines x x) (sym cut) (record {
-  before = [];
-  cut = refl;
-  some = 0;
-  is_told = omega arith;
-  others = last_lines 0;
-  begun = refl;
-  barred = λ rest updates follows told same.
-      let read = updates_again updates told in
-      let line_is : line ≡ updates_line updates = cc in
-      let between = ap told_updates line_is in
-      let bad : None ≡ Some updates = sym unread ∙ between ∙ read in absurd cc;
-})
+updates_unread all line next others cut unread = subst (λ (x : List (List ℕ)). IsStuck IsUpdates last_lines x x) (sym cut) (stuck_here IsUpdates last_lines 0 (omega arith) (line ∷ next ∷ others) (λ rest updates follows told same.
+    let read = updates_again updates told in
+    let line_is : line ≡ updates_line updates = cc in
+    let between = ap told_updates line_is in
+    let bad : None ≡ Some updates = sym unread ∙ between ∙ read in absurd cc))
 
 module _ (script : ScriptData) (few : length script.images < 2 ^ 32) where
   pub rounds_left : (all left : List (List ℕ)) → IsStuck (ToldRounds script.images few script.rounds) (numbered_lines round_lines 1) all left → IsStuck (IsToldJournal script) journal_lines all left

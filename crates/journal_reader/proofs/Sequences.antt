@@ -12,6 +12,10 @@ barred_by told lines told' lines' before before' [] carry barred = barred
 barred_by told lines told' lines' before before' (line ∷ []) carry barred = carry [] barred
 barred_by told lines told' lines' before before' (line ∷ next ∷ others) carry barred = λ rest. carry (line ∷ rest) (barred rest)
 
+-- nothing of the lines was read, and nothing that is told begins with them
+pub stuck_here : {A : Type 0} (told : A → Type 0) (lines : A → List (List ℕ)) (some : A) → told some → (all : List (List ℕ)) → AreBarredBy told lines [] all → IsStuck told lines all all
+stuck_here told lines some is_told all barred = record { before = []; cut = refl; some = some; is_told = is_told; others = lines some; begun = refl; barred = barred }
+
 -- one thing is followed by another
 module _ {A B C : Type 0} (first : A → Type 0) (first_lines : A → List (List ℕ)) (second : B → Type 0) (second_lines : B → List (List ℕ)) (both : C → Type 0) (both_lines : C → List (List ℕ))
     (pair : A → B → C) (paired : (a : A) (b : B) → first a → second b → both (pair a b)) (spelled : (a : A) (b : B) → both_lines (pair a b) ≡ first_lines a ++ second_lines b)
