@@ -189,23 +189,16 @@ AnswerHasWords _ = Unit {0}
 
 module _ (images : List SpanData) where
   answer_sized : (answer : Answer) → AllByRecursion IsSmall (receipts_of images answer) → AnswerHasWords answer → IsSizedAnswer answer
-  answer_sized (Register image (inserted.Done number)) small words = small.0
-  answer_sized (Register image (inserted.Overlap m stamp)) small words = small.0
-  answer_sized (Register image (inserted.Full stamp)) small words = small.0
   answer_sized (Register image inserted.Spent) small words = tt
-  answer_sized (Deregister base (removed.Done number m)) small words = small.0
-  answer_sized (Deregister base (removed.NotFound stamp)) small words = small.0
+  answer_sized (Register image _) small words = small.0
   answer_sized (Deregister base removed.Spent) small words = tt
-  answer_sized (Replace image (replaced.Done number payload)) small words = small.0
-  answer_sized (Replace image (replaced.NotFound stamp)) small words = small.0
+  answer_sized (Deregister base _) small words = small.0
   answer_sized (Replace image replaced.Spent) small words = tt
-  answer_sized (Load image (loading.Done number)) small words = small.0
-  answer_sized (Load image (loading.Overlap m stamp)) small words = small.0
-  answer_sized (Load image (loading.LoadFull stamp)) small words = small.0
+  answer_sized (Replace image _) small words = small.0
   answer_sized (Load image loading.Spent) small words = tt
-  answer_sized (Unload base (removed.Done number m)) small words = small.0
-  answer_sized (Unload base (removed.NotFound stamp)) small words = small.0
+  answer_sized (Load image _) small words = small.0
   answer_sized (Unload base removed.Spent) small words = tt
+  answer_sized (Unload base _) small words = small.0
   answer_sized (Find pc place) small words = place_sized pc place.registered place.loaded small
   answer_sized (Unwind number trace) small words = (frames_sized trace.frames (recursion_from_All IsWordLine trace.frames words.frames) small, end_sized trace.end words.end)
 
@@ -240,15 +233,10 @@ columns_fit columns all i = elim (cases_lt i (length columns)) [
 
 module _ (sections : List SectionData) (snapshots : List SnapshotData) (spelled : All IsSectionOf sections) (recorded : All IsSnapshot snapshots) where
   unfolded_words : (answer : Answer) → IsUnfolded sections snapshots answer → AnswerHasWords answer
-  unfolded_words (Register image answer) is = tt
-  unfolded_words (Deregister base answer) is = tt
-  unfolded_words (Replace image answer) is = tt
-  unfolded_words (Load image answer) is = tt
-  unfolded_words (Unload base answer) is = tt
-  unfolded_words (Find pc place) is = tt
   unfolded_words (Unwind number trace) (snapshot, at, unfolds) =
       let here : IsSnapshot snapshot = subst IsSnapshot (get_or_from_slice_get snapshots number snapshot snapshot at) (recorded number snapshot (slice_get_within snapshots number snapshot at)) in
       trace_words sections (λ i s within. (spelled i s within).bytes) snapshot.memory snapshot.regs here.bytes (columns_fit snapshot.regs.columns here.columns) trace unfolds
+  unfolded_words _ is = tt
 
 pub lawful_sized : (script : ScriptData) (journal : JournalData) → IsRunnable script → IsLawfulJournal script journal → IsSized journal
 lawful_sized script journal run lawful =

@@ -82,37 +82,27 @@ module _ (images : List SpanData) (spans : AllByRecursion IsSpan images) where
 
   inserted_from : (image : ℕ) (answer : Inserted) → image < length images → IsReceiptFrom Image (receipt.Register (image_member images image) answer)
   inserted_from image (inserted.Done number) lt = image_is image lt
-  inserted_from image (inserted.Overlap m stamp) lt = tt
-  inserted_from image (inserted.Full stamp) lt = tt
-  inserted_from image inserted.Spent lt = tt
+  inserted_from image _ lt = tt
 
   loading_from : (image : ℕ) (answer : Loading) → image < length images → IsReceiptFrom Image (receipt.Load (image_member images image) answer)
   loading_from image (loading.Done number) lt = image_is image lt
-  loading_from image (loading.Overlap m stamp) lt = tt
-  loading_from image (loading.LoadFull stamp) lt = tt
-  loading_from image loading.Spent lt = tt
-
-  deregistered_from : (base : ℕ) (answer : Removed) → IsReceiptFrom Image (receipt.Deregister base answer)
-  deregistered_from base (removed.Done number m) = tt
-  deregistered_from base (removed.NotFound stamp) = tt
-  deregistered_from base removed.Spent = tt
+  loading_from image _ lt = tt
 
   replaced_from : (image : ℕ) (answer : Replaced) → image < length images → IsReceiptFrom Image (receipt.Replace (image_member images image) answer)
   replaced_from image (replaced.Done number payload) lt = image_is image lt
-  replaced_from image (replaced.NotFound stamp) lt = tt
-  replaced_from image replaced.Spent lt = tt
+  replaced_from image _ lt = tt
 
-  unloaded_from : (base : ℕ) (answer : Removed) → IsReceiptFrom Image (receipt.Unload base answer)
-  unloaded_from base (removed.Done number m) = tt
-  unloaded_from base (removed.NotFound stamp) = tt
-  unloaded_from base removed.Spent = tt
+  -- a removal brings nothing
+  removed_from : (base : ℕ) (answer : Removed) → IsReceiptFrom Image (receipt.Deregister base answer) × IsReceiptFrom Image (receipt.Unload base answer)
+  removed_from base (removed.Done number m) = (tt, tt)
+  removed_from base _ = (tt, tt)
 
   answer_from : (version snapshots : ℕ) (asked : Event) (answer : Answer) → IsEvent (record { version = version; images = length images; snapshots = snapshots }) asked → AnswersEvent asked answer → AllByRecursion (IsReceiptFrom Image) (receipts_of images answer)
   answer_from version snapshots (event.Register image) (Register number answer) named is = (inserted_from number answer (subst (λ (n : ℕ). n < length images) (sym is) named), tt)
-  answer_from version snapshots (event.Deregister base) (Deregister number answer) named is = (deregistered_from number answer, tt)
+  answer_from version snapshots (event.Deregister base) (Deregister number answer) named is = ((removed_from number answer).0, tt)
   answer_from version snapshots (event.Replace image) (Replace number answer) named is = (replaced_from number answer (subst (λ (n : ℕ). n < length images) (sym is) named.0), tt)
   answer_from version snapshots (event.Load image) (Load number answer) named is = (loading_from number answer (subst (λ (n : ℕ). n < length images) (sym is) named), tt)
-  answer_from version snapshots (event.Unload base) (Unload number answer) named is = (unloaded_from number answer, tt)
+  answer_from version snapshots (event.Unload base) (Unload number answer) named is = ((removed_from number answer).1, tt)
   answer_from version snapshots (event.Find pc) (Find number place) named is = place_from_none number place.registered place.loaded
   answer_from version snapshots (event.Unwind snapshot) (Unwind number trace) named is = trace_from_none trace.frames
   answer_from version snapshots asked answer named is = absurd is
@@ -129,16 +119,14 @@ module _ (images : List SpanData) (spans : AllByRecursion IsSpan images) where
   place_told pc registered (Some found) whole such first second = record { whole = whole; registered = found_told Registered pc registered such.0 first; loaded = found_told Loaded pc found such.1.0 second }
 
   inserted_told : (m : Member) (answer : Inserted) → NamesSuch Image (receipt.Register m answer) → IsSizedInserted answer → IsToldInserted images answer
-  inserted_told m (inserted.Done number) such sized = sized
   inserted_told m (inserted.Overlap other stamp) such sized = (told_overlap other such, sized)
-  inserted_told m (inserted.Full stamp) such sized = sized
   inserted_told m inserted.Spent such sized = such
+  inserted_told m _ such sized = sized
 
   loading_told : (m : Member) (answer : Loading) → NamesSuch Image (receipt.Load m answer) → IsSizedLoading answer → IsToldLoading images answer
-  loading_told m (loading.Done number) such sized = sized
   loading_told m (loading.Overlap other stamp) such sized = (told_overlap other such, sized)
-  loading_told m (loading.LoadFull stamp) such sized = sized
   loading_told m loading.Spent such sized = such
+  loading_told m _ such sized = sized
 
   deregistered_told : (base : ℕ) (answer : Removed) → NamesSuch Image (receipt.Deregister base answer) → IsSizedRemoved answer → IsToldRemoved images answer
   deregistered_told base (removed.Done number m) such sized = (sized, such)

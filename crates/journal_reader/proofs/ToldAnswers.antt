@@ -1,16 +1,12 @@
 -- What is told answers the script's events, and can be printed.
-use Rattle.std.proofs.Common.{ℕ, List, [], ◌∷◌, All}
+use Rattle.std.proofs.Common.{List, [], ◌∷◌, All}
 use Rattle.std.specs.List.{AllByRecursion, AllZip}
 use Rattle.std.proofs.lemmas.List.Elements.{All-cons, All-from_recursion, All-nil}
 use Rattle.reg_model.specs.SpanData.{SpanData}
 use Rattle.reg_model.specs.Receipt.{IsPlace}
-use Rattle.reg_model.specs.declared.answer.Inserted.{Inserted}
 use Rattle.reg_model.specs.declared.answer.Inserted.TheVariants as inserted
-use Rattle.reg_model.specs.declared.answer.Loading.{Loading}
 use Rattle.reg_model.specs.declared.answer.Loading.TheVariants as loading
-use Rattle.reg_model.specs.declared.answer.Removed.{Removed}
 use Rattle.reg_model.specs.declared.answer.Removed.TheVariants as removed
-use Rattle.reg_model.specs.declared.answer.Replaced.{Replaced}
 use Rattle.reg_model.specs.declared.answer.Replaced.TheVariants as replaced
 use Rattle.unwind_step.specs.declared.backtrace.FrameLine.{FrameLine}
 use Rattle.event_script.specs.JournalData.{JournalData}
@@ -21,7 +17,7 @@ use Rattle.event_script.specs.declared.journal.Answer.{Answer}
 use Rattle.event_script.specs.declared.journal.Answer.TheVariants.{Register, Deregister, Replace, Load, Unload, Find, Unwind}
 use Rattle.event_script.specs.declared.script.Event.{Event}
 use Rattle.event_script.specs.declared.script.Event.TheVariants as event
-use Rattle.journal_reader.specs.Told.{IsToldAnswer, IsToldFrame, IsToldInserted, IsToldJournal, IsToldLoading, IsToldRemoved, IsToldReplaced}
+use Rattle.journal_reader.specs.Told.{IsToldAnswer, IsToldFrame, IsToldJournal}
 
 module _ (images : List SpanData) where
   -- places have their halves
@@ -39,39 +35,17 @@ module _ (images : List SpanData) where
   answers_event (event.Unwind snapshot) (Unwind number trace) told = (let is = told.1 in (told.0, frames_whole trace.frames is.frames))
   answers_event asked answer told = absurd told
 
-  inserted_prints : (image : ℕ) (answer : Inserted) → IsToldInserted images answer → IsPrintable (Register image answer)
-  inserted_prints image (inserted.Done number) told = tt
-  inserted_prints image (inserted.Overlap m stamp) told = tt
-  inserted_prints image (inserted.Full stamp) told = tt
-  inserted_prints image inserted.Spent told = told
-
-  loading_prints : (image : ℕ) (answer : Loading) → IsToldLoading images answer → IsPrintable (Load image answer)
-  loading_prints image (loading.Done number) told = tt
-  loading_prints image (loading.Overlap m stamp) told = tt
-  loading_prints image (loading.LoadFull stamp) told = tt
-  loading_prints image loading.Spent told = told
-
-  deregistered_prints : (base : ℕ) (answer : Removed) → IsToldRemoved images answer → IsPrintable (Deregister base answer)
-  deregistered_prints base (removed.Done number m) told = tt
-  deregistered_prints base (removed.NotFound stamp) told = tt
-  deregistered_prints base removed.Spent told = told
-
-  unloaded_prints : (base : ℕ) (answer : Removed) → IsToldRemoved images answer → IsPrintable (Unload base answer)
-  unloaded_prints base (removed.Done number m) told = tt
-  unloaded_prints base (removed.NotFound stamp) told = tt
-  unloaded_prints base removed.Spent told = told
-
-  replaced_prints : (image : ℕ) (answer : Replaced) → IsToldReplaced images answer → IsPrintable (Replace image answer)
-  replaced_prints image (replaced.Done number payload) told = tt
-  replaced_prints image (replaced.NotFound stamp) told = tt
-  replaced_prints image replaced.Spent told = told
-
   answer_prints : (asked : Event) (answer : Answer) → IsToldAnswer images asked answer → IsPrintable answer
-  answer_prints (event.Register image) (Register number answer) told = inserted_prints number answer told.1
-  answer_prints (event.Deregister base) (Deregister number answer) told = deregistered_prints number answer told.1
-  answer_prints (event.Replace image) (Replace number answer) told = replaced_prints number answer told.1
-  answer_prints (event.Load image) (Load number answer) told = loading_prints number answer told.1
-  answer_prints (event.Unload base) (Unload number answer) told = unloaded_prints number answer told.1
+  answer_prints (event.Register image) (Register number inserted.Spent) told = told.1
+  answer_prints (event.Register image) (Register number _) told = tt
+  answer_prints (event.Deregister base) (Deregister number removed.Spent) told = told.1
+  answer_prints (event.Deregister base) (Deregister number _) told = tt
+  answer_prints (event.Replace image) (Replace number replaced.Spent) told = told.1
+  answer_prints (event.Replace image) (Replace number _) told = tt
+  answer_prints (event.Load image) (Load number loading.Spent) told = told.1
+  answer_prints (event.Load image) (Load number _) told = tt
+  answer_prints (event.Unload base) (Unload number removed.Spent) told = told.1
+  answer_prints (event.Unload base) (Unload number _) told = tt
   answer_prints (event.Find pc) (Find number place) told = (let is = told.1 in is.whole)
   answer_prints (event.Unwind snapshot) (Unwind number trace) told = (let is = told.1 in frames_whole trace.frames is.frames)
   answer_prints asked answer told = absurd told
