@@ -52,8 +52,8 @@ module _ (sections : List SectionData) (memory : List RegionData) (count : ℕ) 
   abbrev Cause : NextLine → Type 0
   Cause next = ((hit_of line.place ≡ None) × (next ≡ nexts.End ends.NoObject)) ⊎ ComesIn next
 
-  by_outcome : (outcome : Stepped) (next : NextLine) → ((signal : Bool) → next ≡ next_of count outcome signal) → HasOutcome sections memory frame line outcome → Cause next
-  by_outcome outcome next is has =
+  by_outcome : (outcome : Stepped) (next : NextLine) (has : HasOutcome sections memory frame line outcome) → next ≡ next_of count outcome has.fde.entry.cie.augmentation.signal → Cause next
+  by_outcome outcome next has is =
       let f = found_in (hit_section sections line.place) line.look has.fde has.found in
       inr (record {
         s = f.0;
@@ -62,23 +62,12 @@ module _ (sections : List SectionData) (memory : List RegionData) (count : ℕ) 
           outcome = outcome;
           signal = has.fde.entry.cie.augmentation.signal;
           steps = record { fde = has.fde; found = f.2; is_next = has.is_next; of = refl };
-          is = is has.fde.entry.cie.augmentation.signal;
+          is = is;
         });
       })
 
   by_caller : (caller : Frame) (calls : IsCallingFrame sections memory frame line caller) (next : NextLine) → next ≡ next_of count (stepped.Frame caller.regs) calls.fde.entry.cie.augmentation.signal → Cause next
-  by_caller caller calls next is =
-      let f = found_in (hit_section sections line.place) line.look calls.fde calls.found in
-      inr (record {
-        s = f.0;
-        at = f.1;
-        by = inr (record {
-          outcome = stepped.Frame caller.regs;
-          signal = calls.fde.entry.cie.augmentation.signal;
-          steps = record { fde = calls.fde; found = f.2; is_next = calls.is_next; of = refl };
-          is = is;
-        });
-      })
+  by_caller caller calls next is = by_outcome (stepped.Frame caller.regs) next (record { fde = calls.fde; found = calls.found; is_next = calls.is_next }) is
 
   cause : (next : NextLine) → Comes next → Cause next
   cause (nexts.Frame caller) comes =
@@ -89,9 +78,9 @@ module _ (sections : List SectionData) (memory : List RegionData) (count : ℕ) 
       by_caller caller comes.0 (nexts.Frame caller) (kind ∙ sym test)
   cause (nexts.End ends.NoObject) comes = inl (comes, refl)
   cause (nexts.End ends.NoFde) comes = inr (record { s = comes.0; at = comes.1; by = inl (comes.2, refl) })
-  cause (nexts.End ends.NoRow) comes = by_outcome stepped.NoRow (nexts.End ends.NoRow) (λ signal. refl) comes
-  cause (nexts.End ends.Undefined) comes = by_outcome stepped.Undefined (nexts.End ends.Undefined) (λ signal. refl) comes
-  cause (nexts.End (ends.NoBytes a)) comes = by_outcome (stepped.NoBytes a) (nexts.End (ends.NoBytes a)) (λ signal. refl) comes
+  cause (nexts.End ends.NoRow) comes = by_outcome stepped.NoRow (nexts.End ends.NoRow) comes refl
+  cause (nexts.End ends.Undefined) comes = by_outcome stepped.Undefined (nexts.End ends.Undefined) comes refl
+  cause (nexts.End (ends.NoBytes a)) comes = by_outcome (stepped.NoBytes a) (nexts.End (ends.NoBytes a)) comes refl
   cause (nexts.End ends.Long) comes =
       let calls = comes.1.1 in
       let made : Frame = record { regs = comes.1.0.regs; address = address_kind calls.fde.entry.cie.augmentation.signal } in
@@ -172,11 +161,15 @@ module _ (sections : List SectionData) (memory : List RegionData) (count : ℕ) 
     pub steps : IsStepIn s line.look frame.regs.columns memory outcome signal
     pub made : next ≡ next_of count outcome signal
 
-  pub step_is_next : IsStepped → Shows frame line → IsNextLine sections memory count frame line next
-  step_is_next is shows = record {
+  is_next : IsStepped → Shows frame line → IsNextLine sections memory count frame line next
+  is_next is shows = record {
     shows = shows;
     comes = subst (ComesAfter sections memory count frame line) (sym is.made) (step_comes sections memory count frame line m s (sym is.is_hit ∙ is.found) (section_read sections m.payload s d is.inside is.read) outcome signal is.steps);
   }
 
-  pub only_next : IsStepped → ((other : Stepped) (b : Bool) → IsStepIn s line.look frame.regs.columns memory other b → other ≡ outcome) → (other : NextLine) → IsNextLine sections memory count frame line other → Some other ≡ Some next
-  only_next is only other also = ap Some (only_step sections memory count frame line m s (sym is.is_hit ∙ is.found) (section_read sections m.payload s d is.inside is.read) outcome signal is.steps only other also.comes ∙ sym is.made)
+  -- what the step says comes, and nothing else
+  pub only_next : IsStepped → Shows frame line → ((other : Stepped) (b : Bool) → IsStepIn s line.look frame.regs.columns memory other b → other ≡ outcome) → IsNextLine sections memory count frame line next × ((other : NextLine) → IsNextLine sections memory count frame line other → Some other ≡ Some next)
+  only_next is shows only = (
+    is_next is shows,
+    λ other also. ap Some (only_step sections memory count frame line m s (sym is.is_hit ∙ is.found) (section_read sections m.payload s d is.inside is.read) outcome signal is.steps only other also.comes ∙ sym is.made),
+  )
