@@ -32,7 +32,7 @@ use Rattle.event_script.proofs.Spoken.{same_kind, says_one, spoken, fields_fit, 
 use Rattle.event_script.proofs.Sections.{section_bad, section_refused}
 use Rattle.event_script.proofs.Fixed.{found_span, above_low, too_low}
 use Rattle.event_script.proofs.Recorded.{accepted_false, accepted_true}
-use Rattle.event_script.proofs.Passed.{Judged, Passed, pass_after, pass_byte, pass_fields, pass_fixed, pass_limit, pass_missing, pass_name, pass_none, pass_order, pass_region, pass_section, pass_span, pass_spelling, pass_unended, pass_word, refused}
+use Rattle.event_script.proofs.Passed.{Judged, Passed, pass, pass_none, pass_region, pass_section, pass_word, refused}
 
 -- ---- what a line says is judged
 
@@ -51,23 +51,23 @@ module _ (known : DraftData) (text : LineText) (s : Statement) (says : Says text
     region : IsNoRegion known s → ⊥
 
   to_limit : Passed known text 9 → (IsOutOfOrder known s → ⊥) → Passed known text 10
-  to_limit before order = pass_order known text before (not_said (IsOutOfOrder known) order)
+  to_limit before order = pass known text reason.Order before (λ _. not_said (IsOutOfOrder known) order)
 
   to_span : Passed known text 9 → (IsOutOfOrder known s → ⊥) → (IsOutsideLimit known s → ⊥) → Passed known text 11
-  to_span before order limit = pass_limit known text (to_limit before order) (not_said (IsOutsideLimit known) limit)
+  to_span before order limit = pass known text reason.Limit (to_limit before order) (λ _. not_said (IsOutsideLimit known) limit)
 
   to_section : Passed known text 9 → (IsOutOfOrder known s → ⊥) → (IsOutsideLimit known s → ⊥) → (IsNoSpan s → ⊥) → Passed known text 12
-  to_section before order limit span = pass_span known text (to_span before order limit) (not_said IsNoSpan span)
+  to_section before order limit span = pass known text reason.Span (to_span before order limit) (λ _. not_said IsNoSpan span)
 
   to_name : Passed known text 9 → (IsOutOfOrder known s → ⊥) → (IsOutsideLimit known s → ⊥) → (IsNoSpan s → ⊥) → ((fault : FrameFault) → HasBadSection fault s → ⊥) → Passed known text 13
   to_name before order limit span section = pass_section known text (to_section before order limit span) (λ fault. not_said (HasBadSection fault) (section fault))
 
   to_fixed : Passed known text 9 → (IsOutOfOrder known s → ⊥) → (IsOutsideLimit known s → ⊥) → (IsNoSpan s → ⊥) → ((fault : FrameFault) → HasBadSection fault s → ⊥) → (IsNameless known s → ⊥) → Passed known text 14
-  to_fixed before order limit span section name = pass_name known text (to_name before order limit span section) (not_said (IsNameless known) name)
+  to_fixed before order limit span section name = pass known text reason.Name (to_name before order limit span section) (λ _. not_said (IsNameless known) name)
 
   good : Passed known text 9 → Rows → IsGood known text
   good before rows =
-      let passed = pass_fixed known text (to_fixed before rows.order rows.limit rows.span rows.section rows.name) (not_said (IsNotAbove known) rows.fixed) in
+      let passed = pass known text reason.Fixed (to_fixed before rows.order rows.limit rows.span rows.section rows.name) (λ _. not_said (IsNotAbove known) rows.fixed) in
       pass_region known text passed (not_said (IsNoRegion known) rows.region)
 
   limit_holds : Passed known text 9 → (IsOutOfOrder known s → ⊥) → IsOutsideLimit known s → IsReason known text reason.Limit
@@ -244,7 +244,7 @@ module _ (known : DraftData) (text : LineText) (region : RegionData) (says : Say
   made_known snapshot = Ok (record known { snapshot = snapshot })
 
   to_region : (IsOutsideLimit known line_memory → ⊥) → Passed known text 15
-  to_region limit = pass_fixed known text (to_fixed known text line_memory says before nothing limit nothing no_section nothing) (not_said known text line_memory says (IsNotAbove known) nothing)
+  to_region limit = pass known text reason.Fixed (to_fixed known text line_memory says before nothing limit nothing no_section nothing) (λ _. not_said known text line_memory says (IsNotAbove known) nothing)
 
   memory_accepted : (IsOutsideLimit known line_memory → ⊥) → (t : Bool) → accepts known.snapshot.memory region ≡ t → Judged known text (cond t (Ok with_region) (Err reason.Region) >=> made_known)
   memory_accepted limit true is = good known text line_memory says before (record { order = nothing; limit = limit; span = nothing; section = no_section; name = nothing; fixed = nothing; region = λ refute. refute (accepted_true known.snapshot.memory region is) })
@@ -342,14 +342,14 @@ module _ (known : DraftData) (line : List ℕ) where
         let fit = fields_fit s says.form in
         let count : length fields ≡ length (forms k) = ap (λ (xs : Line). length xs) same.1 ∙ fit.0 ∙ sym (ap (λ (x : Kind). length (forms x)) same.0) in
         let fields_are : AreFields (forms k) fields = subst (λ (x : Kind). AreFields (forms x) fields) (sym same.0) (subst (λ (xs : Line). AreFields (forms (kind_of_statement s)) xs) (sym same.1) fit.1) in
-        let p = pass_fields known here passed (of_kind k fields is (λ k fields. length fields ≢ length (forms k)) (λ other. other count)) in
-        let q = pass_spelling known here p (of_kind k fields is (λ k fields. AreFields (forms k) fields → ⊥) (λ refute. refute fields_are)) in
+        let p = pass known here reason.Fields passed (λ _. of_kind k fields is (λ k fields. length fields ≢ length (forms k)) (λ other. other count)) in
+        let q = pass known here reason.Spelling p (λ _. of_kind k fields is (λ k fields. AreFields (forms k) fields → ⊥) (λ refute. refute fields_are)) in
         judged_statement known here s (record { line = is ∙ says.line; form = says.form }) q
     spoken_line k fields is may passed (Err why) e = wrong_line why (unspoken k fields why e)
       where
         wrong_line : (why : Reason) → Wrong (forms k) fields why → IsReason known here why
         wrong_line reason.Fields other = refused known here reason.Fields passed (k, fields, is, may, other)
-        wrong_line reason.Spelling (count, refute) = refused known here reason.Spelling (pass_fields known here passed (of_kind k fields is (λ k fields. length fields ≢ length (forms k)) (λ other. other count))) (k, fields, is, may, refute)
+        wrong_line reason.Spelling (count, refute) = refused known here reason.Spelling (pass known here reason.Fields passed (λ _. of_kind k fields is (λ k fields. length fields ≢ length (forms k)) (λ other. other count))) (k, fields, is, may, refute)
         wrong_line _ refute = absurd refute
 
     kind_line : (k : Kind) (fields : Line) → pieces 32 line ≡ word_of k ∷ fields → (t : Bool) → may_come known.script.version known.stage k ≡ t → Judged known here (cond t (statement_of k fields >=> λ s. added known s) (Err reason.Word))
@@ -379,14 +379,14 @@ module _ (known : DraftData) (line : List ℕ) where
     judged_words (word ∷ fields) is = word_line word fields is (kind_of word) refl
 
   printable_line : Passed known here 4 → (t : Bool) → is_printable line ≡ t → Judged known here (cond t (by_word known (pieces 32 line)) (Err reason.Byte))
-  printable_line before true e = judged_words (pass_byte known here before (λ refute. true≢false (sym e ∙ refute))) (pieces 32 line) refl
+  printable_line before true e = judged_words (pass known here reason.Byte before (λ _ refute. true≢false (sym e ∙ refute))) (pieces 32 line) refl
   printable_line before false e = refused known here reason.Byte before e
 
   ended_line : (t : Bool) → is_ended known.stage ≡ t → Judged known here (cond t (Err reason.After) (cond (is_printable line) (by_word known (pieces 32 line)) (Err reason.Byte)))
-  ended_line true e = refused known here reason.After (pass_missing known here (λ refute. true≢false refute.2)) (e, inr refl)
+  ended_line true e = refused known here reason.After (pass known here reason.Missing (pass_none known here) (λ _ refute. true≢false refute.2)) (e, inr refl)
   ended_line false e =
       printable_line
-      (pass_unended known here (pass_after known here (pass_missing known here (λ refute. true≢false refute.2)) (λ refute. true≢false (sym refute.0 ∙ e))) (λ refute. true≢false refute))
+      (pass known here reason.Unended (pass known here reason.After (pass known here reason.Missing (pass_none known here) (λ _ refute. true≢false refute.2)) (λ _ refute. true≢false (sym refute.0 ∙ e))) (λ _ refute. true≢false refute))
       (is_printable line) refl
 
   pub judged_line : Judged known here (after_line known line)
@@ -406,6 +406,6 @@ judged_end known [] why e = by (is_ended known.stage) refl e
 judged_end known (b ∷ rest) why e = by (is_ended known.stage) refl e
   where
     by : (t : Bool) → is_ended known.stage ≡ t → cond t (failed_draft reason.After) (failed_draft reason.Unended) ≡ failed_draft why → IsReason known (record { bytes = b ∷ rest; has_feed = false }) why
-    by true is e = subst (IsReason known (record { bytes = b ∷ rest; has_feed = false })) (why_is known reason.After why e) (refused known (record { bytes = b ∷ rest; has_feed = false }) reason.After (pass_missing known (record { bytes = b ∷ rest; has_feed = false }) (λ refute. cons_not b rest refute.1)) (is, inl (cons_not b rest)))
+    by true is e = subst (IsReason known (record { bytes = b ∷ rest; has_feed = false })) (why_is known reason.After why e) (refused known (record { bytes = b ∷ rest; has_feed = false }) reason.After (pass known (record { bytes = b ∷ rest; has_feed = false }) reason.Missing (pass_none known (record { bytes = b ∷ rest; has_feed = false })) (λ _ refute. cons_not b rest refute.1)) (is, inl (cons_not b rest)))
     by false is e = subst (IsReason known (record { bytes = b ∷ rest; has_feed = false })) (why_is known reason.Unended why e)
-        (refused known (record { bytes = b ∷ rest; has_feed = false }) reason.Unended (pass_after known (record { bytes = b ∷ rest; has_feed = false }) (pass_missing known (record { bytes = b ∷ rest; has_feed = false }) (λ refute. cons_not b rest refute.1)) (λ refute. true≢false (sym refute.0 ∙ is))) refl)
+        (refused known (record { bytes = b ∷ rest; has_feed = false }) reason.Unended (pass known (record { bytes = b ∷ rest; has_feed = false }) reason.After (pass known (record { bytes = b ∷ rest; has_feed = false }) reason.Missing (pass_none known (record { bytes = b ∷ rest; has_feed = false })) (λ _ refute. cons_not b rest refute.1)) (λ _ refute. true≢false (sym refute.0 ∙ is))) refl)

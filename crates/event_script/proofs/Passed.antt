@@ -1,15 +1,32 @@
 -- Reasons of the table that were passed by, in order.
-use Rattle.std.proofs.Common.{◌≡◌, ℕ, ◌+◌, ◌<◌, Bool, true, false, ltb, Result, Ok, Err, refl, ltb-true, arith}
+use Rattle.std.proofs.Common.{◌≡◌, ℕ, ◌+◌, ◌<◌, [], ◌∷◌, get_or, Bool, true, false, ltb, Result, Ok, Err, refl, sym, ap, ◌∙◌, subst, ltb-true, arith}
 use Rattle.std.proofs.lemmas.Bool.{ltb-false}
 use Rattle.frame_parse.specs.declared.fault.FrameFault.{FrameFault}
+use Rattle.frame_parse.specs.declared.fault.FrameFault.TheVariants as frame_fault
 use Rattle.event_script.specs.Draft.{DraftData}
 use Rattle.event_script.specs.Reasons.{LineText, number_in_table, SpeaksAgainst, IsReason, IsGood}
 use Rattle.event_script.specs.declared.reader.fault.Reason.{Reason}
 use Rattle.event_script.specs.declared.reader.fault.Reason.TheVariants as reason
 
-pub numbered_from : (r : Reason) → (0 < number_in_table r) × (number_in_table r < 16)
-numbered_from reason.Missing = (omega arith, omega arith)
-numbered_from _ = (omega arith, omega arith)
+-- the reasons by their numbers, sections with this fault; nothing has the numbers 0 and 6
+abbrev pub numbered : FrameFault → ℕ → Reason
+numbered fault number =
+    get_or
+    (reason.Missing ∷ reason.Missing ∷ reason.After ∷ reason.Unended ∷ reason.Byte ∷ reason.Word ∷ reason.Word ∷ reason.Fields
+    ∷ reason.Spelling ∷ reason.Order ∷ reason.Limit ∷ reason.Span ∷ reason.Section fault ∷ reason.Name ∷ reason.Fixed ∷ [])
+    number reason.Region
+
+-- each reason has a number of the table, which stands for it
+record IsNumbered (r : Reason) : Type 0 where
+  from : 0 < number_in_table r
+  to : number_in_table r < 16
+  fault : FrameFault
+  back : r ≡ numbered fault (number_in_table r)
+
+is_numbered : (r : Reason) → IsNumbered r
+is_numbered (reason.Section fault) = record { from = omega arith; to = omega arith; fault = fault; back = refl }
+is_numbered reason.Missing = record { from = omega arith; to = omega arith; fault = frame_fault.NoMemory; back = refl }
+is_numbered _ = record { from = omega arith; to = omega arith; fault = frame_fault.NoMemory; back = refl }
 
 module _ (known : DraftData) (text : LineText) where
   abbrev pub Not : Reason → Type 0
@@ -20,112 +37,37 @@ module _ (known : DraftData) (text : LineText) where
   Passed n = (other : Reason) → number_in_table other < n → Not other
 
   pub pass_none : Passed 1
-  pass_none other lt = absurd (omega (arith, (numbered_from other).0))
+  pass_none other lt = absurd (omega (arith, (is_numbered other).from))
 
-  pub pass_missing : Not reason.Missing → Passed 2
-  pass_missing refute reason.Missing lt = refute
-  pass_missing refute _ lt = absurd (omega arith)
-
-  pub pass_after : Passed 2 → Not reason.After → Passed 3
-  pass_after before refute reason.After lt = refute
-  pass_after before refute reason.Missing lt = before reason.Missing (omega arith)
-  pass_after before refute _ lt = absurd (omega arith)
-
-  pub pass_unended : Passed 3 → Not reason.Unended → Passed 4
-  pass_unended before refute reason.Unended lt = refute
-  pass_unended before refute reason.Missing lt = before reason.Missing (omega arith)
-  pass_unended before refute reason.After lt = before reason.After (omega arith)
-  pass_unended before refute _ lt = absurd (omega arith)
-
-  -- all others by their numbers
-  pub one_more : (n : ℕ) → Passed n → ((other : Reason) → number_in_table other ≡ n → Not other) → Passed (n + 1)
-  one_more n before here other lt = by (ltb (number_in_table other) n) refl
+  -- the reason with the next number
+  pass_number : (n : ℕ) → Passed n → ((fault : FrameFault) → Not (numbered fault n)) → Passed (n + 1)
+  pass_number n before refute other lt = by (ltb (number_in_table other) n) refl
     where
       by : (t : Bool) → ltb (number_in_table other) n ≡ t → Not other
       by true e = before other (ltb-true _ _ e)
-      by false e = here other (let le = ltb-false (number_in_table other) n e in omega arith)
+      by false e =
+          let le = ltb-false (number_in_table other) n e in
+          let here : number_in_table other ≡ n = omega arith in
+          let row = is_numbered other in
+          subst Not (sym (row.back ∙ ap (numbered row.fault) here)) (refute row.fault)
 
-  pub pass_byte : Passed 4 → Not reason.Byte → Passed 5
-  pass_byte before refute = one_more 4 before at
-    where
-      at : (other : Reason) → number_in_table other ≡ 4 → Not other
-      at reason.Byte e = refute
-      at _ e = absurd (omega arith)
+  -- one reason more
+  pub pass : (why : Reason) → Passed (number_in_table why) → ((fault : FrameFault) → Not (numbered fault (number_in_table why))) → Passed (number_in_table why + 1)
+  pass why = pass_number (number_in_table why)
+
+  pub pass_section : Passed 12 → ((fault : FrameFault) → Not (reason.Section fault)) → Passed 13
+  pass_section = pass_number 12
 
   -- no reason has the number 6
   pub pass_word : Passed 5 → Not reason.Word → Passed 7
-  pass_word before refute = one_more 6 (one_more 5 before at) none
+  pass_word before refute other lt = pass_number 5 before (λ _. refute) other (skipped other lt)
     where
-      at : (other : Reason) → number_in_table other ≡ 5 → Not other
-      at reason.Word e = refute
-      at _ e = absurd (omega arith)
-
-      none : (other : Reason) → number_in_table other ≡ 6 → Not other
-      none reason.Missing e = absurd (omega arith)
-      none _ e = absurd (omega arith)
-
-  pub pass_fields : Passed 7 → Not reason.Fields → Passed 8
-  pass_fields before refute = one_more 7 before at
-    where
-      at : (other : Reason) → number_in_table other ≡ 7 → Not other
-      at reason.Fields e = refute
-      at _ e = absurd (omega arith)
-
-  pub pass_spelling : Passed 8 → Not reason.Spelling → Passed 9
-  pass_spelling before refute = one_more 8 before at
-    where
-      at : (other : Reason) → number_in_table other ≡ 8 → Not other
-      at reason.Spelling e = refute
-      at _ e = absurd (omega arith)
-
-  pub pass_order : Passed 9 → Not reason.Order → Passed 10
-  pass_order before refute = one_more 9 before at
-    where
-      at : (other : Reason) → number_in_table other ≡ 9 → Not other
-      at reason.Order e = refute
-      at _ e = absurd (omega arith)
-
-  pub pass_limit : Passed 10 → Not reason.Limit → Passed 11
-  pass_limit before refute = one_more 10 before at
-    where
-      at : (other : Reason) → number_in_table other ≡ 10 → Not other
-      at reason.Limit e = refute
-      at _ e = absurd (omega arith)
-
-  pub pass_span : Passed 11 → Not reason.Span → Passed 12
-  pass_span before refute = one_more 11 before at
-    where
-      at : (other : Reason) → number_in_table other ≡ 11 → Not other
-      at reason.Span e = refute
-      at _ e = absurd (omega arith)
-
-  pub pass_section : Passed 12 → ((fault : FrameFault) → Not (reason.Section fault)) → Passed 13
-  pass_section before refute = one_more 12 before at
-    where
-      at : (other : Reason) → number_in_table other ≡ 12 → Not other
-      at (reason.Section fault) e = refute fault
-      at _ e = absurd (omega arith)
-
-  pub pass_name : Passed 13 → Not reason.Name → Passed 14
-  pass_name before refute = one_more 13 before at
-    where
-      at : (other : Reason) → number_in_table other ≡ 13 → Not other
-      at reason.Name e = refute
-      at _ e = absurd (omega arith)
-
-  pub pass_fixed : Passed 14 → Not reason.Fixed → Passed 15
-  pass_fixed before refute = one_more 14 before at
-    where
-      at : (other : Reason) → number_in_table other ≡ 14 → Not other
-      at reason.Fixed e = refute
-      at _ e = absurd (omega arith)
+      skipped : (other : Reason) → number_in_table other < 7 → number_in_table other < 6
+      skipped reason.Missing lt = omega arith
+      skipped _ lt = omega arith
 
   pub pass_region : Passed 15 → Not reason.Region → IsGood known text
-  pass_region before refute other = one_more 15 before at other (numbered_from other).1
-    where
-      at : (other : Reason) → number_in_table other ≡ 15 → Not other
-      at reason.Region e = refute
-      at _ e = absurd (omega arith)
+  pass_region before refute other = pass_number 15 before (λ _. refute) other (is_numbered other).to
 
   pub refused : (why : Reason) → Passed (number_in_table why) → SpeaksAgainst why known text → IsReason known text why
   refused why before holds = record { holds = holds; first = before }
