@@ -16,6 +16,14 @@ module _ (start : ℕ) (room word put : List ℕ) (is : put ≡ word) (fits : le
       let rest = drop (start - (start - length word)) (drop (start - length word) room) in
       omega (arith, length-append (take (start - length word) room) (put ++ rest), length-append put rest, ap length is, length-take-le (start - length word) room (omega arith), length-drop (start - (start - length word)) (drop (start - length word) room), length-drop (start - length word) room)
 
+-- digits, of which there are so many at most, have room before the start
+pub digits_fit : (most start : ℕ) (room digits : List ℕ) → length digits ≤ most → length room ≡ 272 → start ≤ 272 → most + length (drop start room) ≤ 272 → (length digits ≤ start) × (start ≤ length room)
+digits_fit most start room digits short size within left = (omega (arith, short, left, length-drop start room, size, within), omega (arith, size, within))
+
+-- with them a text is longer by so many at most
+pub digits_lengthen : (most : ℕ) (digits old new : List ℕ) → length digits ≤ most → new ≡ digits ++ old → length new ≤ most + length old
+digits_lengthen most digits old new short is = omega (arith, short, ap length is, length-append digits old)
+
 -- three parts, the last one first
 pub three_before : (a b c old one two three : List ℕ) → one ≡ c ++ old → two ≡ b ++ one → three ≡ a ++ two → three ≡ ((a ++ b) ++ c) ++ old
 three_before a b c old one two three last middle first =
