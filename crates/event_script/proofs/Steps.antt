@@ -137,11 +137,12 @@ pub record AreImageFields (fields : Line) (image : ImageData) : Type 0 where
   pub section : image.section < 2 ^ 64
   pub bytes : IsBytes image.bytes
 
-abbrev read_image : ImageData → Result ImageData Reason
-read_image image = Ok image
+abbrev read_last : {A : Type 0} → A → Result A Reason
+read_last x = Ok x
 
-same_image : (fields : Line) (x y : ImageData) → AreImageFields fields x → read_image x ≡ read_image y → AreImageFields fields y
-same_image fields x y are e = let same : x ≡ y = cc in subst (AreImageFields fields) same are
+-- what holds of what was read at last
+same_last : {A : Type 0} (P : A → Type 0) (x y : A) → P x → read_last x ≡ read_last y → P y
+same_last P x y holds e = let same : x ≡ y = cc in subst P same holds
 
 pub image_fields_are : (fields : Line) (image : ImageData) → image_fields fields ≡ Ok image → AreImageFields fields image
 image_fields_are fields image e =
@@ -157,7 +158,7 @@ image_fields_are fields image e =
     let section = hex_is f.0.3 a.0 (some_from (hex_in f.0.3) reason.Spelling a.0 a.1) in
     let bytes = bytes_are f.0.4 c.0 (some_from (section_bytes f.0.4) reason.Spelling c.0 c.1) in
     let parts = five_is fields f.0 (some_from (five fields) reason.Fields f.0 f.1) in
-    same_image fields (record { number = n.0; base = b.0; size = s.0; section = a.0; bytes = c.0 }) image
+    same_last (AreImageFields fields) (record { number = n.0; base = b.0; size = s.0; section = a.0; bytes = c.0 }) image
     (record { is = five_same fields _ _ _ _ _ _ _ _ _ _ parts number.1 base.1 size.1 section.1 bytes.1; number = number.0; base = base.0; size = size.0; section = section.0; bytes = bytes.0 }) c.2
 
 -- the numbers of fields
@@ -182,12 +183,6 @@ pub record AreSnapshotFields (fields : Line) (snapshot : SnapshotFields) : Type 
   pub count : length snapshot.regs.columns ≡ 17
   pub columns : All (λ n. n < 2 ^ 64) snapshot.regs.columns
 
-abbrev read_snapshot : SnapshotFields → Result SnapshotFields Reason
-read_snapshot snapshot = Ok snapshot
-
-same_snapshot : (fields : Line) (x y : SnapshotFields) → AreSnapshotFields fields x → read_snapshot x ≡ read_snapshot y → AreSnapshotFields fields y
-same_snapshot fields x y are e = let same : x ≡ y = cc in subst (AreSnapshotFields fields) same are
-
 numbers_are : (fields : Line) (snapshot : SnapshotFields) → length fields ≡ 18 → numbers_in fields ≡ Ok snapshot → AreSnapshotFields fields snapshot
 numbers_are [] snapshot count e = absurd (omega arith)
 numbers_are (number ∷ columns) snapshot count e =
@@ -196,7 +191,7 @@ numbers_are (number ∷ columns) snapshot count e =
     let first = decimal_is number n.0 (some_from (decimal_in number) reason.Spelling n.0 n.1) in
     let rest = all_hex_are columns c.0 (some_from (all_hex_in columns) reason.Spelling c.0 c.1) in
     let same_count : length columns ≡ length c.0 = ap (λ (xs : Line). length xs) rest.0 ∙ length-map c.0 hex in
-    same_snapshot (number ∷ columns) (record { number = n.0; regs = record { columns = c.0 } }) snapshot
+    same_last (AreSnapshotFields (number ∷ columns)) (record { number = n.0; regs = record { columns = c.0 } }) snapshot
     (record {
       is = ap₂ (λ (x : List ℕ) (xs : Line). x ∷ xs) first.1 rest.0;
       number = first.0;
@@ -222,12 +217,6 @@ pub record AreMemoryFields (fields : Line) (region : RegionData) : Type 0 where
   pub bytes : IsBytes region.bytes
   pub some : 0 < length region.bytes
 
-abbrev read_region : RegionData → Result RegionData Reason
-read_region region = Ok region
-
-same_region : (fields : Line) (x y : RegionData) → AreMemoryFields fields x → read_region x ≡ read_region y → AreMemoryFields fields y
-same_region fields x y are e = let same : x ≡ y = cc in subst (AreMemoryFields fields) same are
-
 pub memory_fields_are : (fields : Line) (region : RegionData) → memory_fields fields ≡ Ok region → AreMemoryFields fields region
 memory_fields_are fields region e =
     let f = bind_ok (ok_or (two fields) reason.Fields) _ region e in
@@ -235,7 +224,7 @@ memory_fields_are fields region e =
     let b = bind_ok (ok_or (hex_bytes_in f.0.1) reason.Spelling) _ region a.2 in
     let address = hex_is f.0.0 a.0 (some_from (hex_in f.0.0) reason.Spelling a.0 a.1) in
     let bytes = some_bytes_are f.0.1 b.0 (some_from (hex_bytes_in f.0.1) reason.Spelling b.0 b.1) in
-    same_region fields (record { address = a.0; bytes = b.0 }) region
+    same_last (AreMemoryFields fields) (record { address = a.0; bytes = b.0 }) region
     (record {
       is = two_is fields f.0 (some_from (two fields) reason.Fields f.0 f.1) ∙ ap₂ (λ (x y : List ℕ). x ∷ y ∷ []) address.1 bytes.2;
       address = address.0;
