@@ -71,25 +71,14 @@ pub fn read(alloc: Global, bytes: &[u8]) -> Result<Script, ScriptFault>
     ensures memory { IfErr result IsOfScript }
 {
     let draft = draft_of(alloc, bytes)?;
-    let Draft {
-        version,
-        nodes,
-        loads,
-        images,
-        sections,
-        fixed,
-        snapshots,
-        rounds,
-        ..
-    } = draft;
     Ok(Script {
-        version,
-        nodes,
-        loads,
-        images,
-        sections,
-        fixed,
-        snapshots,
-        rounds,
+        version: draft.version,
+        nodes: draft.nodes,
+        loads: draft.loads,
+        images: draft.images,
+        sections: draft.sections,
+        fixed: draft.fixed,
+        snapshots: draft.snapshots,
+        rounds: draft.rounds,
     })
 }
