@@ -62,10 +62,10 @@ pub fn event_of(version: u32, line: &[u8]) -> Option<Event>
     if let Some(base) = hex_after(line, b"deregister ") {
         return Some(Event::Deregister { base });
     }
-    if version >= REPLACE_VERSION {
-        if let Some(image) = decimal_after(line, b"replace ") {
-            return Some(Event::Replace { image });
-        }
+    if version >= REPLACE_VERSION
+        && let Some(image) = decimal_after(line, b"replace ")
+    {
+        return Some(Event::Replace { image });
     }
     if let Some(image) = decimal_after(line, b"load ") {
         return Some(Event::Load { image });
