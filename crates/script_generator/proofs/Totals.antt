@@ -38,23 +38,9 @@ once : (b : Bool) → ((if b then 1 else 0) ≤ 1) × ((if b then 0 else 1) ≤ 
 once true = (omega arith, omega arith)
 once false = (omega arith, omega arith)
 
-pub hit_once : (a : Answer) → counted_in Hits a ≤ 1
-hit_once (Find pc place) = (once (is_some (hit_of place))).0
-hit_once (Register image answer) = omega arith
-hit_once (Deregister base answer) = omega arith
-hit_once (Replace image answer) = omega arith
-hit_once (Load image answer) = omega arith
-hit_once (Unload base answer) = omega arith
-hit_once (Unwind snapshot trace) = omega arith
-
-pub miss_once : (a : Answer) → counted_in Misses a ≤ 1
-miss_once (Find pc place) = (once (is_some (hit_of place))).1
-miss_once (Register image answer) = omega arith
-miss_once (Deregister base answer) = omega arith
-miss_once (Replace image answer) = omega arith
-miss_once (Load image answer) = omega arith
-miss_once (Unload base answer) = omega arith
-miss_once (Unwind snapshot trace) = omega arith
+pub hit_or_miss_once : (a : Answer) → (counted_in Hits a ≤ 1) × (counted_in Misses a ≤ 1)
+hit_or_miss_once (Find pc place) = once (is_some (hit_of place))
+hit_or_miss_once _ = (omega arith, omega arith)
 
 no_more : (what : Counted) → ((a : Answer) → counted_in what a ≤ 1) → (rounds : List (List (List Answer))) → counted_total what rounds ≤ counted_total Events rounds
 no_more what each rounds =

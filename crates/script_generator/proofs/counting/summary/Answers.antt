@@ -1,15 +1,15 @@
 use Rattle.std.proofs.Common.{◌∙◌, sym, refl}
 use Rattle.script_generator.specs.declared.counting.Counted.TheVariants.{Events, Hits, Misses, Frames}
-use Rattle.script_generator.proofs.Totals.{few, hit_once, miss_once, total_is, threads_are, summary_is}
+use Rattle.script_generator.proofs.Totals.{few, hit_or_miss_once, total_is, threads_are, summary_is}
 use Rattle.script_generator.proofs.counting.summary.Goals as goal
 
 pub count_in-requires-2 : goal.count_in-requires-2
 count_in-requires-2 c =
-    rw c.as_slice-rounds.ensures.value (few (λ threads. threads.items) (λ answers. answers.items) Hits c.journal.inside.rounds.items hit_once (rw (← c.journal.view_is) at c.requires))
+    rw c.as_slice-rounds.ensures.value (few (λ threads. threads.items) (λ answers. answers.items) Hits c.journal.inside.rounds.items (λ a. (hit_or_miss_once a).0) (rw (← c.journal.view_is) at c.requires))
 
 pub count_in-requires-3 : goal.count_in-requires-3
 count_in-requires-3 c =
-    rw c.as_slice-rounds.ensures.value (few (λ threads. threads.items) (λ answers. answers.items) Misses c.journal.inside.rounds.items miss_once (rw (← c.journal.view_is) at c.requires))
+    rw c.as_slice-rounds.ensures.value (few (λ threads. threads.items) (λ answers. answers.items) Misses c.journal.inside.rounds.items (λ a. (hit_or_miss_once a).1) (rw (← c.journal.view_is) at c.requires))
 
 pub returns : goal.returns
 returns c =
