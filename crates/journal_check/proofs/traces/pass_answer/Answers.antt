@@ -12,7 +12,6 @@ returns-in-Some-departure c =
     let snapshots : c.deref.result.now ≡ script.snapshots = c.deref.ensures.value ∙ ap (λ (s : ScriptData). s.snapshots) c.script.view_is in
     let sections : c.as_slice-sections.result.now ≡ script.sections = c.as_slice-sections.ensures.value ∙ ap (λ (s : ScriptData). s.sections) c.script.view_is in
     let recorded = c.in-Some.recorded.now in
-    let number = c.in-Unwind.snapshot in
     let trace = c.in-Unwind.trace in
     let index = c.in-Some-departure.index in
     let look = c.in-Some.ensures.lookup in
@@ -20,9 +19,9 @@ returns-in-Some-departure c =
     let line = c.in_ok-line_after.ensures.ok in
     let here = (c.in-Some-departure.ensures.departs index).0 refl in
     let departs = subst (λ (s : SnapshotData). IsDeparture c.as_slice-sections.result.now s.memory s.regs trace index) c.recorded.view_is here in
-    inl (departs_here script c.args.answer.now number trace recorded c.in-Unwind.is
-    (subst (λ (xs : List SnapshotData). number < length xs) snapshots look.3.0)
-    (subst (λ (xs : List SnapshotData). recorded ≡ get_or xs number recorded) snapshots look.1)
+    inl (departs_here script c.args.answer.now c.in-Unwind.snapshot trace recorded c.in-Unwind.is
+    (subst (λ (xs : List SnapshotData). c.in-Unwind.snapshot < length xs) snapshots look.3.0)
+    (subst (λ (xs : List SnapshotData). recorded ≡ get_or xs c.in-Unwind.snapshot recorded) snapshots look.1)
     c.args.line c.in_ok-line_after.field-0 index
     (subst (λ xs. IsDeparture xs recorded.memory recorded.regs trace index) sections departs) (omega arith))
 
@@ -33,15 +32,14 @@ returns c = elim c.match-answer.branch [
       let snapshots : w.deref.result.now ≡ script.snapshots = w.deref.ensures.value ∙ ap (λ (s : ScriptData). s.snapshots) c.script.view_is in
       let sections : w.as_slice-sections.result.now ≡ script.sections = w.as_slice-sections.ensures.value ∙ ap (λ (s : ScriptData). s.sections) c.script.view_is in
       let recorded = w.in-Some.recorded.now in
-      let number = w.in-Unwind.snapshot in
       let trace = w.in-Unwind.trace in
       let look = w.in-Some.ensures.lookup in
       let here = w.departure.ensures.unfolds.0 w.in_default-departure.is in
       let unfolds = subst (λ (s : SnapshotData). Unfolds w.as_slice-sections.result.now s.memory s.regs trace) w.recorded.view_is here in
       one_passed script c.args.answer.now c.args.line c.line_count.result c.line_after-2.result
-      (unfolds_here script c.args.answer.now number trace recorded w.in-Unwind.is
-      (subst (λ (xs : List SnapshotData). number < length xs) snapshots look.3.0)
-      (subst (λ (xs : List SnapshotData). recorded ≡ get_or xs number recorded) snapshots look.1)
+      (unfolds_here script c.args.answer.now w.in-Unwind.snapshot trace recorded w.in-Unwind.is
+      (subst (λ (xs : List SnapshotData). w.in-Unwind.snapshot < length xs) snapshots look.3.0)
+      (subst (λ (xs : List SnapshotData). recorded ≡ get_or xs w.in-Unwind.snapshot recorded) snapshots look.1)
       (subst (λ xs. Unfolds xs recorded.memory recorded.regs trace) sections unfolds))
       c.line_count.ensures c.line_after-2.ensures.ok c.line_after-2.ensures.err)
   | in_default w ↦
