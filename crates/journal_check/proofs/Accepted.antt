@@ -15,23 +15,16 @@ use Rattle.journal_check.specs.Telling.{is_update}
 use Rattle.journal_check.proofs.Receipts.{of_thread}
 
 of_answer : (images : List SpanData) (answer : Answer) → count (receipts_of images answer) ≡ cond (is_update answer) 1 0
-of_answer images (Register image (inserted.Done number)) = refl
-of_answer images (Register image (inserted.Overlap member stamp)) = refl
-of_answer images (Register image (inserted.Full stamp)) = refl
 of_answer images (Register image inserted.Spent) = refl
-of_answer images (Deregister base (removed.Done number member)) = refl
-of_answer images (Deregister base (removed.NotFound stamp)) = refl
+of_answer images (Register image _) = refl
 of_answer images (Deregister base removed.Spent) = refl
-of_answer images (Replace image (replaced.Done number payload)) = refl
-of_answer images (Replace image (replaced.NotFound stamp)) = refl
+of_answer images (Deregister base _) = refl
 of_answer images (Replace image replaced.Spent) = refl
-of_answer images (Load image (loading.Done number)) = refl
-of_answer images (Load image (loading.Overlap member stamp)) = refl
-of_answer images (Load image (loading.LoadFull stamp)) = refl
+of_answer images (Replace image _) = refl
 of_answer images (Load image loading.Spent) = refl
-of_answer images (Unload base (removed.Done number member)) = refl
-of_answer images (Unload base (removed.NotFound stamp)) = refl
+of_answer images (Load image _) = refl
 of_answer images (Unload base removed.Spent) = refl
+of_answer images (Unload base _) = refl
 of_answer images (Find pc place) = of_place pc place.registered place.loaded
 of_answer images (Unwind snapshot trace) = of_frames trace.frames
 

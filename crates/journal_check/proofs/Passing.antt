@@ -104,13 +104,8 @@ module _ (script : ScriptData) where
 
   -- nothing but a backtrace has to unfold
   pub no_trace : (answer : Answer) → ((number : ℕ) (trace : TraceData) → answer ≢ Unwind number trace) → IsRight answer
-  no_trace (Register image answer) other = tt
-  no_trace (Deregister base answer) other = tt
-  no_trace (Replace image answer) other = tt
-  no_trace (Load image answer) other = tt
-  no_trace (Unload base answer) other = tt
-  no_trace (Find pc place) other = tt
   no_trace (Unwind number trace) other = absurd (other number trace refl)
+  no_trace _ other = tt
 
   -- the snapshot of a backtrace is there
   module _ (answer : Answer) (number : ℕ) (trace : TraceData) (recorded : SnapshotData) (asked : answer ≡ Unwind number trace) (within : number < length script.snapshots) (is : recorded ≡ get_or script.snapshots number recorded) where

@@ -19,11 +19,7 @@ ranked _ = Number
 
 ranked_back : (which : Flaw) → ranked (rank which) ≡ which
 ranked_back Number = refl
-ranked_back Count = refl
-ranked_back History = refl
-ranked_back Answer = refl
-ranked_back Order = refl
-ranked_back Round = refl
+ranked_back _ = refl
 
 pub rank_same : (one other : Flaw) → rank one ≡ rank other → one ≡ other
 rank_same one other same = sym (ranked_back one) ∙ ap ranked same ∙ ranked_back other
