@@ -22,6 +22,11 @@ use Rattle.journal_reader.proofs.LinesOfEvents.{first_again, first_is}
 use Rattle.journal_reader.proofs.Traces.{trace_at, trace_unique}
 use Rattle.journal_reader.proofs.Sequences.{barred_by, stuck_here}
 
+-- an event that isn't a backtrace has one line
+pub is_one_line : (asked : Event) → ((snapshot : ℕ) → asked ≢ event.Unwind snapshot) → IsOneLine asked
+is_one_line (event.Unwind snapshot) other = absurd (other snapshot refl)
+is_one_line _ other = tt
+
 module _ (images : List SpanData) (few : length images < 2 ^ 32) where
   -- each event has an answer that is told
   pub some_answer : (asked : Event) → (answer : Answer) × IsToldAnswer images asked answer

@@ -7,7 +7,6 @@ ghost use Rattle.event_script.specs.Fields.{pieces};
 ghost use Rattle.event_script.specs.Text.{trace_lines, IsPrintable};
 ghost use Rattle.event_script.specs.declared.script.Event.TheVariants as event;
 ghost use Rattle.journal_reader.specs.Told.{IsToldAnswer, IsToldTrace};
-ghost use Rattle.journal_reader.specs.Reading.{IsOneLine};
 ghost use Rattle.journal_reader.specs.JournalLines.{line_at, event_lines, thread_lines};
 ghost use Rattle.journal_reader.specs.JournalLines.{round_lines, numbered_lines, updates_line};
 ghost use Rattle.journal_reader.specs.ReadLines.{ReadsLines};
@@ -111,34 +110,6 @@ impl<'a> Reader<'a> {
         }
     }
 
-    /// The line of an event that isn't a backtrace.
-    fn read_line(
-        &mut self,
-        alloc: Global,
-        number: EventNumber,
-        event: &Event,
-    ) -> Result<Option<Answer>, NoMemory>
-        requires few { length self.old.images.now < 2 ^ 32 }
-        requires one { IsOneLine event.now }
-        ensures images { self.new.images.now ≡ self.old.images.now }
-        ensures lines { IfOk result (λ read. ReadsLines
-            (IsToldAnswer self.old.images.now event.now)
-            (event_lines number.round number.thread number.event)
-            (pieces 10 self.old.rest.now) read (pieces 10 self.new.rest.now)) }
-    {
-        let Some((line, rest)) = next_line(self.rest) else {
-            return Ok(None);
-        };
-        let head = event_head(alloc, number, event)?;
-        match first_line(self.images, head.as_str(), event, line) {
-            None => Ok(None),
-            Some(answer) => {
-                self.rest = rest;
-                Ok(Some(answer))
-            }
-        }
-    }
-
     /// The lines of an event.
     fn read_answer(
         &mut self,
@@ -153,9 +124,19 @@ impl<'a> Reader<'a> {
             (event_lines number.round number.thread number.event)
             (pieces 10 self.old.rest.now) read (pieces 10 self.new.rest.now)) }
     {
-        match event {
-            Event::Unwind { snapshot } => self.read_unwind(alloc, number, *snapshot),
-            _ => self.read_line(alloc, number, event),
+        if let Event::Unwind { snapshot } = event {
+            return self.read_unwind(alloc, number, *snapshot);
+        }
+        let Some((line, rest)) = next_line(self.rest) else {
+            return Ok(None);
+        };
+        let head = event_head(alloc, number, event)?;
+        match first_line(self.images, head.as_str(), event, line) {
+            None => Ok(None),
+            Some(answer) => {
+                self.rest = rest;
+                Ok(Some(answer))
+            }
         }
     }
 
