@@ -198,46 +198,23 @@ fn told_place(images: &[Span], text: &[u8]) -> Option<Place>
 fn told_answer(images: &[Span], event: &Event, text: &[u8]) -> Option<Answer>
     ensures { result ≡ told_answer images.now event.now text.now }
 {
-    match event {
+    match *event {
         Event::Register { image } => {
-            let answer = inserted_in(images, text)?;
-            Some(Answer::Register {
-                image: *image,
-                answer,
-            })
+            inserted_in(images, text).map(|answer| Answer::Register { image, answer })
         }
         Event::Deregister { base } => {
-            let answer = removed_in(images, text)?;
-            Some(Answer::Deregister {
-                base: *base,
-                answer,
-            })
+            removed_in(images, text).map(|answer| Answer::Deregister { base, answer })
         }
         Event::Replace { image } => {
-            let answer = replaced_in(images, text)?;
-            Some(Answer::Replace {
-                image: *image,
-                answer,
-            })
+            replaced_in(images, text).map(|answer| Answer::Replace { image, answer })
         }
         Event::Load { image } => {
-            let answer = loading_in(images, text)?;
-            Some(Answer::Load {
-                image: *image,
-                answer,
-            })
+            loading_in(images, text).map(|answer| Answer::Load { image, answer })
         }
         Event::Unload { base } => {
-            let answer = removed_in(images, text)?;
-            Some(Answer::Unload {
-                base: *base,
-                answer,
-            })
+            removed_in(images, text).map(|answer| Answer::Unload { base, answer })
         }
-        Event::Find { pc } => {
-            let place = told_place(images, text)?;
-            Some(Answer::Find { pc: *pc, place })
-        }
+        Event::Find { pc } => told_place(images, text).map(|place| Answer::Find { pc, place }),
         Event::Unwind { .. } => None,
     }
 }
