@@ -99,34 +99,17 @@ pub fn statement_of(alloc: Global, kind: Kind, rest: &[u8]) -> Result<Statement,
         Kind::Memory => Ok(Statement::Memory(memory_fields(alloc, rest)?)),
         Kind::Round => fieldless(rest, Statement::Round),
         Kind::Thread => fieldless(rest, Statement::Thread),
-        Kind::Register => {
-            let image = one_decimal(rest)?;
-            Ok(Statement::Event(Event::Register { image }))
-        }
-        Kind::Deregister => {
-            let base = one_hex(rest)?;
-            Ok(Statement::Event(Event::Deregister { base }))
-        }
-        Kind::Replace => {
-            let image = one_decimal(rest)?;
-            Ok(Statement::Event(Event::Replace { image }))
-        }
-        Kind::Load => {
-            let image = one_decimal(rest)?;
-            Ok(Statement::Event(Event::Load { image }))
-        }
-        Kind::Unload => {
-            let base = one_hex(rest)?;
-            Ok(Statement::Event(Event::Unload { base }))
-        }
-        Kind::Find => {
-            let pc = one_hex(rest)?;
-            Ok(Statement::Event(Event::Find { pc }))
-        }
-        Kind::Unwind => {
-            let snapshot = one_decimal(rest)?;
-            Ok(Statement::Event(Event::Unwind { snapshot }))
-        }
+        Kind::Register => one_decimal(rest).map(|image| Statement::Event(Event::Register {
+            image,
+        })),
+        Kind::Deregister => one_hex(rest).map(|base| Statement::Event(Event::Deregister { base })),
+        Kind::Replace => one_decimal(rest).map(|image| Statement::Event(Event::Replace { image })),
+        Kind::Load => one_decimal(rest).map(|image| Statement::Event(Event::Load { image })),
+        Kind::Unload => one_hex(rest).map(|base| Statement::Event(Event::Unload { base })),
+        Kind::Find => one_hex(rest).map(|pc| Statement::Event(Event::Find { pc })),
+        Kind::Unwind => one_decimal(rest).map(|snapshot| Statement::Event(Event::Unwind {
+            snapshot,
+        })),
         Kind::End => fieldless(rest, Statement::End),
     }
 }
