@@ -10,7 +10,7 @@ use Rattle.hex.proofs.HexLemmas.{decode_of-even}
 use Rattle.event_script.specs.Lower.{is_lower, lower_value, pair_bytes}
 use Rattle.event_script.specs.Fields.{hex_bytes_in}
 use Rattle.event_script.proofs.Numbers.{IsGlyph}
-use Rattle.event_script.proofs.Sections.{lower_below, undecoded_in, decoded_in}
+use Rattle.event_script.proofs.Sections.{lower_below, undecoded_in, decoded_in, or_right}
 
 -- ---- the table
 
@@ -21,10 +21,6 @@ pub table_value : (c : ℕ) → c < 256 → get_or digits_table c 0 ≡ lower_va
 table_value c within = eqb-true (get_or digits_table c 0) (lower_value c) (agree_below_at (λ c. eqb (get_or digits_table c 0) (lower_value c)) (λ _. true) 256 c refl within)
 
 -- ---- one digit
-
-or_right : (x y : Bool) → (not x || y) ≡ true → x ≡ true → y ≡ true
-or_right true y e t = e
-or_right false y e t = absurd cc
 
 abbrev is_its_glyph : ℕ → Bool
 is_its_glyph c = not (ltb (lower_value c) 16) || eqb c (digit_glyph false (lower_value c))

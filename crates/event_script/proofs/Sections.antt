@@ -29,9 +29,9 @@ use Rattle.event_script.specs.declared.reader.fault.Reason.TheVariants as reason
 abbrev is_its_digit : ℕ → Bool
 is_its_digit c = not (is_lower c) || eqb (slice_index lower_digits (unwrap_or (hex_digit_value c) 0)) c
 
-or_right_of : (x y : Bool) → (not x || y) ≡ true → x ≡ true → y ≡ true
-or_right_of true y e t = e
-or_right_of false y e t = absurd cc
+pub or_right : (x y : Bool) → (not x || y) ≡ true → x ≡ true → y ≡ true
+or_right true y e t = e
+or_right false y e t = absurd cc
 
 pub lower_below : (c : ℕ) → is_lower c ≡ true → c < 256
 lower_below c e = elim (or_cases (leb 48 c && leb c 57) (leb 97 c && leb c 102) e) [
@@ -42,7 +42,7 @@ lower_below c e = elim (or_cases (leb 48 c && leb c 57) (leb 97 c && leb c 102) 
 lower_digit : (c v : ℕ) → is_lower c ≡ true → hex_digit_value c ≡ Some v → slice_index lower_digits v ≡ c
 lower_digit c v lower is =
     let table = agree_below_at is_its_digit (λ _. true) 256 c refl (lower_below c lower) in
-    let same = or_right_of (is_lower c) (eqb (slice_index lower_digits (unwrap_or (hex_digit_value c) 0)) c) table lower in
+    let same = or_right (is_lower c) (eqb (slice_index lower_digits (unwrap_or (hex_digit_value c) 0)) c) table lower in
     ap (λ (o : Option ℕ). slice_index lower_digits (unwrap_or o 0)) (sym is) ∙ eqb-true (slice_index lower_digits (unwrap_or (hex_digit_value c) 0)) c same
 
 digit_small : (c v : ℕ) → hex_digit_value c ≡ Some v → v < 16

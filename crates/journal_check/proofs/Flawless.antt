@@ -2,7 +2,7 @@
 use Rattle.std.proofs.Common.{◌≡◌, ℕ, ◌+◌, ◌-◌, ◌<◌, ◌≤◌, zero, suc, List, [], ◌∷◌, length, Option, Some, None, IfSome, Bool, true, false, cond, ◌&&◌, eqb, leb, All, inl, inr, refl, sym, ◌∙◌, ap, subst, arith}
 use Rattle.std.specs.List.{Contains, slice_get}
 use Rattle.std.specs.Option.{is_some}
-use Rattle.std.proofs.lemmas.Bool.{eqb-true, eq-eqb, leb-true, and_parts}
+use Rattle.std.proofs.lemmas.Bool.{eqb-true, eq-eqb, leb-true, and_parts, false_from_ne_true}
 use Rattle.std.proofs.lemmas.Bool.Decides.{nat_tests}
 use Rattle.std.proofs.lemmas.List.Sums.{sum_by-cons}
 use Rattle.std.proofs.lemmas.List.Elements.{All-weaker, All-map, All-nil, All-contains_itself, Contains-append_cases, Contains-push_cases}
@@ -93,10 +93,6 @@ pub if_some : (a : Option Update) (P : Type 0) → (is_some a ≡ true → P) �
 if_some None P so = tt
 if_some (Some u) P so = so refl
 
-pub not_true : (b : Bool) → (b ≡ true → ⊥) → b ≡ false
-not_true true never = absurd (never refl)
-not_true false never = refl
-
 pub own_number : (r : Receipt) → is_some (accepted r) ≡ true → has_number (moment r) r ≡ true
 own_number r is = rw is (eq-eqb (moment r) (moment r) refl)
 
@@ -107,7 +103,7 @@ module _ (told : List Told) (n : ℕ) (numbered : AreNumbered n (told_receipts t
   is_new : (t : Told) → Contains told t → is_some (accepted t.receipt) ≡ true → All (λ o. o.line < t.line → has_number (moment t.receipt) o.receipt ≡ false) told
   is_new t listed is =
       let k = moment t.receipt in
-      All-weaker (Contains told) (λ o. o.line < t.line → has_number k o.receipt ≡ false) (λ o other less. not_true (has_number k o.receipt) (λ had.
+      All-weaker (Contains told) (λ o. o.line < t.line → has_number k o.receipt ≡ false) (λ o other less. false_from_ne_true (has_number k o.receipt) (λ had.
       let many = listed_twice k told t o listed other less (own_number t.receipt is) had in
       let few = at_most_one (leb 1 k && leb k n) (times k (told_receipts told)) (numbered k) in
       omega arith)) told (All-contains_itself told)

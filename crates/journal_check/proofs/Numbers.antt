@@ -1,4 +1,5 @@
 -- The numbers of what is told without a flaw, and the history that they tell.
+use Rattle.std.proofs.lemmas.Bool.{false_from_ne_true}
 use Rattle.std.proofs.Common.{◌≡◌, ℕ, ◌+◌, ◌<◌, ◌≤◌, zero, suc, List, [], ◌∷◌, ◌++◌, length, get_or, take, Option, Some, None, IfSome, Bool, true, false, cond, ◌&&◌, leb, All, inl, inr, refl, sym, ◌∙◌, ap, subst, add-one, length-append, arith}
 use Rattle.std.specs.List.{Contains, find}
 use Rattle.std.specs.Option.{is_some, option_and_then, option_to_list}
@@ -16,7 +17,7 @@ use Rattle.receipt_check.specs.declared.account.Told.{Told}
 use Rattle.receipt_check.specs.Flaws.{told_receipts, HasOwnNumber, accepted_count}
 use Rattle.journal_check.proofs.Ascending.{Before, Ascends}
 use Rattle.journal_check.proofs.Once.{times, times_cons, Within, total, total_is, each_once}
-use Rattle.journal_check.proofs.Flawless.{mark, times_told, count_told, not_true}
+use Rattle.journal_check.proofs.Flawless.{mark, times_told, count_told}
 
 pub from_some : (a : Option Update) (P : Type 0) → IfSome a (λ u. P) → is_some a ≡ true → P
 from_some None P so is = absurd cc
@@ -37,7 +38,7 @@ times_zero k (t ∷ told) none =
 
 module _ (all : List Told) (n : ℕ) where
   later_other : (k : ℕ) (t o : Told) → HasOwnNumber all n o → Contains all t → Before t o → has_number k t.receipt ≡ true → has_number k o.receipt ≡ false
-  later_other k t o own listed before has = not_true (has_number k o.receipt) (λ had.
+  later_other k t o own listed before has = false_from_ne_true (has_number k o.receipt) (λ had.
       let parts = number_parts k o.receipt had in
       let new = (from_some (accepted o.receipt) _ own parts.0).2 in
       let other = All-contains (λ x. x.line < o.line → has_number (moment o.receipt) x.receipt ≡ false) all t new listed (before (number_parts k t.receipt has).0) in
@@ -70,7 +71,7 @@ outside n k [] within never = refl
 outside n k (r ∷ rs) within never =
     let one : Bool → ℕ = λ b. cond b 1 0 in
     let P : ℕ → Type 0 = λ j. (0 < j) × (j ≤ n) in
-    let no = not_true (has_number k r) (λ had. let parts = number_parts k r had in never (subst P parts.1 (from_some (accepted r) _ (All-head (Within n) r rs within) parts.0))) in
+    let no = false_from_ne_true (has_number k r) (λ had. let parts = number_parts k r had in never (subst P parts.1 (from_some (accepted r) _ (All-head (Within n) r rs within) parts.0))) in
     let here : one (has_number k r) ≡ 0 = ap one no in
     let rest = outside n k rs (All-tail (Within n) r rs within) never in
     let sum = times_cons k r rs in
