@@ -16,7 +16,7 @@ use Rattle.event_script.specs.ScriptData.{ScriptData}
 use Rattle.event_script.specs.JournalData.{JournalData}
 use Rattle.event_script.specs.Lawful.{IsLawfulJournal, RoundsHold, thread_receipts, in_one, start_of, done_after}
 use Rattle.receipt_check.specs.declared.account.Told.{Told}
-use Rattle.receipt_check.specs.declared.account.Flaw.TheVariants.{Number, Count, History, Answer, Order, Round}
+use Rattle.receipt_check.specs.declared.account.ReceiptFlaw.TheVariants.{Number, Count, History, Answer, Order, Round}
 use Rattle.receipt_check.specs.Flaws.{AccountData, told_receipts, told_history, HasOwnNumber, FitsInTurn, HoldsAsTold, ComesInOrder, ComesInRound, accepted_count, IsFlawless}
 use Rattle.journal_check.specs.Telling.{account_of}
 use Rattle.journal_check.specs.declared.teller.Bounds.{Bounds}

@@ -15,7 +15,7 @@ use Rattle.event_script.specs.JournalData.{JournalData}
 use Rattle.event_script.specs.Lawful.{RoundsHold, AreInRounds, thread_receipts, in_one, start_of, done_after, AnswersEvent, IsUnfolded, IsLawfulJournal}
 use Rattle.receipt_check.proofs.Halves.{All-front, All-back}
 use Rattle.receipt_check.specs.declared.account.Told.{Told}
-use Rattle.receipt_check.specs.declared.account.Flaw.TheVariants as flaw
+use Rattle.receipt_check.specs.declared.account.ReceiptFlaw.TheVariants as flaw
 use Rattle.receipt_check.specs.Flaws.{AccountData, told_receipts, told_history, IsFlawless}
 use Rattle.journal_check.specs.Telling.{account_of}
 use Rattle.journal_check.specs.declared.teller.Bounds.{Bounds}

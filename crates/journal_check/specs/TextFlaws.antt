@@ -10,8 +10,8 @@ use Rattle.event_script.specs.declared.journal.Answer.TheVariants.{Unwind}
 use Rattle.journal_reader.specs.FormFlaw.{TellsJournal, FormFlaw}
 use Rattle.trace_check.specs.Departures.{IsDeparture}
 use Rattle.receipt_check.specs.Flaws.{IsFlawless, CountsFirst}
-use Rattle.receipt_check.specs.declared.account.Flaw as receipts
-use Rattle.receipt_check.specs.declared.account.Flaw.TheVariants as receipt_flaw
+use Rattle.receipt_check.specs.declared.account.ReceiptFlaw as receipts
+use Rattle.receipt_check.specs.declared.account.ReceiptFlaw.TheVariants as receipt_flaw
 use Rattle.journal_check.specs.Telling.{account_of}
 use Rattle.journal_check.specs.declared.verdict.Flaw.{Flaw}
 use Rattle.journal_check.specs.declared.verdict.Flaw.TheVariants as flaw
@@ -60,7 +60,7 @@ IsTraceFlaw script journal line = DepartsFirst script (answers_of journal.rounds
 -- ---- the table
 
 -- the flaws of receipts among those of texts
-abbrev pub text_flaw : receipts.Flaw → Flaw
+abbrev pub text_flaw : receipts.ReceiptFlaw → Flaw
 text_flaw receipt_flaw.Number = flaw.Number
 text_flaw receipt_flaw.Count = flaw.Count
 text_flaw receipt_flaw.History = flaw.History
@@ -72,7 +72,7 @@ text_flaw receipt_flaw.Round = flaw.Round
 -- receipts, and where nothing is wrong with these, that of its backtraces.
 abbrev pub CountsOfTold : ScriptData → JournalData → ℕ → Flaw → Type 0
 CountsOfTold script journal line which =
-    ((found : receipts.Flaw) × (which ≡ text_flaw found)
+    ((found : receipts.ReceiptFlaw) × (which ≡ text_flaw found)
     × CountsFirst (account_of script journal) line found)
     ⊎ ((which ≡ flaw.Trace) × IsFlawless (account_of script journal)
     × IsTraceFlaw script journal line)

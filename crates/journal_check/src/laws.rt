@@ -12,8 +12,8 @@ ghost use Rattle.event_script.specs.Lawful.{thread_receipts, in_one, AreInRounds
 ghost use Rattle.event_script.specs.Lawful.{IsLawfulJournal, AnswersEvent, IsUnfolded};
 ghost use Rattle.receipt_check.specs.Flaws.{AccountData, told_receipts, IsFreeOf, IsFlawless};
 ghost use Rattle.receipt_check.specs.Flaws.{CountsFirst};
-ghost use Rattle.receipt_check.specs.declared.account.Flaw.{Flaw};
-ghost use Rattle.receipt_check.specs.declared.account.Flaw.TheVariants as flaw;
+ghost use Rattle.receipt_check.specs.declared.account.ReceiptFlaw.{ReceiptFlaw};
+ghost use Rattle.receipt_check.specs.declared.account.ReceiptFlaw.TheVariants as flaw;
 ghost use Rattle.journal_check.specs.Telling.{account_of, receipt_lines};
 ghost use Rattle.journal_check.specs.TextFlaws.{IsVerdictOn};
 ghost use Rattle.journal_check.specs.declared.verdict.Verdict.{Verdict};
@@ -21,10 +21,10 @@ ghost use Rattle.journal_check.specs.declared.verdict.Verdict.{Verdict};
 /// Of what is told, one flaw at the most counts first, on one line, and none where nothing is
 /// wrong.
 pub fn one_verdict()
-    ensures one { (a : AccountData) (line other : ℕ) (which another : Flaw)
+    ensures one { (a : AccountData) (line other : ℕ) (which another : ReceiptFlaw)
         → CountsFirst a line which → CountsFirst a other another
         → (line ≡ other) × (which ≡ another) }
-    ensures none { (a : AccountData) (line : ℕ) (which : Flaw)
+    ensures none { (a : AccountData) (line : ℕ) (which : ReceiptFlaw)
         → IsFlawless a → CountsFirst a line which → ⊥ }
 {}
 

@@ -27,16 +27,16 @@ pub enum Flaw {
 
 impl Flaw {
     /// A flaw of receipts, as one of texts.
-    pub fn of_receipts(flaw: receipt_check::Flaw) -> Self
+    pub fn of_receipts(flaw: receipt_check::ReceiptFlaw) -> Self
         ensures { result ≡ text_flaw flaw }
     {
         match flaw {
-            receipt_check::Flaw::Number => Flaw::Number,
-            receipt_check::Flaw::Count => Flaw::Count,
-            receipt_check::Flaw::History => Flaw::History,
-            receipt_check::Flaw::Answer => Flaw::Answer,
-            receipt_check::Flaw::Order => Flaw::Order,
-            receipt_check::Flaw::Round => Flaw::Round,
+            receipt_check::ReceiptFlaw::Number => Flaw::Number,
+            receipt_check::ReceiptFlaw::Count => Flaw::Count,
+            receipt_check::ReceiptFlaw::History => Flaw::History,
+            receipt_check::ReceiptFlaw::Answer => Flaw::Answer,
+            receipt_check::ReceiptFlaw::Order => Flaw::Order,
+            receipt_check::ReceiptFlaw::Round => Flaw::Round,
         }
     }
 }

@@ -3,7 +3,7 @@
 use event_script::read;
 use journal_check::judge;
 use journal_reader::read_journal;
-use receipt_check::{Departure, Flaw};
+use receipt_check::{Departure, ReceiptFlaw};
 use std::alloc::Global;
 use std::test::Fail;
 
@@ -109,7 +109,7 @@ fn one_range_fewer_is_wrong(rt: HostRuntime) -> Result<(), Fail> {
     let found = flaw_of(rt.alloc(), FIFTEEN)?;
     let answer = Departure {
         line: 16,
-        flaw: Flaw::Answer,
+        flaw: ReceiptFlaw::Answer,
     };
     assert!(rt; found == Some(answer));
     Ok(())

@@ -3,7 +3,7 @@
 use event_script::{Script, read};
 use journal_check::judge;
 use journal_reader::read_journal;
-use receipt_check::{Departure, Flaw};
+use receipt_check::{Departure, ReceiptFlaw};
 use std::alloc::Global;
 use std::test::Fail;
 
@@ -53,7 +53,7 @@ fn flaw_with(
 }
 
 /// A line, and what is wrong there.
-fn at(line: u64, flaw: Flaw) -> Option<Departure> {
+fn at(line: u64, flaw: ReceiptFlaw) -> Option<Departure> {
     Some(Departure { line, flaw })
 }
 
@@ -70,9 +70,9 @@ fn another_payload_is_named(rt: HostRuntime) -> Result<(), Fail> {
     let alloc = rt.alloc();
     let script = read(alloc, SCRIPT.as_bytes())?;
     let new = flaw_with(alloc, &script, "done 2 image 0", "done 2 image 1")?;
-    assert!(rt; new == at(4, Flaw::History));
+    assert!(rt; new == at(4, ReceiptFlaw::History));
     let removed = flaw_with(alloc, &script, "done 3 image 1", "done 3 image 0")?;
-    assert!(rt; removed == at(7, Flaw::History));
+    assert!(rt; removed == at(7, ReceiptFlaw::History));
     Ok(())
 }
 
@@ -81,8 +81,8 @@ fn absent_where_it_stands(rt: HostRuntime) -> Result<(), Fail> {
     let alloc = rt.alloc();
     let script = read(alloc, SCRIPT.as_bytes())?;
     let stands = flaw_with(alloc, &script, "absent at 0", "absent at 1")?;
-    assert!(rt; stands == at(1, Flaw::Answer));
+    assert!(rt; stands == at(1, ReceiptFlaw::Answer));
     let found = flaw_with(alloc, &script, "registered 1 at 2", "registered 0 at 2")?;
-    assert!(rt; found == at(5, Flaw::Answer));
+    assert!(rt; found == at(5, ReceiptFlaw::Answer));
     Ok(())
 }

@@ -3,7 +3,7 @@
 use event_script::{Script, read};
 use journal_check::judge;
 use journal_reader::read_journal;
-use receipt_check::{Departure, Flaw};
+use receipt_check::{Departure, ReceiptFlaw};
 use std::alloc::Global;
 use std::test::Fail;
 
@@ -47,7 +47,7 @@ fn flaw_with(
 }
 
 /// A line, and what is wrong there.
-fn at(line: u64, flaw: Flaw) -> Option<Departure> {
+fn at(line: u64, flaw: ReceiptFlaw) -> Option<Departure> {
     Some(Departure { line, flaw })
 }
 
@@ -64,9 +64,9 @@ fn numbers_and_their_count(rt: HostRuntime) -> Result<(), Fail> {
     let alloc = rt.alloc();
     let script = read(alloc, SCRIPT.as_bytes())?;
     let twice = flaw_with(alloc, &script, "done 2", "done 1")?;
-    assert!(rt; twice == at(4, Flaw::Number));
+    assert!(rt; twice == at(4, ReceiptFlaw::Number));
     let count = flaw_with(alloc, &script, "updates 2", "updates 3")?;
-    assert!(rt; count == at(6, Flaw::Count));
+    assert!(rt; count == at(6, ReceiptFlaw::Count));
     Ok(())
 }
 
@@ -75,9 +75,9 @@ fn answers_and_their_order(rt: HostRuntime) -> Result<(), Fail> {
     let alloc = rt.alloc();
     let script = read(alloc, SCRIPT.as_bytes())?;
     let early = flaw_with(alloc, &script, "registered 0 at 1", "registered 0 at 0")?;
-    assert!(rt; early == at(2, Flaw::Answer));
+    assert!(rt; early == at(2, ReceiptFlaw::Answer));
     let after = "none at 2 loaded none at 2\n1.1.4";
     let order = flaw_with(alloc, &script, "none at 1 loaded none at 1\n1.1.4", after)?;
-    assert!(rt; order == at(4, Flaw::Order));
+    assert!(rt; order == at(4, ReceiptFlaw::Order));
     Ok(())
 }

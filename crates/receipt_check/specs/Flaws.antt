@@ -8,8 +8,8 @@ use Rattle.reg_model.specs.Numbers.{has_number, history_of}
 use Rattle.reg_model.specs.declared.answer.Update.{Update}
 use Rattle.reg_model.specs.declared.answer.Receipt.{Receipt}
 use Rattle.receipt_check.specs.declared.account.Told.{Told}
-use Rattle.receipt_check.specs.declared.account.Flaw.{Flaw}
-use Rattle.receipt_check.specs.declared.account.Flaw.TheVariants as flaw
+use Rattle.receipt_check.specs.declared.account.ReceiptFlaw.{ReceiptFlaw}
+use Rattle.receipt_check.specs.declared.account.ReceiptFlaw.TheVariants as flaw
 
 -- what a contract sees of all that is told: receipts in the order of their lines, how many updates
 -- were made as the last line says, that line, the registry's first state, and its nodes
@@ -76,7 +76,7 @@ abbrev pub accepted_count : List Told → ℕ
 accepted_count told = count_by (λ t. is_some (accepted t.receipt)) told
 
 -- nothing is wrong in this way
-abbrev pub IsFreeOf : AccountData → Flaw → Type 0
+abbrev pub IsFreeOf : AccountData → ReceiptFlaw → Type 0
 IsFreeOf a flaw.Number = All (HasOwnNumber a.told a.updates) a.told
 IsFreeOf a flaw.Count = accepted_count a.told ≡ a.updates
 IsFreeOf a flaw.History = (k : ℕ) → k < a.updates → UpdateFits a k
@@ -91,7 +91,7 @@ IsFirstMisfit a line =
     × IsFirstLine (FitsInTurn (state_at a.start (told_history a) k) (k + 1)) a.told line
 
 -- something is wrong in this way, and this is its line
-abbrev pub IsFlawAt : AccountData → Flaw → ℕ → Type 0
+abbrev pub IsFlawAt : AccountData → ReceiptFlaw → ℕ → Type 0
 IsFlawAt a flaw.Number line = IsFirstLine (HasOwnNumber a.told a.updates) a.told line
 IsFlawAt a flaw.Count line = (accepted_count a.told ≢ a.updates) × (line ≡ a.last)
 IsFlawAt a flaw.History line = IsFirstMisfit a line
@@ -100,7 +100,7 @@ IsFlawAt a flaw.Order line = IsFirstLine ComesInOrder a.told line
 IsFlawAt a flaw.Round line = IsFirstLine ComesInRound a.told line
 
 -- flaws with a lower rank count first
-abbrev pub rank : Flaw → ℕ
+abbrev pub rank : ReceiptFlaw → ℕ
 rank flaw.Number = 2
 rank flaw.Count = 3
 rank flaw.History = 4
@@ -110,13 +110,13 @@ rank flaw.Round = 7
 
 -- nothing is wrong in a way that counts before this one
 abbrev pub IsFreeBefore : AccountData → ℕ → Type 0
-IsFreeBefore a r = (other : Flaw) → rank other < r → IsFreeOf a other
+IsFreeBefore a r = (other : ReceiptFlaw) → rank other < r → IsFreeOf a other
 
 -- this flaw counts, and this is its line
-pub record CountsFirst (a : AccountData) (line : ℕ) (which : Flaw) : Type 0 where
+pub record CountsFirst (a : AccountData) (line : ℕ) (which : ReceiptFlaw) : Type 0 where
   pub at : IsFlawAt a which line
   pub before : IsFreeBefore a (rank which)
 
 -- nothing is wrong
 abbrev pub IsFlawless : AccountData → Type 0
-IsFlawless a = (which : Flaw) → IsFreeOf a which
+IsFlawless a = (which : ReceiptFlaw) → IsFreeOf a which

@@ -52,7 +52,7 @@ impl Model for Account {
 
 /// What is wrong, in the order in which it counts.
 #[derive(Clone, Copy, Debug, PartialEq, Eq)]
-pub enum Flaw {
+pub enum ReceiptFlaw {
     /// An accepted update has no number of its own, from 1 to the number of updates.
     Number,
     /// Another number of updates was accepted than the last line says.
@@ -72,5 +72,5 @@ pub enum Flaw {
 #[derive(Clone, Copy, Debug, PartialEq, Eq)]
 pub struct Departure {
     pub line: u64,
-    pub flaw: Flaw,
+    pub flaw: ReceiptFlaw,
 }

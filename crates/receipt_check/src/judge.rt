@@ -3,7 +3,7 @@
 ghost use Rattle.std.specs.Prelude.{◌≡◌, IfOk, MatchOption};
 ghost use Rattle.receipt_check.specs.Flaws.{IsFlawless, IsFreeBefore, CountsFirst};
 
-use crate::account::{Account, Departure, Flaw};
+use crate::account::{Account, Departure, ReceiptFlaw};
 use crate::answers::first_wrong;
 use crate::firsts::{accepted_in, first_out_of_order, first_out_of_round};
 use crate::history::{first_misfit, history_in};
@@ -26,7 +26,7 @@ pub fn first_flaw(alloc: Global, account: &Account) -> Result<Option<Departure>,
     Ok(flaw_of_places(account))
 }
 
-fn departure(line: u64, flaw: Flaw) -> Option<Departure>
+fn departure(line: u64, flaw: ReceiptFlaw) -> Option<Departure>
     ensures { result ≡ Some (record { line = line; flaw = flaw }) }
 {
     Some(Departure { line, flaw })
@@ -38,10 +38,10 @@ fn flaw_of_numbers(alloc: Global, account: &Account) -> Result<Option<Departure>
         (λ d. CountsFirst account.now d.line d.flaw)) }
 {
     if let Some(line) = first_misnumbered(alloc, &account.told, account.updates)? {
-        return Ok(departure(line, Flaw::Number));
+        return Ok(departure(line, ReceiptFlaw::Number));
     }
     if accepted_in(&account.told) != account.updates as usize {
-        return Ok(departure(account.last, Flaw::Count));
+        return Ok(departure(account.last, ReceiptFlaw::Count));
     }
     Ok(None)
 }
@@ -55,10 +55,10 @@ fn flaw_of_answers(alloc: Global, account: &Account) -> Result<Option<Departure>
     let history = history_in(alloc, &account.told, account.updates)?;
     let turns = in_turn(alloc, &account.told)?;
     if let Some(line) = first_misfit(alloc, account, &history, &turns)? {
-        return Ok(departure(line, Flaw::History));
+        return Ok(departure(line, ReceiptFlaw::History));
     }
     if let Some(line) = first_wrong(alloc, account, &history, &turns)? {
-        return Ok(departure(line, Flaw::Answer));
+        return Ok(departure(line, ReceiptFlaw::Answer));
     }
     Ok(None)
 }
@@ -70,10 +70,10 @@ fn flaw_of_places(account: &Account) -> Option<Departure>
         (λ d. CountsFirst account.now d.line d.flaw) }
 {
     if let Some(line) = first_out_of_order(&account.told) {
-        return departure(line, Flaw::Order);
+        return departure(line, ReceiptFlaw::Order);
     }
     if let Some(line) = first_out_of_round(&account.told) {
-        return departure(line, Flaw::Round);
+        return departure(line, ReceiptFlaw::Round);
     }
     None
 }

@@ -23,6 +23,6 @@ mod receipts;
 mod rows;
 mod turns;
 
-pub use account::{Account, Departure, Flaw, Told};
+pub use account::{Account, Departure, ReceiptFlaw, Told};
 pub use judge::first_flaw;
 pub use receipts::moment_of;
