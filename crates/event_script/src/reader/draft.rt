@@ -86,11 +86,11 @@ impl Model for Draft {
 }
 
 /// The section at an address.
-fn section_of(alloc: Global, address: u64, bytes: &[u8]) -> Result<Section, LineFault>
-    requires { length bytes.now ≤ MOST_SECTION_BYTES }
-    ensures { GivesLine result (section_or (section_of address bytes.now)) }
+fn section_of(alloc: Global, address: u64, bytes: Vec<u8>) -> Result<Section, LineFault>
+    requires { length bytes.items ≤ MOST_SECTION_BYTES }
+    ensures { GivesLine result (section_or (section_of address bytes.items)) }
 {
-    match Section::read(alloc, address, bytes) {
+    match Section::keep(alloc, address, bytes) {
         Ok(section) => Ok(section),
         Err(fault) => match fault {
             FrameFault::NoMemory => Err(LineFault::NoMemory),
@@ -226,7 +226,7 @@ impl Draft {
             return Err(Reason::Limit.into());
         }
         let span = Span::new(image.base, image.size).ok_or(Reason::Span)?;
-        let section = section_of(alloc, image.section, &image.bytes)?;
+        let section = section_of(alloc, image.section, image.bytes)?;
         self.sections.push(section)?;
         self.images.push(span)?;
         Ok(())

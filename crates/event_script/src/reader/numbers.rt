@@ -35,6 +35,20 @@ fn digit_of(byte: u8) -> u8
     DIGITS[byte as usize]
 }
 
+/// The same without a table: a loop over many bytes then has them sixteen at a time.
+#[inline(always)]
+fn computed_digit(byte: u8) -> u8
+    ensures { result ≡ lower_value byte }
+{
+    if b'0' <= byte && byte <= b'9' {
+        byte - b'0'
+    } else if b'a' <= byte && byte <= b'f' {
+        byte - b'a' + 10
+    } else {
+        255
+    }
+}
+
 /// The number whose digits in the base the field is, where it has at most so many.
 fn number_of(base: u64, most: usize, field: &[u8]) -> Option<u64>
     requires base { (2 ≤ base) × (base ≤ 16) }
@@ -89,8 +103,8 @@ fn decode_pairs(field: &[u8], bytes: &mut [u8]) -> bool
     let mut index = 0;
     let mut left = field;
     while let [high, low, rest @ ..] = left {
-        let high = digit_of(*high);
-        let low = digit_of(*low);
+        let high = computed_digit(*high);
+        let low = computed_digit(*low);
         lower = lower & (high < 16) & (low < 16);
         bytes[index] = high.wrapping_mul(16).wrapping_add(low);
         index += 1;
