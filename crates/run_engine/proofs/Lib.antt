@@ -1,6 +1,6 @@
-pub mod Numbered
 pub mod Lists
 pub mod Told
+pub mod Numbered
 pub mod Chains
 pub mod Sharing
 pub mod Teams

@@ -1,10 +1,10 @@
 -- What is kept of answers tells them.
-use Rattle.std.proofs.Common.{◌≡◌, ℕ, ◌<◌, ◌≤◌, zero, suc, List, [], ◌∷◌, ◌++◌, length, get_or, map, refl, sym, ◌∙◌, ap, subst, arith}
+use Rattle.std.proofs.Common.{◌≡◌, ℕ, ◌<◌, ◌≤◌, zero, suc, List, [], ◌∷◌, ◌++◌, length, get_or, refl, sym, ◌∙◌, ap, subst, arith}
 use Rattle.std.specs.Iterator.{Yields}
 use Rattle.std.specs.List.{All, AllZip}
 use Rattle.std.specs.Vec.Iter.{into_iter_items, into_iter_steps}
 use Rattle.std.specs.declared.vec.IntoIter.{IntoIter}
-use Rattle.std.proofs.lemmas.List.{get_or_at, length-append, length-map, map-append}
+use Rattle.std.proofs.lemmas.List.{get_or_at, length-append}
 use Rattle.std.proofs.lemmas.List.Elements.{All-cons, All-from_recursion, All-head, All-tail}
 use Rattle.reg_model.specs.SpanData.{SpanData}
 use Rattle.frame_parse.specs.Sections.{SectionData}
@@ -101,21 +101,6 @@ module _ {A B C : Type 0} (f : A → B → C) where
   zip_beside R P from [] (y ∷ ys) all = absurd all
   zip_beside R P from (x ∷ xs) [] all = absurd all
 
--- how many were given, by how many are held
-pub as_many : {T A B C : Type 0} (f : A → B → C) (held : T → C) (all : List T) (xs : List A) (ys : List B) → map held all ≡ zip_with f xs ys → length ys < length xs → length ys ≡ length all
-as_many f held all xs ys is within =
-    let long = zip_length f xs ys (omega (arith, within)) in
-    let same = ap length is in
-    let count = length-map all held in
-    omega (arith, long, same, count)
-
--- one more, where what is given is held in a type of its own
-pub held_next : {T A B C : Type 0} (f : A → B → C) (held : T → C) (all : List T) (new : T) (xs : List A) (ys : List B) (i : ℕ) (x : A) (y : B) → map held all ≡ zip_with f xs ys → held new ≡ f x y → x ≡ get_or xs i x → length ys ≡ i → i < length xs → map held (all ++ new ∷ []) ≡ zip_with f xs (ys ++ y ∷ [])
-held_next f held all new xs ys i x y is new_is x_is long within =
-    map-append held all (new ∷ [])
-    ∙ (ap (λ zs. zs ++ held new ∷ []) is
-    ∙ (ap (λ z. zip_with f xs ys ++ z ∷ []) (new_is ∙ ap (λ a. f a y) x_is) ∙ sym (zip_next f xs ys i y x long within)))
-
 -- ---- what holds place by place
 
 module _ {A B : Type 0} (R : A → B → Type 0) where
@@ -142,19 +127,37 @@ module _ {X Z : Type 0} where
   given_left s [] t given = ap into_iter_items given
   given_left s (x ∷ xs) t given = given.1.0 ∙ ap (λ ys. x ∷ ys) (given_left given.0 xs t given.2)
 
-  -- what stands beside the next one
-  pub next_within : {A : Type 0} (R : A → X → Type 0) (beside : List A) (s : IntoIter X Z) (xs : List X) (t u : IntoIter X Z) (x : X) → AllZip R beside (into_iter_items s) → Yields into_iter_steps s xs t → into_iter_items t ≡ x ∷ into_iter_items u → length xs < length beside
-  next_within R beside s xs t u x all given next =
-      let same = AllZip-length R beside (into_iter_items s) all in
-      let whole = ap length (given_left s xs t given ∙ ap (λ rest. xs ++ rest) next) in
-      let long = length-append xs (x ∷ into_iter_items u) in
-      omega (arith, same, whole, long)
+-- what stands beside the next one, and what is told of it
+module _ {A X Z : Type 0} (R : A → X → Type 0) (beside : List A) (items : List X) (all : AllZip R beside items) (s t u : IntoIter X Z) (of : into_iter_items s ≡ items) (xs : List X) (x : X) (given : Yields into_iter_steps s xs t) (next : into_iter_items t ≡ x ∷ into_iter_items u) where
+  whole : items ≡ xs ++ x ∷ into_iter_items u
+  whole = sym of ∙ (given_left s xs t given ∙ ap (λ rest. xs ++ rest) next)
 
-  pub next_holds : {A : Type 0} (R : A → X → Type 0) (beside : List A) (s : IntoIter X Z) (xs : List X) (t u : IntoIter X Z) (x : X) (a : A) → AllZip R beside (into_iter_items s) → Yields into_iter_steps s xs t → into_iter_items t ≡ x ∷ into_iter_items u → a ≡ get_or beside (length xs) a → R a x
-  next_holds R beside s xs t u x a all given next a_is =
-      let whole : into_iter_items s ≡ xs ++ x ∷ into_iter_items u = given_left s xs t given ∙ ap (λ rest. xs ++ rest) next in
-      let there : x ≡ get_or (into_iter_items s) (length xs) x = sym (ap (λ ys. get_or ys (length xs) x) whole ∙ get_or_at xs x (into_iter_items u) x (length xs) refl) in
-      AllZip-at R beside (into_iter_items s) (length xs) a x all (next_within R beside s xs t u x all given next) a_is there
+  next_within : length xs < length beside
+  next_within =
+      let same = AllZip-length R beside items all in
+      let parts = ap length whole in
+      let long = length-append xs (x ∷ into_iter_items u) in
+      omega (arith, same, parts, long)
+
+  module _ {C : Type 0} (f : A → X → C) (out : List C) (is : out ≡ zip_with f beside xs) (i : ℕ) (count : i ≡ length out) where
+    next_at : length xs ≡ i
+    next_at =
+        let long = zip_length f beside xs (omega (arith, next_within)) in
+        let same = ap length is in
+        omega (arith, long, same, count)
+
+    pub told_within : i < length beside
+    told_within = omega (arith, next_within, next_at)
+
+    pub told_holds : (a : A) → a ≡ get_or beside i a → R a x
+    told_holds a a_is =
+        let there : x ≡ get_or items (length xs) x = sym (ap (λ ys. get_or ys (length xs) x) whole ∙ get_or_at xs x (into_iter_items u) x (length xs) refl) in
+        AllZip-at R beside items (length xs) a x all next_within (a_is ∙ ap (λ n. get_or beside n a) (sym next_at)) there
+
+    pub told_next : (new : C) (a : A) → new ≡ f a x → a ≡ get_or beside i a → out ++ new ∷ [] ≡ zip_with f beside (xs ++ x ∷ [])
+    told_next new a new_is a_is =
+        ap (λ zs. zs ++ new ∷ []) is
+        ∙ (ap (λ z. zip_with f beside xs ++ z ∷ []) (new_is ∙ ap (λ b. f b x) a_is) ∙ sym (zip_next f beside xs i x a next_at told_within))
 
 -- ---- the answers of all rounds
 

@@ -1,59 +1,32 @@
-use Rattle.std.proofs.Common.{◌≡◌, List, length, get_or, ap, sym, ◌∙◌, subst, arith}
+use Rattle.std.proofs.Common.{◌≡◌, List, length, map, ap, sym, ◌∙◌, subst, arith}
 use Rattle.std.specs.List.{AllZip}
-use Rattle.std.specs.Vec.Iter.{into_iter_items}
+use Rattle.std.proofs.lemmas.List.{length-map, map-append}
 use Rattle.event_script.specs.declared.script.Event.{Event}
 use Rattle.run_engine.specs.Kept.{IsKeptPrintable, thread_told}
-use Rattle.run_engine.specs.declared.kept.KeptAnswer.{KeptAnswer}
-use Rattle.run_engine.proofs.Told.{as_many, held_next, next_holds, next_within}
+use Rattle.run_engine.proofs.Told.{told_holds, told_next, told_within}
 use Rattle.run_engine.proofs.telling.tell_round.Goals as goal
 
 pub offset_bounds-threads-len : goal.offset_bounds-threads-len
 offset_bounds-threads-len c =
-    let images = c.args.images.now in
-    let yielded = c.loop-kept.yielded in
-    let items : into_iter_items c.into_iter-kept-iterator.result ≡ c.args.round = c.into_iter-kept-iterator.ensures.into_iter_gives.0 ∙ c.round.view_is in
-    let P : List (List KeptAnswer) → Type 0 = AllZip (AllZip (IsKeptPrintable images)) c.args.threads.now in
-    let within = next_within (AllZip (IsKeptPrintable images)) c.args.threads.now c.into_iter-kept-iterator.result yielded c.loop-kept.kept-iterator c.next.new.self c.in-Some.kept (subst P (sym items) c.requires) c.loop-kept.yielded_by c.in-Some.ensures.steps.0 in
-    let at = as_many (thread_told images) (λ thread. thread.items) c.loop-kept.answers.items c.args.threads.now yielded c.loop-kept.invariant within in
-    let count = c.len.ensures in
-    omega (arith, within, at, count, c.loop-kept.answers.ok.0)
+    let count : c.len.result ≡ length (map (λ thread. thread.items) c.loop-kept.answers.items) = (let n = c.len.ensures in omega (arith, n, c.loop-kept.answers.ok.0, length-map c.loop-kept.answers.items (λ thread. thread.items))) in
+    let within = told_within (AllZip (IsKeptPrintable c.args.images.now)) c.args.threads.now c.args.round c.requires c.into_iter-kept-iterator.result c.loop-kept.kept-iterator c.next.new.self (c.into_iter-kept-iterator.ensures.into_iter_gives.0 ∙ c.round.view_is) c.loop-kept.yielded c.in-Some.kept c.loop-kept.yielded_by c.in-Some.ensures.steps.0 (thread_told c.args.images.now) (map (λ thread. thread.items) c.loop-kept.answers.items) c.loop-kept.invariant c.len.result count in
+    omega (arith, within)
 
 pub bounds-threads-len : goal.bounds-threads-len
 bounds-threads-len c =
-    let images = c.args.images.now in
-    let yielded = c.loop-kept.yielded in
-    let items : into_iter_items c.into_iter-kept-iterator.result ≡ c.args.round = c.into_iter-kept-iterator.ensures.into_iter_gives.0 ∙ c.round.view_is in
-    let P : List (List KeptAnswer) → Type 0 = AllZip (AllZip (IsKeptPrintable images)) c.args.threads.now in
-    let within = next_within (AllZip (IsKeptPrintable images)) c.args.threads.now c.into_iter-kept-iterator.result yielded c.loop-kept.kept-iterator c.next.new.self c.in-Some.kept (subst P (sym items) c.requires) c.loop-kept.yielded_by c.in-Some.ensures.steps.0 in
-    let at = as_many (thread_told images) (λ thread. thread.items) c.loop-kept.answers.items c.args.threads.now yielded c.loop-kept.invariant within in
-    let count = c.len.ensures in
-    omega (arith, within, at, count, c.loop-kept.answers.ok.0)
+    let count : c.len.result ≡ length (map (λ thread. thread.items) c.loop-kept.answers.items) = (let n = c.len.ensures in omega (arith, n, c.loop-kept.answers.ok.0, length-map c.loop-kept.answers.items (λ thread. thread.items))) in
+    let within = told_within (AllZip (IsKeptPrintable c.args.images.now)) c.args.threads.now c.args.round c.requires c.into_iter-kept-iterator.result c.loop-kept.kept-iterator c.next.new.self (c.into_iter-kept-iterator.ensures.into_iter_gives.0 ∙ c.round.view_is) c.loop-kept.yielded c.in-Some.kept c.loop-kept.yielded_by c.in-Some.ensures.steps.0 (thread_told c.args.images.now) (map (λ thread. thread.items) c.loop-kept.answers.items) c.loop-kept.invariant c.len.result count in
+    omega (arith, within)
 
 pub tell_thread-requires : goal.tell_thread-requires
 tell_thread-requires c =
-    let images = c.args.images.now in
-    let yielded = c.loop-kept.yielded in
-    let items : into_iter_items c.into_iter-kept-iterator.result ≡ c.args.round = c.into_iter-kept-iterator.ensures.into_iter_gives.0 ∙ c.round.view_is in
-    let P : List (List KeptAnswer) → Type 0 = AllZip (AllZip (IsKeptPrintable images)) c.args.threads.now in
-    let within = next_within (AllZip (IsKeptPrintable images)) c.args.threads.now c.into_iter-kept-iterator.result yielded c.loop-kept.kept-iterator c.next.new.self c.in-Some.kept (subst P (sym items) c.requires) c.loop-kept.yielded_by c.in-Some.ensures.steps.0 in
-    let at = as_many (thread_told images) (λ thread. thread.items) c.loop-kept.answers.items c.args.threads.now yielded c.loop-kept.invariant within in
-    let count = c.len.ensures in
-    let here : length yielded ≡ c.len.result = omega (arith, at, count, c.loop-kept.answers.ok.0) in
-    let item = c.index-threads-len.result in
-    let is = c.index-threads-len.is ∙ ap (λ n. get_or c.args.threads.now n item) (sym here) in
-    let holds = next_holds (AllZip (IsKeptPrintable images)) c.args.threads.now c.into_iter-kept-iterator.result yielded c.loop-kept.kept-iterator c.next.new.self c.in-Some.kept item (subst P (sym items) c.requires) c.loop-kept.yielded_by c.in-Some.ensures.steps.0 is in
-    let Q : List Event → Type 0 = λ beside. AllZip (IsKeptPrintable images) beside c.in-Some.kept in
-    subst Q (sym (c.deref.ensures.value ∙ c.thread.view_is)) holds
+    let count : c.len.result ≡ length (map (λ thread. thread.items) c.loop-kept.answers.items) = (let n = c.len.ensures in omega (arith, n, c.loop-kept.answers.ok.0, length-map c.loop-kept.answers.items (λ thread. thread.items))) in
+    let holds = told_holds (AllZip (IsKeptPrintable c.args.images.now)) c.args.threads.now c.args.round c.requires c.into_iter-kept-iterator.result c.loop-kept.kept-iterator c.next.new.self (c.into_iter-kept-iterator.ensures.into_iter_gives.0 ∙ c.round.view_is) c.loop-kept.yielded c.in-Some.kept c.loop-kept.yielded_by c.in-Some.ensures.steps.0 (thread_told c.args.images.now) (map (λ thread. thread.items) c.loop-kept.answers.items) c.loop-kept.invariant c.len.result count c.index-threads-len.result c.index-threads-len.is in
+    let P : List Event → Type 0 = λ beside. AllZip (IsKeptPrintable c.args.images.now) beside c.in-Some.kept in
+    subst P (sym (c.deref.ensures.value ∙ c.thread.view_is)) holds
 
 pub loop-kept-preserved : goal.loop-kept-preserved
 loop-kept-preserved c =
-    let images = c.args.images.now in
-    let yielded = c.loop-kept.yielded in
-    let items : into_iter_items c.into_iter-kept-iterator.result ≡ c.args.round = c.into_iter-kept-iterator.ensures.into_iter_gives.0 ∙ c.round.view_is in
-    let P : List (List KeptAnswer) → Type 0 = AllZip (AllZip (IsKeptPrintable images)) c.args.threads.now in
-    let within = next_within (AllZip (IsKeptPrintable images)) c.args.threads.now c.into_iter-kept-iterator.result yielded c.loop-kept.kept-iterator c.next.new.self c.in-Some.kept (subst P (sym items) c.requires) c.loop-kept.yielded_by c.in-Some.ensures.steps.0 in
-    let at = as_many (thread_told images) (λ thread. thread.items) c.loop-kept.answers.items c.args.threads.now yielded c.loop-kept.invariant within in
-    let count = c.len.ensures in
-    let here : length yielded ≡ c.len.result = omega (arith, at, count, c.loop-kept.answers.ok.0) in
-    let tells = c.in_ok-told.ensures ∙ ap (λ beside. thread_told images beside c.in-Some.kept) (c.deref.ensures.value ∙ c.thread.view_is) in
-    rw c.in_ok-push.ensures.items (held_next (thread_told images) (λ thread. thread.items) c.loop-kept.answers.items c.in_ok-told.told c.args.threads.now yielded c.len.result c.index-threads-len.result c.in-Some.kept c.loop-kept.invariant tells c.index-threads-len.is here (omega (arith, within, here)))
+    let count : c.len.result ≡ length (map (λ thread. thread.items) c.loop-kept.answers.items) = (let n = c.len.ensures in omega (arith, n, c.loop-kept.answers.ok.0, length-map c.loop-kept.answers.items (λ thread. thread.items))) in
+    let tells = c.in_ok-told.ensures ∙ ap (λ beside. thread_told c.args.images.now beside c.in-Some.kept) (c.deref.ensures.value ∙ c.thread.view_is) in
+    rw (c.in_ok-push.ensures.items, map-append) (told_next (AllZip (IsKeptPrintable c.args.images.now)) c.args.threads.now c.args.round c.requires c.into_iter-kept-iterator.result c.loop-kept.kept-iterator c.next.new.self (c.into_iter-kept-iterator.ensures.into_iter_gives.0 ∙ c.round.view_is) c.loop-kept.yielded c.in-Some.kept c.loop-kept.yielded_by c.in-Some.ensures.steps.0 (thread_told c.args.images.now) (map (λ thread. thread.items) c.loop-kept.answers.items) c.loop-kept.invariant c.len.result count _ c.index-threads-len.result tells c.index-threads-len.is)
