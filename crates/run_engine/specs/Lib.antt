@@ -1,5 +1,6 @@
 pub mod Statuses
 pub mod Outcome
+pub mod Settings
 pub mod Played
 pub mod Kept
 pub mod Shared

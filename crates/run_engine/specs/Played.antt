@@ -1,10 +1,9 @@
 -- What playing a script gives: few answers, each of which can be written.
-use Rattle.std.specs.Prelude.{◌≡◌, ℕ, ◌*◌, ◌≤◌, List, length, All}
+use Rattle.std.specs.Prelude.{ℕ, ◌*◌, ◌≤◌, List, length, All}
 use Rattle.std.specs.List.{sum_by}
-use Rattle.reg_model.specs.SpanData.{SpanData}
 use Rattle.frame_parse.specs.Sections.{SectionData}
 use Rattle.event_script.specs.ScriptData.{SnapshotData}
-use Rattle.event_script.specs.declared.limits.TheConstants.{MOST_EVENTS, MOST_IMAGES, MOST_ROUNDS}
+use Rattle.event_script.specs.declared.limits.TheConstants.{MOST_EVENTS, MOST_ROUNDS}
 use Rattle.event_script.specs.declared.limits.TheConstants.{MOST_THREADS}
 use Rattle.event_script.specs.Lawful.{AnswersEvent, IsUnfolded}
 use Rattle.event_script.specs.Text.{IsPrintable}
@@ -26,10 +25,6 @@ IsPlayed rounds = (length rounds ≤ MOST_ROUNDS) × All IsPlayedRound rounds
 abbrev pub IsRightAnswer : List SectionData → List SnapshotData → Event → Answer → Type 0
 IsRightAnswer sections snapshots event answer =
     AnswersEvent event answer × IsUnfolded sections snapshots answer
-
--- few images, each with a section
-abbrev pub AreImages : List SpanData → List SectionData → Type 0
-AreImages images sections = (length images ≤ MOST_IMAGES) × (length sections ≡ length images)
 
 -- how many updates the events of a round may ask for
 abbrev pub round_updates : ℕ

@@ -11,6 +11,8 @@ use Rattle.registry_core.specs.Queries.{Queries}
 use Rattle.registry_core.specs.Rounds.{IsBetweenRounds, joined_lists}
 use Rattle.word_rule.specs.CallerData.{CallerData, WordsData}
 use Rattle.word_rule.specs.Callers.{IsIdle, start}
+use Rattle.word_rule.specs.Logs.{first_log}
+use Rattle.word_rule.specs.Places.{ALLOWANCE}
 use Rattle.word_rule.specs.declared.log.Terms.{Terms}
 use Rattle.event_script.specs.Lawful.{AreInRounds, RoundsHold, fixed_members, in_one}
 use Rattle.event_script.specs.ScriptData.{ScriptData}
@@ -72,6 +74,14 @@ pub record IsAfterRounds (rounds : List (List (List Receipt))) (k k' : CallerDat
       (length k.log.past) rounds
   pub bounds : AreInRounds (length k.log.past) rounds
   pub count : length k'.log.past ≡ length k.log.past + made_count (in_one rounds)
+
+-- the caller of a registry of which no call was made yet
+abbrev pub new_caller : WordsData → CallerData
+new_caller registry = record {
+  table = registry.table;
+  left = ALLOWANCE;
+  log = first_log registry.terms;
+}
 
 -- with what the registry of a script is made
 abbrev pub script_terms : ScriptData → Terms

@@ -7,7 +7,8 @@ ghost use Rattle.event_script.specs.ScriptData.{IsRound};
 ghost use Rattle.event_script.specs.declared.limits.TheConstants.{MOST_EVENTS, MOST_ROUNDS};
 ghost use Rattle.registry_core.specs.Rounds.{IsAfterRound, IsBetweenRounds};
 ghost use Rattle.run_engine.specs.Kept.{IsKeptRight, round_told, rounds_told};
-ghost use Rattle.run_engine.specs.Played.{AreImages, round_updates, updates_in, updates_of};
+ghost use Rattle.run_engine.specs.Played.{round_updates, updates_in, updates_of};
+ghost use Rattle.run_engine.specs.Settings.{AreImages, setting_counts};
 ghost use Rattle.run_engine.specs.Shared.{IsAfterRounds, IsReady};
 
 use crate::gate::Gate;
@@ -78,11 +79,8 @@ fn play_round<R: Threads + Wait + Sync, G: Gate + Sync>(
     round: NumberedRound<'_>,
 ) -> Result<KeptRound, NoMemory>
     requires images { AreImages setting.images.now setting.sections.now }
-    requires round { IsRound (record {
-      version = setting.version;
-      images = length setting.images.now;
-      snapshots = length setting.snapshots.now;
-    }) round.threads.now }
+    requires round { IsRound (setting_counts setting.version setting.images.now
+        setting.snapshots.now) round.threads.now }
     requires ready { IsReady (length setting.images.now) registry.now me.old }
     requires between { IsBetweenRounds me.old }
     requires left { round_updates ≤ me.old.left }
@@ -121,11 +119,9 @@ pub fn play_shared<R: Threads + Wait + Sync, G: Gate + Sync>(
     rounds: &[Round],
 ) -> Result<Vec<KeptRound>, NoMemory>
     requires images { AreImages setting.images.now setting.sections.now }
-    requires rounds { (length rounds.now ≤ MOST_ROUNDS) × All (IsRound (record {
-      version = setting.version;
-      images = length setting.images.now;
-      snapshots = length setting.snapshots.now;
-    })) rounds.now }
+    requires rounds { (length rounds.now ≤ MOST_ROUNDS) × All
+        (IsRound (setting_counts setting.version setting.images.now setting.snapshots.now))
+        rounds.now }
     requires ready { IsReady (length setting.images.now) registry.now me.old }
     requires between { IsBetweenRounds me.old }
     requires left { round_updates * length rounds.now ≤ me.old.left }

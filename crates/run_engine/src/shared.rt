@@ -1,6 +1,6 @@
 //! The registry over the shared words unwinds stacks and plays events.
 
-ghost use Rattle.std.specs.Prelude.{◌≡◌, ◌+◌, ◌<◌, ◌≤◌, All, IfOk, length};
+ghost use Rattle.std.specs.Prelude.{◌≡◌, ◌<◌, ◌≤◌, All, IfOk, length};
 ghost use Rattle.event_script.specs.Lawful.{IsUnfolded, receipts_of, receipts_of_trace};
 ghost use Rattle.event_script.specs.ScriptData.{IsEvent};
 ghost use Rattle.event_script.specs.Text.{IsPrintable};
@@ -8,14 +8,14 @@ ghost use Rattle.event_script.specs.declared.journal.Answer.TheVariants as answe
 ghost use Rattle.reg_model.specs.Chain.{Chain};
 ghost use Rattle.reg_model.specs.Receipt.{IsPlace};
 ghost use Rattle.registry_core.specs.Calls.{Receives};
-ghost use Rattle.run_engine.specs.Played.{AreImages, IsRightAnswer, updates_of};
+ghost use Rattle.run_engine.specs.Played.{IsRightAnswer, updates_of};
+ghost use Rattle.run_engine.specs.Settings.{AreImages, setting_counts};
 ghost use Rattle.run_engine.specs.Shared.{AnswersPlaying, AnswersShared, IsReady};
 
 use crate::setting::Setting;
 use event_script::{Answer, Event, member_of};
 use reg_model::{NoMemory, Place};
 use registry_core::Registry;
-use registry_core::laws::calls_follow;
 use std::alloc::Global;
 use std::marker::Model;
 use std::sync::Wait;
@@ -121,43 +121,8 @@ impl<'a> SharedPlayer<'a> {
         event: Event,
     ) -> Result<Answer, NoMemory>
         requires images { AreImages setting.images.now setting.sections.now }
-        requires event { IsEvent (record {
-          version = setting.version;
-          images = length setting.images.now;
-          snapshots = length setting.snapshots.now;
-        }) event }
-        requires left { updates_of event ≤ self.old.me.left }
-        requires ready { IsReady (length setting.images.now) self.old.registry self.old.me }
-        ensures answered { IfOk result
-            (λ answer. IsRightAnswer setting.entry.sections.now setting.entry.snapshots.now event
-            answer) }
-        ensures calls { IfOk result
-            (λ answer. Chain Receives self.old.me (receipts_of setting.entry.images.now answer)
-            self.new.me) }
-        ensures printable { IfOk result IsPrintable }
-        ensures left { IfOk result (λ _. self.old.me.left ≤ self.new.me.left + updates_of event) }
-        ensures ready { IfOk result
-            (λ _. IsReady (length setting.entry.images.now) self.new.registry self.new.me) }
-    {
-        // The law that this rests on; it takes no step.
-        calls_follow();
-        self.play_event(rt, alloc, setting, event)
-    }
-
-    /// The event's own calls.
-    fn play_event<R: Wait>(
-        &mut self,
-        rt: &R,
-        alloc: Global,
-        setting: Setting<'_>,
-        event: Event,
-    ) -> Result<Answer, NoMemory>
-        requires images { AreImages setting.images.now setting.sections.now }
-        requires event { IsEvent (record {
-          version = setting.version;
-          images = length setting.images.now;
-          snapshots = length setting.snapshots.now;
-        }) event }
+        requires event { IsEvent (setting_counts setting.version setting.images.now
+            setting.snapshots.now) event }
         requires left { updates_of event ≤ self.old.me.left }
         requires ready { IsReady (length setting.images.now) self.old.registry self.old.me }
         ensures answered { IfOk result

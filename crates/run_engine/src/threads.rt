@@ -9,7 +9,8 @@ ghost use Rattle.event_script.specs.ScriptData.{IsEvent, IsRound, IsThread};
 ghost use Rattle.registry_core.specs.Calls.{Answered, Receives};
 ghost use Rattle.registry_core.specs.Rounds.{AreAnswered};
 ghost use Rattle.run_engine.specs.Kept.{IsKeptRight, round_told, thread_told, told};
-ghost use Rattle.run_engine.specs.Played.{AreImages, updates_in, updates_of};
+ghost use Rattle.run_engine.specs.Played.{updates_in, updates_of};
+ghost use Rattle.run_engine.specs.Settings.{AreImages, setting_counts};
 ghost use Rattle.run_engine.specs.Shared.{AreManned, IsReady};
 
 use crate::gate::Gate;
@@ -41,42 +42,6 @@ struct NumberedEvent {
     event: Event,
 }
 
-/// Plays an event that isn't a lookup, and keeps of its answer what is needed.
-fn play_other<R: Wait, G: Gate>(
-    rt: &R,
-    alloc: Global,
-    gate: &G,
-    setting: Setting<'_>,
-    player: &mut SharedPlayer<'_>,
-    event: NumberedEvent,
-) -> Result<KeptAnswer, NoMemory>
-    requires images { AreImages setting.images.now setting.sections.now }
-    requires event { IsEvent (record {
-      version = setting.version;
-      images = length setting.images.now;
-      snapshots = length setting.snapshots.now;
-    }) event.event }
-    requires left { updates_of event.event ≤ player.old.me.left }
-    requires ready { IsReady (length setting.images.now) player.old.registry player.old.me }
-    ensures right { IfOk result
-        (IsKeptRight setting.entry.images.now setting.entry.sections.now
-        setting.entry.snapshots.now event.event) }
-    ensures calls { IfOk result
-        (λ kept. Chain Receives player.old.me
-        (receipts_of setting.entry.images.now (told setting.entry.images.now event.event kept))
-        player.new.me) }
-    ensures left { IfOk result
-        (λ _. player.old.me.left ≤ player.new.me.left + updates_of event.event) }
-    ensures ready { IfOk result
-        (λ _. IsReady (length setting.entry.images.now) player.new.registry player.new.me) }
-{
-    let ThreadNumber { round, thread } = event.thread;
-    gate.pass(rt, round, thread, event.count, None);
-    let answer = player.play(rt, alloc, setting, event.event)?;
-    gate.pass(rt, round, thread, event.count, Some(&answer));
-    keep(alloc, setting.images, answer)
-}
-
 /// Plays an event, and keeps of its answer what is needed. That of a lookup, as most events of long
 /// scripts are, goes through no memory.
 #[inline(always)]
@@ -89,11 +54,8 @@ fn play_one<R: Wait, G: Gate>(
     event: NumberedEvent,
 ) -> Result<KeptAnswer, NoMemory>
     requires images { AreImages setting.images.now setting.sections.now }
-    requires event { IsEvent (record {
-      version = setting.version;
-      images = length setting.images.now;
-      snapshots = length setting.snapshots.now;
-    }) event.event }
+    requires event { IsEvent (setting_counts setting.version setting.images.now
+        setting.snapshots.now) event.event }
     requires left { updates_of event.event ≤ player.old.me.left }
     requires ready { IsReady (length setting.images.now) player.old.registry player.old.me }
     ensures right { IfOk result
@@ -110,56 +72,21 @@ fn play_one<R: Wait, G: Gate>(
 {
     // The law that this rests on; it takes no step.
     calls_follow();
+    let ThreadNumber { round, thread } = event.thread;
+    gate.pass(rt, round, thread, event.count, None);
     match event.event {
         Event::Find { pc } => {
-            let ThreadNumber { round, thread } = event.thread;
-            gate.pass(rt, round, thread, event.count, None);
             let place = player.find(rt, pc);
             let answer = Answer::Find { pc, place };
             gate.pass(rt, round, thread, event.count, Some(&answer));
             keep(alloc, setting.images, answer)
         }
-        _ => play_other(rt, alloc, gate, setting, player, event),
+        _ => {
+            let answer = player.play(rt, alloc, setting, event.event)?;
+            gate.pass(rt, round, thread, event.count, Some(&answer));
+            keep(alloc, setting.images, answer)
+        }
     }
-}
-
-/// Plays the events of one thread, in order. The gate sees each whole answer.
-fn play_thread<R: Wait, G: Gate>(
-    rt: &R,
-    alloc: Global,
-    gate: &G,
-    number: ThreadNumber,
-    setting: Setting<'_>,
-    player: &mut SharedPlayer<'_>,
-    events: &[Event],
-) -> Result<KeptThread, NoMemory>
-    requires images { AreImages setting.images.now setting.sections.now }
-    requires thread { IsThread (record {
-      version = setting.version;
-      images = length setting.images.now;
-      snapshots = length setting.snapshots.now;
-    }) events.now }
-    requires left { updates_in events.now ≤ player.old.me.left }
-    requires ready { IsReady (length setting.images.now) player.old.registry player.old.me }
-    ensures answered { IfOk result
-        (λ kept. AllZip (IsKeptRight setting.entry.images.now setting.entry.sections.now
-        setting.entry.snapshots.now) events.now kept) }
-    ensures calls { IfOk result
-        (λ kept. Chain Receives player.old.me
-        (flat_map (receipts_of setting.entry.images.now)
-        (thread_told setting.entry.images.now events.now kept)) player.new.me) }
-{
-    let mut answers = Vec::with_capacity(alloc, events.len())?;
-    for (index, event) in events.iter().enumerate() {
-        let event = NumberedEvent {
-            thread: number,
-            count: index as u32 + 1,
-            event: *event,
-        };
-        let kept = play_one(rt, alloc, gate, setting, player, event)?;
-        answers.push(kept)?;
-    }
-    Ok(KeptThread { answers })
 }
 
 /// Those who play a round: one caller of the registry for each thread.
@@ -183,22 +110,19 @@ pub struct PlayedRound {
     pub callers: Vec<Caller>,
 }
 
-/// Plays the events of one thread as this player.
-fn play_alone<R: Wait, G: Gate>(
+/// Plays the events of one thread as this player, in order. The gate sees each whole answer.
+fn play_thread<R: Wait, G: Gate>(
     rt: &R,
     alloc: Global,
     gate: &G,
     number: ThreadNumber,
     setting: Setting<'_>,
-    player: SharedPlayer<'_>,
+    mut player: SharedPlayer<'_>,
     events: &[Event],
 ) -> Result<PlayedThread, NoMemory>
     requires images { AreImages setting.images.now setting.sections.now }
-    requires thread { IsThread (record {
-      version = setting.version;
-      images = length setting.images.now;
-      snapshots = length setting.snapshots.now;
-    }) events.now }
+    requires thread { IsThread (setting_counts setting.version setting.images.now
+        setting.snapshots.now) events.now }
     requires ready { IsReady (length setting.images.now) player.registry player.me }
     requires left { updates_in events.now ≤ player.me.left }
     ensures answered { IfOk result
@@ -212,8 +136,17 @@ fn play_alone<R: Wait, G: Gate>(
 {
     // The law that this rests on; it takes no step.
     calls_follow();
-    let mut player = player;
-    let kept = play_thread(rt, alloc, gate, number, setting, &mut player, events)?;
+    let mut answers = Vec::with_capacity(alloc, events.len())?;
+    for (index, event) in events.iter().enumerate() {
+        let event = NumberedEvent {
+            thread: number,
+            count: index as u32 + 1,
+            event: *event,
+        };
+        let kept = play_one(rt, alloc, gate, setting, &mut player, event)?;
+        answers.push(kept)?;
+    }
+    let kept = KeptThread { answers };
     let caller = player.into_caller();
     Ok(PlayedThread { kept, caller })
 }
@@ -229,11 +162,8 @@ pub fn play_threads<R: Threads + Wait + Sync, G: Gate + Sync>(
     threads: &[Thread],
 ) -> Result<PlayedRound, NoMemory>
     requires images { AreImages setting.images.now setting.sections.now }
-    requires round { IsRound (record {
-      version = setting.version;
-      images = length setting.images.now;
-      snapshots = length setting.snapshots.now;
-    }) threads.now }
+    requires round { IsRound (setting_counts setting.version setting.images.now
+        setting.snapshots.now) threads.now }
     requires manned { AreManned (length setting.images.now) team.registry.now threads.now
         team.callers.items }
     ensures answered { IfOk result
@@ -273,14 +203,8 @@ pub fn play_threads<R: Threads + Wait + Sync, G: Gate + Sync>(
     let events: &[Event] = &thread.events;
     if before.is_empty() {
         // Nobody plays beside this one.
-        let setting = Setting {
-            version,
-            images,
-            sections,
-            snapshots,
-        };
         let player = SharedPlayer::new(registry, me);
-        let own = play_alone(rt, alloc, gate, number, setting, player, events)?;
+        let own = play_thread(rt, alloc, gate, number, setting, player, events)?;
         let mut kept = Vec::new(alloc);
         kept.push(own.kept)?;
         callers.push(own.caller)?;
@@ -290,12 +214,7 @@ pub fn play_threads<R: Threads + Wait + Sync, G: Gate + Sync>(
         rt,
         || -> Result<PlayedRound, NoMemory>
             requires { IsSync R.row × IsSync G.row × AreImages images.now sections.now × IsRound
-                (record {
-                  version = version;
-                  images = length images.now;
-                  snapshots = length snapshots.now;
-                })
-                before.now × AreManned
+                (setting_counts version images.now snapshots.now) before.now × AreManned
                 (length images.now) registry.now before.now callers.items }
             ensures answered { IfOk result
                 (λ played. AllZip
@@ -318,13 +237,8 @@ pub fn play_threads<R: Threads + Wait + Sync, G: Gate + Sync>(
         },
         || -> Result<PlayedThread, NoMemory>
             requires { IsSync R.row × IsSync G.row × AreImages images.now sections.now × IsThread
-                (record {
-                  version = version;
-                  images = length images.now;
-                  snapshots = length snapshots.now;
-                })
-                events.now × IsReady (length images.now)
-                registry.now me × (updates_in events.now ≤ me.left) }
+                (setting_counts version images.now snapshots.now) events.now × IsReady
+                (length images.now) registry.now me × (updates_in events.now ≤ me.left) }
             ensures answered { IfOk result
                 (λ played. AllZip
                 (IsKeptRight images.entry.now sections.entry.now snapshots.entry.now)
@@ -342,7 +256,7 @@ pub fn play_threads<R: Threads + Wait + Sync, G: Gate + Sync>(
                 snapshots,
             };
             let player = SharedPlayer::new(registry, me);
-            play_alone(rt, alloc, gate, number, setting, player, events)
+            play_thread(rt, alloc, gate, number, setting, player, events)
         },
     );
     let others = others?;

@@ -30,3 +30,6 @@ loop-index-preserved g c =
       ready = c.in_ok-kept.ensures.ready;
       left = left_next events i _ _ _ c.loop-index-test.true before.left c.in_ok-kept.ensures.left;
     })
+
+pub returns-clause-calls : goal.returns-clause-calls
+returns-clause-calls g c = rw c.into_caller-caller.ensures (c.calls_follow.ensures.chain _ _ _ c.loop-index.invariant.calls)
