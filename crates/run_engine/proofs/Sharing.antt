@@ -1,5 +1,5 @@
 -- What calls of a shared registry make of their caller.
-use Rattle.std.proofs.Common.{◌≡◌, ℕ, ◌+◌, ◌≤◌, List, [], ◌∷◌, Option, Some, None, Result, Ok, Err, IfOk, OnErr, refl, sym, ◌∙◌, ap, count_by, arith}
+use Rattle.std.proofs.Common.{◌≡◌, ℕ, ◌+◌, ◌≤◌, List, [], ◌∷◌, Option, Some, None, Result, Ok, Err, IfOk, OnErr, refl, sym, ◌∙◌, ap, count_by, subst, arith}
 use Rattle.reg_model.specs.SpanData.{SpanData}
 use Rattle.reg_model.specs.Chain.{Chain}
 use Rattle.reg_model.specs.Receipt.{receipts_of_place}
@@ -82,3 +82,8 @@ either_way (Err e) P Q R ok err p q = err q
 pub both_ok : {X E : Type 0} (r : Result X E) (P Q R : X → Type 0) → ((x : X) → P x → Q x → R x) → IfOk r P → IfOk r Q → IfOk r R
 both_ok (Ok x) P Q R from p q = from x p q
 both_ok (Err e) P Q R from p q = tt
+
+-- what holds of the one value that there may be
+pub ok_is : {X E : Type 0} (r : Result X E) (P : X → Type 0) (x : X) → P x → IfOk r (λ y. y ≡ x) → IfOk r P
+ok_is (Ok y) P x holds is = subst P (sym is) holds
+ok_is (Err e) P x holds is = tt

@@ -1,5 +1,6 @@
 -- What is kept of answers, and what it tells beside their events and the images.
 use Rattle.std.specs.Prelude.{ℕ, List, [], ◌∷◌, Some, None}
+use Rattle.std.specs.List.{AllZip}
 use Rattle.reg_model.specs.SpanData.{SpanData}
 use Rattle.reg_model.specs.declared.answer.Found.TheVariants.{Hit, Miss}
 use Rattle.reg_model.specs.declared.answer.Place.{Place}
@@ -14,14 +15,14 @@ use Rattle.reg_model.specs.declared.answer.Replaced.TheVariants as replaced
 use Rattle.frame_parse.specs.Sections.{SectionData}
 use Rattle.event_script.specs.ScriptData.{ScriptData, SnapshotData}
 use Rattle.event_script.specs.JournalData.{JournalData}
-use Rattle.event_script.specs.Lawful.{image_member}
+use Rattle.event_script.specs.Lawful.{IsLawfulJournal, image_member}
 use Rattle.event_script.specs.Text.{IsPrintable}
 use Rattle.event_script.specs.declared.script.Event.{Event}
 use Rattle.event_script.specs.declared.script.Event.TheVariants.{Register, Deregister, Replace}
 use Rattle.event_script.specs.declared.script.Event.TheVariants.{Load, Unload, Find, Unwind}
 use Rattle.event_script.specs.declared.journal.Answer.{Answer}
 use Rattle.event_script.specs.declared.journal.Answer.TheVariants as answer
-use Rattle.run_engine.specs.Played.{IsRightAnswer}
+use Rattle.run_engine.specs.Played.{IsPlayed, IsRightAnswer}
 use Rattle.run_engine.specs.declared.kept.KeptAnswer.{KeptAnswer}
 use Rattle.run_engine.specs.declared.kept.KeptAnswer.TheVariants.{Done, DoneWith, Overlap}
 use Rattle.run_engine.specs.declared.kept.KeptAnswer.TheVariants.{Refused, Registered, Loaded}
@@ -135,3 +136,9 @@ abbrev pub IsKeptRight :
 IsKeptRight images sections snapshots event kept =
     IsRightAnswer sections snapshots event (told images event kept)
     × IsKeptPrintable images event kept
+
+-- What was kept tells a lawful journal of the script, in which each answer can be written.
+pub record IsKeptJournal (script : ScriptData) (kept : KeptJournalData) : Type 0 where
+  pub lawful : IsLawfulJournal script (journal_told script kept)
+  pub played : IsPlayed (journal_told script kept).rounds
+  pub printable : AllZip (AllZip (AllZip (IsKeptPrintable script.images))) script.rounds kept.rounds

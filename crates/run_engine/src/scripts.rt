@@ -1,14 +1,11 @@
 //! Plays a script against a registry that its threads share.
 
 ghost use Rattle.std.specs.Prelude.{◌≡◌, IfOk, OnOk, flat_map};
-ghost use Rattle.std.specs.List.{AllZip};
 ghost use Rattle.event_script.specs.Lawful.{IsLawfulJournal, thread_receipts};
 ghost use Rattle.registry_core.specs.Rounds.{IsBetweenRounds, joined_lists};
-ghost use Rattle.run_engine.specs.Kept.{IsKeptPrintable, journal_told};
+ghost use Rattle.run_engine.specs.Kept.{IsKeptJournal, journal_told};
 ghost use Rattle.run_engine.specs.Played.{IsPlayed};
-ghost use Rattle.run_engine.specs.Shared.{script_terms};
-ghost use Rattle.word_rule.specs.Logs.{first_log};
-ghost use Rattle.word_rule.specs.Places.{ALLOWANCE};
+ghost use Rattle.run_engine.specs.Shared.{new_caller, script_terms};
 
 use crate::gate::Gate;
 use crate::kept::KeptJournal;
@@ -36,12 +33,7 @@ pub fn run_script<R: Threads + Wait + Sync, G: Gate + Sync>(
     gate: &G,
 ) -> Result<Journal, NoMemory>
     requires terms { registry.now.terms ≡ script_terms script.now }
-    requires caller { me.old
-        ≡ record {
-          table = registry.now.table;
-          left = ALLOWANCE;
-          log = first_log registry.now.terms;
-        } }
+    requires caller { me.old ≡ new_caller registry.now }
     requires between { IsBetweenRounds me.old }
     ensures lawful { IfOk result (λ journal. IsLawfulJournal script.now journal) }
     ensures played { IfOk result (λ journal. IsPlayed journal.rounds) }
@@ -49,7 +41,7 @@ pub fn run_script<R: Threads + Wait + Sync, G: Gate + Sync>(
     ensures receipts { IfOk result (λ journal. joined_lists me.new.log.receipts
         ≡ flat_map (λ round. round) (thread_receipts script.now.images journal)) }
 {
-    let kept = run_kept(rt, alloc, script, registry, me, gate)?;
+    let kept = run_kept(rt, alloc, gate, script, registry, me)?;
     tell_journal(alloc, script, kept)
 }
 
@@ -57,25 +49,15 @@ pub fn run_script<R: Threads + Wait + Sync, G: Gate + Sync>(
 fn run_kept<R: Threads + Wait + Sync, G: Gate + Sync>(
     rt: &R,
     alloc: Global,
+    gate: &G,
     script: &Script,
     registry: &Registry,
     me: &mut Caller,
-    gate: &G,
 ) -> Result<KeptJournal, NoMemory>
     requires terms { registry.now.terms ≡ script_terms script.now }
-    requires caller { me.old
-        ≡ record {
-          table = registry.now.table;
-          left = ALLOWANCE;
-          log = first_log registry.now.terms;
-        } }
+    requires caller { me.old ≡ new_caller registry.now }
     requires between { IsBetweenRounds me.old }
-    ensures lawful { IfOk result
-        (λ kept. IsLawfulJournal script.now (journal_told script.now kept)) }
-    ensures played { IfOk result (λ kept. IsPlayed (journal_told script.now kept).rounds) }
-    ensures printable { IfOk result
-        (λ kept. AllZip (AllZip (AllZip (IsKeptPrintable script.now.images))) script.now.rounds
-        kept.rounds) }
+    ensures kept { IfOk result (IsKeptJournal script.now) }
     ensures between { OnOk result (IsBetweenRounds me.new) }
     ensures receipts { IfOk result (λ kept. joined_lists me.new.log.receipts
         ≡ flat_map (λ round. round)
@@ -116,15 +98,10 @@ pub fn play_kept<R: Threads + Wait + Sync, G: Gate + Sync>(
     gate: &G,
     script: &Script,
 ) -> Result<KeptJournal, NoMemory>
-    ensures lawful { IfOk result
-        (λ kept. IsLawfulJournal script.now (journal_told script.now kept)) }
-    ensures played { IfOk result (λ kept. IsPlayed (journal_told script.now kept).rounds) }
-    ensures printable { IfOk result
-        (λ kept. AllZip (AllZip (AllZip (IsKeptPrintable script.now.images))) script.now.rounds
-        kept.rounds) }
+    ensures { IfOk result (IsKeptJournal script.now) }
 {
     let fixed = members_of(alloc, &script.images, &script.fixed)?;
     let images = script.images.len() as u32;
     let (registry, mut me) = Registry::new(alloc, script.nodes, script.loads, images, fixed)?;
-    run_kept(rt, alloc, script, &registry, &mut me, gate)
+    run_kept(rt, alloc, gate, script, &registry, &mut me)
 }

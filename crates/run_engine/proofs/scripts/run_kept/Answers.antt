@@ -9,44 +9,16 @@ use Rattle.run_engine.proofs.SharedLawfulness.{receipts_joined, shared_lawful}
 use Rattle.run_engine.proofs.Told.{rounds_played, rounds_printable, rounds_right}
 use Rattle.run_engine.proofs.scripts.run_kept.Goals as goal
 
-pub returns-clause-lawful : goal.returns-clause-lawful
-returns-clause-lawful g c =
-    let images = c.script.inside.images.items in
-    let sections = c.script.inside.sections.items in
-    let snapshots = c.script.inside.snapshots.items in
-    let rounds = c.script.inside.rounds.items in
-    let kept = c.in_ok-rounds.rounds.items in
+pub returns-clause-kept : goal.returns-clause-kept
+returns-clause-kept g c =
     let first : c.args.me.now.log ≡ first_log (script_terms c.args.script.now) = ap (λ (k : CallerData). k.log) c.requires.caller ∙ ap first_log c.requires.terms in
-    let first' = rw (← c.script.view_is) at first in
-    let right : AllZip (AllZip (AllZip (IsKeptRight images sections snapshots))) rounds kept =
+    let right : AllZip (AllZip (AllZip (IsKeptRight c.script.inside.images.items c.script.inside.sections.items c.script.inside.snapshots.items))) c.script.inside.rounds.items c.in_ok-rounds.rounds.items =
     rw (← c.deref.ensures.value, ← c.deref-2.ensures.value, ← c.deref-3.ensures.value, ← c.deref-4.ensures.value) c.in_ok-rounds.ensures.answered in
-    rw (← c.script.view_is) (shared_lawful c.numbers_tell_histories.ensures c.whole_logs_are_numbered.ensures.numbers _ (rounds_told images rounds kept) c.seen-updates.result c.args.me.now c.play_shared.new.me
-    first'
-    (rounds_right images sections snapshots rounds kept right)
-    (rw (← c.deref.ensures.value, ← c.deref-4.ensures.value) c.in_ok-rounds.ensures.after)
-    c.seen-updates.ensures)
-
-pub returns-clause-played : goal.returns-clause-played
-returns-clause-played g c =
-    let images = c.script.inside.images.items in
-    let sections = c.script.inside.sections.items in
-    let snapshots = c.script.inside.snapshots.items in
-    let rounds = c.script.inside.rounds.items in
-    let kept = c.in_ok-rounds.rounds.items in
-    let right : AllZip (AllZip (AllZip (IsKeptRight images sections snapshots))) rounds kept =
-    rw (← c.deref.ensures.value, ← c.deref-2.ensures.value, ← c.deref-3.ensures.value, ← c.deref-4.ensures.value) c.in_ok-rounds.ensures.answered in
-    rw (← c.script.view_is) (rounds_played images sections snapshots _ rounds kept c.script.invariant.rounds right)
-
-pub returns-clause-printable : goal.returns-clause-printable
-returns-clause-printable g c =
-    let images = c.script.inside.images.items in
-    let sections = c.script.inside.sections.items in
-    let snapshots = c.script.inside.snapshots.items in
-    let rounds = c.script.inside.rounds.items in
-    let kept = c.in_ok-rounds.rounds.items in
-    let right : AllZip (AllZip (AllZip (IsKeptRight images sections snapshots))) rounds kept =
-    rw (← c.deref.ensures.value, ← c.deref-2.ensures.value, ← c.deref-3.ensures.value, ← c.deref-4.ensures.value) c.in_ok-rounds.ensures.answered in
-    rw (← c.script.view_is) (rounds_printable images sections snapshots rounds kept right)
+    rw (← c.script.view_is) (record {
+      lawful = shared_lawful c.numbers_tell_histories.ensures c.whole_logs_are_numbered.ensures.numbers _ (rounds_told c.script.inside.images.items c.script.inside.rounds.items c.in_ok-rounds.rounds.items) c.seen-updates.result c.args.me.now c.play_shared.new.me (rw (← c.script.view_is) at first) (rounds_right _ _ _ _ _ right) (rw (← c.deref.ensures.value, ← c.deref-4.ensures.value) c.in_ok-rounds.ensures.after) c.seen-updates.ensures;
+      played = rounds_played _ _ _ _ _ _ c.script.invariant.rounds right;
+      printable = rounds_printable _ _ _ _ _ right;
+    })
 
 pub returns-clause-receipts : goal.returns-clause-receipts
 returns-clause-receipts g c =
