@@ -5,10 +5,11 @@
 --     HandleType, handles_to   the type of what its handles lead to, the struct, and its two fields
 --     box_of                   a box of what its handles lead to
 --     row                      the struct's own row, by conversion where the struct is written out
+--     plain_function           a function of so many parameters, without lifetimes and type parameters
 use mathlib.Core.Path.{◌≡◌}
 use mathlib.Core.List.{List, [], ◌∷◌}
 use Prim.Native.Nat.{ℕ}
-use mir.Syntax.{Sym, impl, tnil, dnil}
+use mir.Syntax.{Sym, Fn, Local, Body, impl, tnil, dnil}
 use mir.Val.{Val, vptr, vstruct, vnil, vcons}
 use base.Fml.{Fml, fsep}
 use denote.Exit.{under, hidden}
@@ -44,6 +45,9 @@ handle_own name R at held vs = fsep ((Struct (shape_of name)).own_val (at, tt) v
 
 abbrev pub pointer : ℕ → ℕ → Val
 pointer b o = vstruct (vcons (vptr b o) vnil)
+
+abbrev pub plain_function : ℕ → List Local → Body → Fn
+plain_function params locals body = record { lifetimes = 0; outlives = []; ty_params = []; givens = 0; params = params; locals = locals; body = body }
 
 pub record HandleType : Type 2 where
   pub value : RattleType

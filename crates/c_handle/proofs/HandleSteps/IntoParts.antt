@@ -27,7 +27,7 @@ use Rattle.std.specs.Prelude.{Some}
 use Rattle.std_alloc.proofs.BoxSteps.Form.{D, word, box_typed}
 use Rattle.std_alloc.proofs.BoxSteps.Steps.{box_in}
 use Rattle.std_heap.specs.contracts.Global as Heap
-use Rattle.c_handle.proofs.HandleSteps.Form.{HandleType, row, held_by, pointer_of, heap_parts, as_box, pointer, box_of}
+use Rattle.c_handle.proofs.HandleSteps.Form.{HandleType, row, held_by, pointer_of, heap_parts, as_box, pointer, plain_function, box_of}
 use Rattle.c_handle.proofs.HandleSteps.Steps.{handle_out}
 
 module _ (T : HandleType) where
@@ -39,16 +39,9 @@ module _ (T : HandleType) where
 
   -- `let Handle { at } = self; Parts { ptr: at as *mut T, alloc }`
   abbrev pub function : Fn
-  function = record {
-    lifetimes = 0;
-    outlives = [];
-    ty_params = [];
-    givens = 0;
-    params = 2;
-    locals = local (lone (heap_parts T.value T.laws).mir) value_local ∷ local (ty_struct T.struct.name (tcons ty_ptr tnil)) value_local ∷ local (lone Heap.the_row.mir) value_local ∷ local ty_ptr value_local ∷ local ty_ptr value_local ∷ [];
-    body = seq (assign (place 3 []) (rv_opd (copy (place 1 (field 0 ∷ []))))) (seq (assign (place 4 []) (rv_opd (copy (place 3 []))))
-        (seq (assign (place 0 []) (aggregate (copy (place 4 []) ∷ copy (place 2 []) ∷ []))) return));
-  }
+  function = plain_function 2 (local (lone (heap_parts T.value T.laws).mir) value_local ∷ local (ty_struct T.struct.name (tcons ty_ptr tnil)) value_local ∷ local (lone Heap.the_row.mir) value_local ∷ local ty_ptr value_local ∷ local ty_ptr value_local ∷ [])
+      (seq (assign (place 3 []) (rv_opd (copy (place 1 (field 0 ∷ []))))) (seq (assign (place 4 []) (rv_opd (copy (place 3 []))))
+      (seq (assign (place 0 []) (aggregate (copy (place 4 []) ∷ copy (place 2 []) ∷ []))) return)))
 
   abbrev pub ended : Ended
   ended = record { signature = record { lifetimes = 0; outlives = []; params = FromHandle ∷ FromHeap ∷ []; result = plain (λ _. heap_parts T.value T.laws) }; kept = (yes, (yes, tt)) }

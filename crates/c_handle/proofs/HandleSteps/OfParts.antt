@@ -26,7 +26,7 @@ use denote.Triple.Walked.{says, Stays, stay_dropped, walk_of, ends_at, Goes-drop
 use Rattle.std.specs.Prelude.{Option, Some}
 use Rattle.std_alloc.proofs.BoxSteps.Form.{D, word, box_typed}
 use Rattle.std_alloc.proofs.BoxSteps.Steps.{box_out}
-use Rattle.c_handle.proofs.HandleSteps.Form.{HandleType, row, held_by, heap_parts, as_box, pointer, box_of}
+use Rattle.c_handle.proofs.HandleSteps.Form.{HandleType, row, held_by, heap_parts, as_box, pointer, plain_function, box_of}
 use Rattle.c_handle.proofs.HandleSteps.Steps.{handle_in}
 
 module _ (T : HandleType) where
@@ -35,16 +35,9 @@ module _ (T : HandleType) where
 
   -- `let Parts { ptr, alloc: _ } = parts; Handle { at: ptr as *mut u8 }`
   abbrev pub function : Fn
-  function = record {
-    lifetimes = 0;
-    outlives = [];
-    ty_params = [];
-    givens = 0;
-    params = 1;
-    locals = local (ty_struct T.struct.name (tcons ty_ptr tnil)) value_local ∷ local (lone (heap_parts T.value T.laws).mir) value_local ∷ local ty_ptr value_local ∷ local ty_ptr value_local ∷ [];
-    body = seq (assign (place 2 []) (rv_opd (copy (place 1 (field 0 ∷ []))))) (seq (assign (place 3 []) (rv_opd (copy (place 2 []))))
-        (seq (assign (place 0 []) (aggregate (copy (place 3 []) ∷ []))) return));
-  }
+  function = plain_function 1 (local (ty_struct T.struct.name (tcons ty_ptr tnil)) value_local ∷ local (lone (heap_parts T.value T.laws).mir) value_local ∷ local ty_ptr value_local ∷ local ty_ptr value_local ∷ [])
+      (seq (assign (place 2 []) (rv_opd (copy (place 1 (field 0 ∷ []))))) (seq (assign (place 3 []) (rv_opd (copy (place 2 []))))
+      (seq (assign (place 0 []) (aggregate (copy (place 3 []) ∷ []))) return)))
 
   abbrev pub ended : Ended
   ended = record { signature = record { lifetimes = 0; outlives = []; params = From ∷ []; result = plain (λ _. row T) }; kept = (yes, tt) }
