@@ -16,13 +16,12 @@ abbrev pub handle_owns : (R : RattleType) → Ptr → Option R.Denot → Fml
 handle_owns R at None = ftrue
 handle_owns R at (Some value) = box_owns frees_block R at value
 
--- a handle leads to nothing
+-- a handle leads to something, or to nothing
+abbrev pub LeadsSomewhere : {D : Type 0} → Option D → Type 0
+LeadsSomewhere {D} held = (x : D) × (held ≡ Some x)
+
 abbrev pub LeadsNowhere : {D : Type 0} → Option D → Type 0
 LeadsNowhere held = held ≡ None
-
--- a handle leads to something, and where it is to go back stands nothing
-abbrev pub IsHandedIn : {D : Type 0} → Option D → Option D → Type 0
-IsHandedIn {D} held back = ((x : D) × (held ≡ Some x)) × LeadsNowhere back
 
 -- A handle that led to something leads to it again, and this was made of it.
 abbrev pub HandsBack : {D : Type 0} → (D → D → Type 0) → Option D → Option D → Type 0

@@ -1,5 +1,5 @@
 -- What a handle leads to.
-use Rattle.std.specs.Prelude.{◌≡◌, ℕ, List, Option, Some, None, []}
+use Rattle.std.specs.Prelude.{ℕ, List, Option, Some, None, []}
 use Rattle.std.specs.Option.{unwrap_or}
 use Rattle.eh_hdr.specs.declared.table.TableEntry.{TableEntry}
 use Rattle.frame_parse.specs.Sections.{SectionData}
@@ -12,13 +12,6 @@ pub record LoadedData : Type 0 where
   pub section : SectionData
   pub refused : List RefusedRecord
   pub table : Option (Option (List TableEntry))
-
--- it leads to something, or to nothing
-abbrev pub IsHeld : {A : Type 0} → Option A → Type 0
-IsHeld {A} held = (x : A) × (held ≡ Some x)
-
-abbrev pub IsVacant : {A : Type 0} → Option A → Type 0
-IsVacant held = held ≡ None
 
 -- that to which a handle of a section leads, or of its row table
 abbrev pub held_loaded : Option LoadedData → LoadedData

@@ -3,7 +3,8 @@ use Rattle.std.specs.Prelude.{◌≡◌, ◌⊎◌, ℕ, Option}
 use Rattle.row_table.specs.Tables.{HasTooManyRows}
 use Rattle.row_table.specs.declared.fault.TableFault.{TableFault}
 use Rattle.row_table.specs.declared.fault.TableFault.TheVariants.{NoMemory, TooManyRows}
-use Rattle.frames_c.specs.Held.{LoadedData, IsVacant, held_section}
+use Rattle.c_handle.specs.Handles.{LeadsNowhere}
+use Rattle.frames_c.specs.Held.{LoadedData, held_section}
 
 -- why there is no table
 abbrev pub table_fault_told : TableFault → ℕ
@@ -14,5 +15,5 @@ table_fault_told TooManyRows = 2
 abbrev pub AnswersRowTable : Option LoadedData → ℕ → Option LoadedData → Type 0
 AnswersRowTable section result made =
     ((result ≡ 0) × (made ≡ section))
-    ⊎ ((result ≡ 1) × IsVacant made)
-    ⊎ ((result ≡ 2) × IsVacant made × HasTooManyRows (held_section section))
+    ⊎ ((result ≡ 1) × LeadsNowhere made)
+    ⊎ ((result ≡ 2) × LeadsNowhere made × HasTooManyRows (held_section section))

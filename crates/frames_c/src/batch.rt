@@ -1,7 +1,7 @@
 //! The rows of many addresses at once.
 
 ghost use Rattle.std.specs.Prelude.{◌≡◌, length};
-ghost use Rattle.c_handle.specs.Handles.{IsHandedIn};
+ghost use Rattle.c_handle.specs.Handles.{LeadsNowhere, LeadsSomewhere};
 ghost use Rattle.frames_c.specs.Held.{held_loaded};
 ghost use Rattle.frames_c.specs.Batches.{IsBatchRow, AreRowsBelow, AnswersRows};
 
@@ -64,7 +64,8 @@ pub extern "C" fn frames_c_rows(
     rows: &mut [FramesRow],
     back: &mut SectionHandle,
 ) -> bool
-    requires held { IsHandedIn section.held back.old.held }
+    requires held { LeadsSomewhere section.held }
+    requires back { LeadsNowhere back.old.held }
     ensures back { back.new.held ≡ section.held }
     ensures rows { AnswersRows (held_loaded section.held) pcs.now rows.old result rows.new }
 {

@@ -1,7 +1,7 @@
 //! What was refused in a section.
 
 ghost use Rattle.std.specs.Prelude.{◌≡◌};
-ghost use Rattle.c_handle.specs.Handles.{IsHandedIn};
+ghost use Rattle.c_handle.specs.Handles.{LeadsNowhere, LeadsSomewhere};
 ghost use Rattle.c_sections.specs.Refusals.{refusal_told};
 ghost use Rattle.frames_c.specs.Claims.{claim_first, claim_range, claim_told, refusals_told};
 ghost use Rattle.frames_c.specs.Claims.{AnswersClaim};
@@ -109,7 +109,8 @@ pub extern "C" fn frames_c_claim(
     out: &mut FramesClaim,
     back: &mut SectionHandle,
 ) -> bool
-    requires held { IsHandedIn section.held back.old.held }
+    requires held { LeadsSomewhere section.held }
+    requires back { LeadsNowhere back.old.held }
     ensures back { back.new.held ≡ section.held }
     ensures claim { AnswersClaim (claim_in pc (held_loaded section.held)) result out.old out.new }
 {

@@ -1,7 +1,7 @@
 //! The FDE of an address.
 
 ghost use Rattle.std.specs.Prelude.{◌≡◌, ◌<◌, ◌^◌};
-ghost use Rattle.c_handle.specs.Handles.{IsHandedIn};
+ghost use Rattle.c_handle.specs.Handles.{LeadsNowhere, LeadsSomewhere};
 ghost use Rattle.frame_parse.specs.Sections.{first_cover};
 ghost use Rattle.frames_c.specs.Held.{claim_in, held_loaded, held_section};
 ghost use Rattle.frames_c.specs.Held.{unless_claimed};
@@ -86,7 +86,8 @@ pub extern "C" fn frames_c_find(
     out: &mut FramesFde,
     back: &mut SectionHandle,
 ) -> bool
-    requires held { IsHandedIn section.held back.old.held }
+    requires held { LeadsSomewhere section.held }
+    requires back { LeadsNowhere back.old.held }
     ensures back { back.new.held ≡ section.held }
     ensures fde { AnswersFde (unless_claimed (claim_in pc (held_loaded section.held))
         (first_cover pc (held_section section.held).fdes)) result out.old out.new }

@@ -4,8 +4,8 @@
 
 ghost use Rattle.std.specs.Prelude.{◌≡◌, Option, Some, List};
 ghost use Rattle.std.specs.Coded.{coded_option};
-ghost use Rattle.c_handle.specs.Handles.{handle_owns};
-ghost use Rattle.frames_c.specs.Held.{LoadedData, IsHeld};
+ghost use Rattle.c_handle.specs.Handles.{LeadsSomewhere, handle_owns};
+ghost use Rattle.frames_c.specs.Held.{LoadedData};
 ghost use Rattle.stack_walk.specs.Modules.{ModuleData};
 ghost use Rattle.frame_expr.specs.Regions.{RegionData};
 ghost use Rattle.frames_c.specs.contracts.share.SectionShare.{the_row as section_row};
@@ -43,7 +43,7 @@ impl SectionHandle {
 
     /// The share. From here on the handle is nothing.
     pub(crate) fn open(self, alloc: Global) -> Box<SectionShare, Global>
-        requires { IsHeld self.held }
+        requires { LeadsSomewhere self.held }
         ensures { self.held ≡ Some result.value }
     {
         self.into_parts(alloc).into_box()
@@ -57,7 +57,7 @@ impl SectionHandle {
     }
 
     fn into_parts(self, alloc: Global) -> Parts<SectionShare, Global>
-        requires { IsHeld self.held }
+        requires { LeadsSomewhere self.held }
         ensures { self.held ≡ Some result.value }
     {
         let SectionHandle { at } = self;
@@ -92,7 +92,7 @@ impl RowTableHandle {
 
     /// The share. From here on the handle is nothing.
     pub(crate) fn open(self, alloc: Global) -> Box<TableShare, Global>
-        requires { IsHeld self.held }
+        requires { LeadsSomewhere self.held }
         ensures { self.held ≡ Some result.value }
     {
         self.into_parts(alloc).into_box()
@@ -106,7 +106,7 @@ impl RowTableHandle {
     }
 
     fn into_parts(self, alloc: Global) -> Parts<TableShare, Global>
-        requires { IsHeld self.held }
+        requires { LeadsSomewhere self.held }
         ensures { self.held ≡ Some result.value }
     {
         let RowTableHandle { at } = self;
@@ -141,7 +141,7 @@ impl ModulesHandle {
 
     /// The modules. From here on the handle is nothing.
     pub(crate) fn open(self, alloc: Global) -> Box<LoadedModules, Global>
-        requires { IsHeld self.held }
+        requires { LeadsSomewhere self.held }
         ensures { self.held ≡ Some result.value }
     {
         self.into_parts(alloc).into_box()
@@ -155,7 +155,7 @@ impl ModulesHandle {
     }
 
     fn into_parts(self, alloc: Global) -> Parts<LoadedModules, Global>
-        requires { IsHeld self.held }
+        requires { LeadsSomewhere self.held }
         ensures { self.held ≡ Some result.value }
     {
         let ModulesHandle { at } = self;
@@ -190,7 +190,7 @@ impl MemoryHandle {
 
     /// The memory. From here on the handle is nothing.
     pub(crate) fn open(self, alloc: Global) -> Box<Memory, Global>
-        requires { IsHeld self.held }
+        requires { LeadsSomewhere self.held }
         ensures { self.held ≡ Some result.value }
     {
         self.into_parts(alloc).into_box()
@@ -204,7 +204,7 @@ impl MemoryHandle {
     }
 
     fn into_parts(self, alloc: Global) -> Parts<Memory, Global>
-        requires { IsHeld self.held }
+        requires { LeadsSomewhere self.held }
         ensures { self.held ≡ Some result.value }
     {
         let MemoryHandle { at } = self;

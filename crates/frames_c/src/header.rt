@@ -1,12 +1,12 @@
 //! A section with its header is read in one call.
 
 ghost use Rattle.std.specs.Prelude.{◌≡◌, ◌⊎◌, ◌<◌, ◌^◌, [], length, true, false, IfOk, IfErr};
+ghost use Rattle.c_handle.specs.Handles.{LeadsNowhere};
 ghost use Rattle.c_sections.specs.Refusals.{IsToldRefusal};
 ghost use Rattle.eh_hdr.specs.Headers.{IsHeader, IsRefusedHeader};
 ghost use Rattle.eh_hdr.specs.Tables.{IsSortedTable};
 ghost use Rattle.eh_hdr.specs.declared.fault.HeaderFault.TheVariants.{NoMemory};
 ghost use Rattle.frame_parse.specs.Sections.{HasFdes};
-ghost use Rattle.frames_c.specs.Held.{IsVacant};
 ghost use Rattle.frames_c.specs.Loads.{LeadsToLoaded, HasNothingRefused};
 ghost use Rattle.frames_c.specs.HeaderAnswers.{header_refused, IsHeaderTold, LeadsWithHeader};
 
@@ -112,7 +112,7 @@ pub extern "C" fn frames_c_read_with_header(
     told: &mut FramesHeader,
     out: &mut SectionHandle,
 ) -> bool
-    requires out { IsVacant out.old.held }
+    requires out { LeadsNowhere out.old.held }
     ensures section { result ≡ true → LeadsToLoaded address bytes.now out.new.held }
     ensures sound { result ≡ true → HasNothingRefused out.new.held }
     ensures header { result ≡ true
@@ -120,7 +120,7 @@ pub extern "C" fn frames_c_read_with_header(
     ensures unrefused { result ≡ true → refusal.new ≡ refusal.old }
     ensures refusal { result ≡ false → IsToldRefusal address bytes.now refusal.new }
     ensures untold { result ≡ false → told.new ≡ told.old }
-    ensures nothing { result ≡ false → IsVacant out.new.held }
+    ensures nothing { result ≡ false → LeadsNowhere out.new.held }
 {
     let section = match read_section(alloc, address, bytes) {
         Ok(section) => section,

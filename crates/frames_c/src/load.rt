@@ -1,7 +1,7 @@
 //! Sections are read.
 
 ghost use Rattle.std.specs.Prelude.{◌≡◌, ◌<◌, ◌^◌, [], length, true, false, None, IfOk, IfErr};
-ghost use Rattle.c_handle.specs.Handles.{IsHandedIn};
+ghost use Rattle.c_handle.specs.Handles.{LeadsNowhere, LeadsSomewhere};
 ghost use Rattle.frame_parse.specs.declared.fault.FrameFault.TheVariants.{NoMemory};
 ghost use Rattle.sound_records.specs.Items.{items_of, refused_in};
 ghost use Rattle.sound_records.specs.Sections.{sound_section};
@@ -10,7 +10,7 @@ ghost use Rattle.c_sections.specs.Loads.{IsLoaded};
 ghost use Rattle.c_sections.specs.Refusals.{IsLoadFault, IsToldRefusal};
 ghost use Rattle.frames_c.specs.Claims.{refusals_told, sound_loaded, IsToldUnread, IsUnread};
 ghost use Rattle.frames_c.specs.Claims.{LeadsToSound};
-ghost use Rattle.frames_c.specs.Held.{IsVacant, held_section};
+ghost use Rattle.frames_c.specs.Held.{held_section};
 ghost use Rattle.frames_c.specs.Loads.{LeadsToLoaded, HasNothingRefused, HasNoTable};
 
 use crate::claims::FramesRefused;
@@ -58,13 +58,13 @@ pub extern "C" fn frames_c_read(
     refusal: &mut FramesRefusal,
     out: &mut SectionHandle,
 ) -> bool
-    requires out { IsVacant out.old.held }
+    requires out { LeadsNowhere out.old.held }
     ensures section { result ≡ true → LeadsToLoaded address bytes.now out.new.held }
     ensures sound { result ≡ true → HasNothingRefused out.new.held }
     ensures table { result ≡ true → HasNoTable out.new.held }
     ensures unrefused { result ≡ true → refusal.new ≡ refusal.old }
     ensures refusal { result ≡ false → IsToldRefusal address bytes.now refusal.new }
-    ensures nothing { result ≡ false → IsVacant out.new.held }
+    ensures nothing { result ≡ false → LeadsNowhere out.new.held }
 {
     match load(alloc, address, bytes) {
         Ok(share) => {
@@ -109,14 +109,14 @@ pub extern "C" fn frames_c_read_sound(
     told: &mut FramesRefused,
     out: &mut SectionHandle,
 ) -> bool
-    requires out { IsVacant out.old.held }
+    requires out { LeadsNowhere out.old.held }
     ensures section { result ≡ true → LeadsToSound address bytes.now out.new.held }
     ensures refused { result ≡ true
         → told.new ≡ refusals_told (refused_in (items_of address bytes.now)) }
     ensures unrefused { result ≡ true → refusal.new ≡ refusal.old }
     ensures refusal { result ≡ false → IsToldUnread bytes.now refusal.new }
     ensures untold { result ≡ false → told.new ≡ told.old }
-    ensures nothing { result ≡ false → IsVacant out.new.held }
+    ensures nothing { result ≡ false → LeadsNowhere out.new.held }
 {
     match load_sound(alloc, address, bytes) {
         Ok(share) => {
@@ -138,7 +138,8 @@ pub extern "C" fn frames_c_count(
     section: SectionHandle,
     back: &mut SectionHandle,
 ) -> usize
-    requires held { IsHandedIn section.held back.old.held }
+    requires held { LeadsSomewhere section.held }
+    requires back { LeadsNowhere back.old.held }
     ensures back { back.new.held ≡ section.held }
     ensures count { result ≡ length (held_section section.held).fdes }
 {

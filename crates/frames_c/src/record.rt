@@ -1,8 +1,7 @@
 //! Memory is recorded, and freed.
 
 ghost use Rattle.std.specs.Prelude.{◌≡◌, true, false, Some, []};
-ghost use Rattle.c_handle.specs.Handles.{IsHandedIn};
-ghost use Rattle.frames_c.specs.Held.{IsHeld, IsVacant};
+ghost use Rattle.c_handle.specs.Handles.{LeadsNowhere, LeadsSomewhere};
 ghost use Rattle.frames_c.specs.Recorded.{recorded_in, AnswersRegion};
 
 use crate::handles::MemoryHandle;
@@ -12,9 +11,9 @@ use std::alloc::Global;
 /// Memory without any region; false where memory runs out.
 #[unsafe(no_mangle)]
 pub extern "C" fn frames_c_memory(alloc: Global, out: &mut MemoryHandle) -> bool
-    requires { IsVacant out.old.held }
+    requires { LeadsNowhere out.old.held }
     ensures memory { result ≡ true → out.new.held ≡ Some [] }
-    ensures nothing { result ≡ false → IsVacant out.new.held }
+    ensures nothing { result ≡ false → LeadsNowhere out.new.held }
 {
     match Box::new(alloc, Memory::new(alloc)) {
         Ok(memory) => {
@@ -49,10 +48,11 @@ pub extern "C" fn frames_c_memory_push(
     bytes: &[u8],
     back: &mut MemoryHandle,
 ) -> u64
-    requires memory { IsHandedIn memory.held back.old.held }
+    requires memory { LeadsSomewhere memory.held }
+    requires back { LeadsNowhere back.old.held }
     ensures region { AnswersRegion (recorded_in memory.held) address bytes.now result
         (recorded_in back.new.held) }
-    ensures back { IsHeld back.new.held }
+    ensures back { LeadsSomewhere back.new.held }
 {
     let mut recorded = memory.open(alloc);
     let pushed = push(&mut recorded, address, bytes);
@@ -63,7 +63,7 @@ pub extern "C" fn frames_c_memory_push(
 /// Frees recorded memory.
 #[unsafe(no_mangle)]
 pub extern "C" fn frames_c_memory_free(alloc: Global, memory: MemoryHandle)
-    requires { IsHeld memory.held }
+    requires { LeadsSomewhere memory.held }
 {
     drop(memory.open(alloc));
 }

@@ -1,7 +1,7 @@
 //! The row of an address.
 
 ghost use Rattle.std.specs.Prelude.{◌≡◌, length, true, false};
-ghost use Rattle.c_handle.specs.Handles.{IsHandedIn};
+ghost use Rattle.c_handle.specs.Handles.{LeadsNowhere, LeadsSomewhere};
 ghost use Rattle.unwind_step.specs.Backtrace.{fde_in};
 ghost use Rattle.frames_c.specs.Held.{claim_in, held_loaded, held_section};
 ghost use Rattle.frames_c.specs.Held.{unless_claimed};
@@ -126,7 +126,8 @@ pub extern "C" fn frames_c_row(
     out: &mut FramesRow,
     back: &mut SectionHandle,
 ) -> bool
-    requires held { IsHandedIn section.held back.old.held }
+    requires held { LeadsSomewhere section.held }
+    requires back { LeadsNowhere back.old.held }
     ensures back { back.new.held ≡ section.held }
     ensures row { AnswersRow (unless_claimed (claim_in pc (held_loaded section.held))
         (fde_in pc (held_section section.held))) pc result out.old out.new }
@@ -146,7 +147,8 @@ pub extern "C" fn frames_c_row_table_row(
     out: &mut FramesRow,
     back: &mut RowTableHandle,
 ) -> bool
-    requires held { IsHandedIn table.held back.old.held }
+    requires held { LeadsSomewhere table.held }
+    requires back { LeadsNowhere back.old.held }
     ensures back { back.new.held ≡ table.held }
     ensures row { AnswersRow (unless_claimed (claim_in pc (held_loaded table.held))
         (fde_in pc (held_section table.held))) pc result out.old out.new }

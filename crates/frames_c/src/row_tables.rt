@@ -1,9 +1,8 @@
 //! Row tables are made.
 
 ghost use Rattle.std.specs.Prelude.{◌≡◌, ◌⊎◌, IfOk, IfErr};
-ghost use Rattle.c_handle.specs.Handles.{IsHandedIn};
+ghost use Rattle.c_handle.specs.Handles.{LeadsNowhere, LeadsSomewhere};
 ghost use Rattle.row_table.specs.Tables.{HasTooManyRows};
-ghost use Rattle.frames_c.specs.Held.{IsVacant};
 ghost use Rattle.frames_c.specs.RowTables.{table_fault_told, AnswersRowTable};
 
 use crate::handles::{RowTableHandle, SectionHandle};
@@ -46,8 +45,9 @@ pub extern "C" fn frames_c_row_table(
     out: &mut RowTableHandle,
     back: &mut SectionHandle,
 ) -> u64
-    requires held { IsHandedIn section.held back.old.held }
-    requires out { IsVacant out.old.held }
+    requires held { LeadsSomewhere section.held }
+    requires back { LeadsNowhere back.old.held }
+    requires out { LeadsNowhere out.old.held }
     ensures back { back.new.held ≡ section.held }
     ensures table { AnswersRowTable section.held result out.new.held }
 {

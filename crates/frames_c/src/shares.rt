@@ -1,8 +1,7 @@
 //! Sections, row tables and modules are shared and freed.
 
 ghost use Rattle.std.specs.Prelude.{◌≡◌, true, false, Ok, IfSome};
-ghost use Rattle.c_handle.specs.Handles.{IsHandedIn};
-ghost use Rattle.frames_c.specs.Held.{IsHeld, IsVacant};
+ghost use Rattle.c_handle.specs.Handles.{LeadsNowhere, LeadsSomewhere};
 
 use crate::handles::{ModulesHandle, RowTableHandle, SectionHandle};
 use std::alloc::{AllocError, Global};
@@ -20,7 +19,7 @@ fn boxed<T: Drop>(alloc: Global, made: Result<T, AllocError>) -> Option<Box<T, G
 /// Frees a share. The section goes with its last one.
 #[unsafe(no_mangle)]
 pub extern "C" fn frames_c_free(alloc: Global, section: SectionHandle)
-    requires { IsHeld section.held }
+    requires { LeadsSomewhere section.held }
 {
     drop(section.open(alloc));
 }
@@ -33,11 +32,12 @@ pub extern "C" fn frames_c_share(
     out: &mut SectionHandle,
     back: &mut SectionHandle,
 ) -> bool
-    requires held { IsHandedIn section.held back.old.held }
-    requires out { IsVacant out.old.held }
+    requires held { LeadsSomewhere section.held }
+    requires back { LeadsNowhere back.old.held }
+    requires out { LeadsNowhere out.old.held }
     ensures back { back.new.held ≡ section.held }
     ensures shared { result ≡ true → out.new.held ≡ section.held }
-    ensures nothing { result ≡ false → IsVacant out.new.held }
+    ensures nothing { result ≡ false → LeadsNowhere out.new.held }
 {
     let share = section.open(alloc);
     let shared = match boxed(alloc, share.another()) {
@@ -54,7 +54,7 @@ pub extern "C" fn frames_c_share(
 /// Frees a share. The table goes with its last one.
 #[unsafe(no_mangle)]
 pub extern "C" fn frames_c_row_table_free(alloc: Global, table: RowTableHandle)
-    requires { IsHeld table.held }
+    requires { LeadsSomewhere table.held }
 {
     drop(table.open(alloc));
 }
@@ -67,11 +67,12 @@ pub extern "C" fn frames_c_row_table_share(
     out: &mut RowTableHandle,
     back: &mut RowTableHandle,
 ) -> bool
-    requires held { IsHandedIn table.held back.old.held }
-    requires out { IsVacant out.old.held }
+    requires held { LeadsSomewhere table.held }
+    requires back { LeadsNowhere back.old.held }
+    requires out { LeadsNowhere out.old.held }
     ensures back { back.new.held ≡ table.held }
     ensures shared { result ≡ true → out.new.held ≡ table.held }
-    ensures nothing { result ≡ false → IsVacant out.new.held }
+    ensures nothing { result ≡ false → LeadsNowhere out.new.held }
 {
     let share = table.open(alloc);
     let shared = match boxed(alloc, share.another()) {
@@ -88,7 +89,7 @@ pub extern "C" fn frames_c_row_table_share(
 /// Frees the modules, each with its share.
 #[unsafe(no_mangle)]
 pub extern "C" fn frames_c_modules_free(alloc: Global, modules: ModulesHandle)
-    requires { IsHeld modules.held }
+    requires { LeadsSomewhere modules.held }
 {
     drop(modules.open(alloc));
 }
@@ -102,11 +103,12 @@ pub extern "C" fn frames_c_modules_share(
     out: &mut ModulesHandle,
     back: &mut ModulesHandle,
 ) -> bool
-    requires modules { IsHandedIn modules.held back.old.held }
-    requires out { IsVacant out.old.held }
+    requires modules { LeadsSomewhere modules.held }
+    requires back { LeadsNowhere back.old.held }
+    requires out { LeadsNowhere out.old.held }
     ensures back { back.new.held ≡ modules.held }
     ensures shared { result ≡ true → out.new.held ≡ modules.held }
-    ensures nothing { result ≡ false → IsVacant out.new.held }
+    ensures nothing { result ≡ false → LeadsNowhere out.new.held }
 {
     let list = modules.open(alloc);
     let shared = match boxed(alloc, list.another(alloc)) {

@@ -1,7 +1,7 @@
 //! One frame of a stack from another.
 
 ghost use Rattle.std.specs.Prelude.{◌≡◌, [], ◌∷◌, None};
-ghost use Rattle.c_handle.specs.Handles.{IsHandedIn};
+ghost use Rattle.c_handle.specs.Handles.{LeadsNowhere, LeadsSomewhere};
 ghost use Rattle.frame_expr.specs.Regions.{word_at};
 ghost use Rattle.told_memory.specs.Telling.{told_regions};
 ghost use Rattle.frames_c.specs.FrameSteps.{frame_look, outcome_told, frame_after, AnswersStep};
@@ -119,8 +119,10 @@ pub extern "C" fn frames_c_step(
     back: &mut SectionHandle,
     memory_back: &mut MemoryHandle,
 ) -> u64
-    requires held { IsHandedIn section.held back.old.held }
-    requires recorded { IsHandedIn memory.held memory_back.old.held }
+    requires held { LeadsSomewhere section.held }
+    requires back { LeadsNowhere back.old.held }
+    requires recorded { LeadsSomewhere memory.held }
+    requires memory_back { LeadsNowhere memory_back.old.held }
     ensures back { back.new.held ≡ section.held }
     ensures memory_back { memory_back.new.held ≡ memory.held }
     ensures step { AnswersStep (held_loaded section.held) (recorded_in memory.held)
@@ -145,7 +147,8 @@ pub extern "C" fn frames_c_step_lent(
     frame: &mut FramesFrame,
     back: &mut SectionHandle,
 ) -> u64
-    requires held { IsHandedIn section.held back.old.held }
+    requires held { LeadsSomewhere section.held }
+    requires back { LeadsNowhere back.old.held }
     ensures back { back.new.held ≡ section.held }
     ensures step { AnswersStep (held_loaded section.held)
         (record { address = address; bytes = stack.now } ∷ []) frame.old result frame.new }
@@ -170,8 +173,10 @@ pub extern "C" fn frames_c_row_table_step(
     back: &mut RowTableHandle,
     memory_back: &mut MemoryHandle,
 ) -> u64
-    requires held { IsHandedIn table.held back.old.held }
-    requires recorded { IsHandedIn memory.held memory_back.old.held }
+    requires held { LeadsSomewhere table.held }
+    requires back { LeadsNowhere back.old.held }
+    requires recorded { LeadsSomewhere memory.held }
+    requires memory_back { LeadsNowhere memory_back.old.held }
     ensures back { back.new.held ≡ table.held }
     ensures memory_back { memory_back.new.held ≡ memory.held }
     ensures step { AnswersStep (held_loaded table.held) (recorded_in memory.held)
@@ -195,7 +200,8 @@ pub extern "C" fn frames_c_row_table_step_lent(
     frame: &mut FramesFrame,
     back: &mut RowTableHandle,
 ) -> u64
-    requires held { IsHandedIn table.held back.old.held }
+    requires held { LeadsSomewhere table.held }
+    requires back { LeadsNowhere back.old.held }
     ensures back { back.new.held ≡ table.held }
     ensures step { AnswersStep (held_loaded table.held)
         (record { address = address; bytes = stack.now } ∷ []) frame.old result frame.new }
@@ -241,7 +247,8 @@ pub extern "C" fn frames_c_step_asking(
     frame: &mut FramesFrame,
     back: &mut SectionHandle,
 ) -> u64
-    requires held { IsHandedIn section.held back.old.held }
+    requires held { LeadsSomewhere section.held }
+    requires back { LeadsNowhere back.old.held }
     ensures back { back.new.held ≡ section.held }
     ensures step { AnswersStep (held_loaded section.held)
         (told_regions address stack.now words.now) frame.old result frame.new }
@@ -272,7 +279,8 @@ pub extern "C" fn frames_c_row_table_step_asking(
     frame: &mut FramesFrame,
     back: &mut RowTableHandle,
 ) -> u64
-    requires held { IsHandedIn table.held back.old.held }
+    requires held { LeadsSomewhere table.held }
+    requires back { LeadsNowhere back.old.held }
     ensures back { back.new.held ≡ table.held }
     ensures step { AnswersStep (held_loaded table.held)
         (told_regions address stack.now words.now) frame.old result frame.new }

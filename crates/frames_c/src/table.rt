@@ -3,7 +3,7 @@
 ghost use Rattle.std.specs.Prelude.{◌≡◌, ◌≤◌, ◌<◌, Option, length, take, if◌then◌else◌};
 ghost use Rattle.std.specs.List.Sorted.{IsPermutation, IsNonDecreasingBy};
 ghost use Rattle.std.specs.Option.{unwrap_or};
-ghost use Rattle.c_handle.specs.Handles.{IsHandedIn};
+ghost use Rattle.c_handle.specs.Handles.{LeadsNowhere, LeadsSomewhere};
 ghost use Rattle.frames_c.specs.declared.table.FramesEntry.{FramesEntry};
 ghost use Rattle.frames_c.specs.Fdes.{is_there};
 ghost use Rattle.frames_c.specs.Held.{held_section};
@@ -110,7 +110,8 @@ pub extern "C" fn frames_c_table(
     count: &mut usize,
     back: &mut SectionHandle,
 ) -> u64
-    requires held { IsHandedIn section.held back.old.held }
+    requires held { LeadsSomewhere section.held }
+    requires back { LeadsNowhere back.old.held }
     ensures back { back.new.held ≡ section.held }
     ensures table { AnswersTable (held_section section.held).fdes entries.old result count.new
         entries.new }

@@ -1,8 +1,8 @@
 //! Modules are listed, and stacks walked over them.
 
 ghost use Rattle.std.specs.Prelude.{◌≡◌, ◌<◌, ◌≤◌, [], ◌∷◌, true, false, Some, length, take, drop};
-ghost use Rattle.c_handle.specs.Handles.{IsHandedIn};
-ghost use Rattle.frames_c.specs.Held.{IsHeld, IsVacant, held_loaded};
+ghost use Rattle.c_handle.specs.Handles.{LeadsNowhere, LeadsSomewhere};
+ghost use Rattle.frames_c.specs.Held.{held_loaded};
 ghost use Rattle.frames_c.specs.StackLines.{AnswersModule, AnswersWalk, frame_given, modules_in};
 ghost use Rattle.frames_c.specs.StackLines.{module_loaded, module_with, missing_after};
 ghost use Rattle.frames_c.specs.StackLines.{walk_end_told};
@@ -19,9 +19,9 @@ use unwind_step::{AddressKind, Frame};
 /// A list without any module; false where memory runs out.
 #[unsafe(no_mangle)]
 pub extern "C" fn frames_c_modules(alloc: Global, out: &mut ModulesHandle) -> bool
-    requires { IsVacant out.old.held }
+    requires { LeadsNowhere out.old.held }
     ensures modules { result ≡ true → out.new.held ≡ Some [] }
-    ensures nothing { result ≡ false → IsVacant out.new.held }
+    ensures nothing { result ≡ false → LeadsNowhere out.new.held }
 {
     match Box::new(alloc, LoadedModules::new(alloc)) {
         Ok(modules) => {
@@ -56,11 +56,12 @@ pub extern "C" fn frames_c_modules_add(
     section: SectionHandle,
     back: &mut ModulesHandle,
 ) -> u64
-    requires modules { IsHandedIn modules.held back.old.held }
-    requires held { IsHeld section.held }
+    requires modules { LeadsSomewhere modules.held }
+    requires back { LeadsNowhere back.old.held }
+    requires held { LeadsSomewhere section.held }
     ensures module { AnswersModule (modules_in modules.held)
         (module_with first size (held_loaded section.held)) result (modules_in back.new.held) }
-    ensures back { IsHeld back.new.held }
+    ensures back { LeadsSomewhere back.new.held }
 {
     let mut list = modules.open(alloc);
     let share = Box::into_inner(section.open(alloc));
@@ -79,11 +80,12 @@ pub extern "C" fn frames_c_modules_add_rows(
     table: RowTableHandle,
     back: &mut ModulesHandle,
 ) -> u64
-    requires modules { IsHandedIn modules.held back.old.held }
-    requires held { IsHeld table.held }
+    requires modules { LeadsSomewhere modules.held }
+    requires back { LeadsNowhere back.old.held }
+    requires held { LeadsSomewhere table.held }
     ensures module { AnswersModule (modules_in modules.held)
         (module_with first size (held_loaded table.held)) result (modules_in back.new.held) }
-    ensures back { IsHeld back.new.held }
+    ensures back { LeadsSomewhere back.new.held }
 {
     let mut list = modules.open(alloc);
     let share = Box::into_inner(table.open(alloc));
@@ -168,7 +170,8 @@ pub extern "C" fn frames_c_walk(
     count: &mut usize,
     back: &mut ModulesHandle,
 ) -> u64
-    requires modules { IsHandedIn modules.held back.old.held }
+    requires modules { LeadsSomewhere modules.held }
+    requires back { LeadsNowhere back.old.held }
     requires room { 0 < length lines.old }
     ensures back { back.new.held ≡ modules.held }
     ensures walk { AnswersWalk (modules_in modules.held)

@@ -42,10 +42,6 @@ pub record IsClient (c : ClientData) : Type 0 where
   pub registered : IsCacheOf Registered c.registered c.me.log
   pub loaded : IsCacheOf Loaded c.loaded c.me.log
 
--- a handle leads to a client
-abbrev pub LeadsToClient : Option ClientData → Type 0
-LeadsToClient held = (c : ClientData) × (held ≡ Some c)
-
 -- what a handle leads to after a call that made a client, or didn't
 abbrev pub opened : {F : Type 0} → Result ClientData F → Option ClientData
 opened (Ok c) = Some c

@@ -15,10 +15,6 @@ pub record ReaderData : Type 0 where
   pub words : WordsData
   pub me : CallerData
 
--- a handle leads to a reader
-abbrev pub LeadsToReader : Option ReaderData → Type 0
-LeadsToReader held = (r : ReaderData) × (held ≡ Some r)
-
 -- a reader that has seen what a caller or a reader has
 abbrev pub reader_beside : WordsData → CallerData → ReaderData
 reader_beside words me = record {

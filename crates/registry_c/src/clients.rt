@@ -3,8 +3,7 @@
 ghost use Rattle.std.specs.Prelude.{◌≡◌, ◌↔◌, IfSome, IsSomeAnd, length, true};
 ghost use Rattle.word_rule.specs.Callers.{IsAlone};
 ghost use Rattle.registry_core.specs.Rounds.{IsWholeWhereAlone};
-ghost use Rattle.c_handle.specs.Handles.{HandsBack, IsHandedIn, LeadsNowhere};
-ghost use Rattle.registry_c.specs.Clients.{LeadsToClient};
+ghost use Rattle.c_handle.specs.Handles.{HandsBack, LeadsNowhere, LeadsSomewhere};
 ghost use Rattle.registry_c.specs.Limits.{TellsNew};
 ghost use Rattle.registry_c.specs.Splits.{Joins, ShareByName, TellsJoin, TellsSplit};
 
@@ -62,7 +61,8 @@ pub extern "C" fn registry_c_split(
     out: &mut ClientHandle,
     back: &mut ClientHandle,
 ) -> u64
-    requires client { IsHandedIn client.held back.old.held }
+    requires client { LeadsSomewhere client.held }
+    requires back { LeadsNowhere back.old.held }
     requires out { LeadsNowhere out.old.held }
     ensures { HandsBack (TellsSplit give result out.new.held) client.held back.new.held }
 {
@@ -109,8 +109,10 @@ pub extern "C" fn registry_c_join(
     back: &mut ClientHandle,
     other_back: &mut ClientHandle,
 ) -> u64
-    requires client { IsHandedIn client.held back.old.held }
-    requires other { IsHandedIn other.held other_back.old.held }
+    requires client { LeadsSomewhere client.held }
+    requires back { LeadsNowhere back.old.held }
+    requires other { LeadsSomewhere other.held }
+    requires other_back { LeadsNowhere other_back.old.held }
     requires same { IfSome client.held (λ c. IfSome other.held (λ o. ShareByName o c)) }
     ensures { IsSomeAnd other.held
         (λ o. HandsBack (TellsJoin o result other_back.new.held) client.held back.new.held) }
@@ -126,7 +128,7 @@ pub extern "C" fn registry_c_join(
 /// whether every other client was joined into it: then it has seen all that were accepted.
 #[unsafe(no_mangle)]
 pub extern "C" fn registry_c_close(alloc: Global, client: ClientHandle, seen: &mut u32) -> bool
-    requires client { LeadsToClient client.held }
+    requires client { LeadsSomewhere client.held }
     ensures seen { IsSomeAnd client.held (λ c. seen.new ≡ length c.me.log.past) }
     ensures alone { IsSomeAnd client.held (λ c. (result ≡ true) ↔ IsAlone c.me.log.lineage) }
     ensures whole { IsSomeAnd client.held (λ c. IsWholeWhereAlone c.me.log) }
@@ -144,7 +146,8 @@ pub extern "C" fn registry_c_left(
     client: ClientHandle,
     back: &mut ClientHandle,
 ) -> u32
-    requires client { IsHandedIn client.held back.old.held }
+    requires client { LeadsSomewhere client.held }
+    requires back { LeadsNowhere back.old.held }
     ensures left { IsSomeAnd client.held (λ c. result ≡ c.me.left) }
     ensures back { back.new.held ≡ client.held }
 {
@@ -161,7 +164,8 @@ pub extern "C" fn registry_c_seen(
     client: ClientHandle,
     back: &mut ClientHandle,
 ) -> u32
-    requires client { IsHandedIn client.held back.old.held }
+    requires client { LeadsSomewhere client.held }
+    requires back { LeadsNowhere back.old.held }
     ensures seen { IsSomeAnd client.held (λ c. result ≡ length c.me.log.past) }
     ensures back { back.new.held ≡ client.held }
 {

@@ -1,7 +1,7 @@
 //! Lookups: each is one try, takes no lock, counts no share, and stores nothing that is shared.
 
 ghost use Rattle.std.specs.Prelude.{◌≡◌, Ok};
-ghost use Rattle.c_handle.specs.Handles.{HandsBack, IsHandedIn};
+ghost use Rattle.c_handle.specs.Handles.{HandsBack, LeadsNowhere, LeadsSomewhere};
 ghost use Rattle.registry_c.specs.Finds.{AsksLoaded, AsksLoadedBy, AsksRegistered};
 ghost use Rattle.registry_c.specs.Finds.{AsksRegisteredBy, FindsOnce, TellsFind};
 ghost use Rattle.registry_c.specs.Finds.{found_told, loaded_told, place_told};
@@ -185,7 +185,8 @@ pub extern "C" fn registry_c_try_registered(
     found: &mut RegistryFound,
     back: &mut ClientHandle,
 )
-    requires client { IsHandedIn client.held back.old.held }
+    requires client { LeadsSomewhere client.held }
+    requires back { LeadsNowhere back.old.held }
     ensures { HandsBack (TellsFind AsksRegistered found_told pc found.new) client.held
         back.new.held }
 {
@@ -204,7 +205,8 @@ pub extern "C" fn registry_c_try_loaded(
     found: &mut RegistryFound,
     back: &mut ClientHandle,
 )
-    requires client { IsHandedIn client.held back.old.held }
+    requires client { LeadsSomewhere client.held }
+    requires back { LeadsNowhere back.old.held }
     ensures { HandsBack (TellsFind AsksLoaded found_told pc found.new) client.held back.new.held }
 {
     let mut open = client.open(alloc);
@@ -222,7 +224,8 @@ pub extern "C" fn registry_c_find(
     place: &mut RegistryPlace,
     back: &mut ClientHandle,
 )
-    requires client { IsHandedIn client.held back.old.held }
+    requires client { LeadsSomewhere client.held }
+    requires back { LeadsNowhere back.old.held }
     ensures { HandsBack (TellsFind (FindsOnce LookupBy.Tables) place_told pc place.new) client.held
         back.new.held }
 {
@@ -241,7 +244,8 @@ pub extern "C" fn registry_c_find_cached(
     place: &mut RegistryPlace,
     back: &mut ClientHandle,
 )
-    requires client { IsHandedIn client.held back.old.held }
+    requires client { LeadsSomewhere client.held }
+    requires back { LeadsNowhere back.old.held }
     ensures { HandsBack (TellsFind (FindsOnce LookupBy.Caches) place_told pc place.new) client.held
         back.new.held }
 {

@@ -4,9 +4,9 @@
 
 ghost use Rattle.std.specs.Prelude.{◌≡◌, Option, Some};
 ghost use Rattle.std.specs.Coded.{coded_option};
-ghost use Rattle.c_handle.specs.Handles.{handle_owns};
-ghost use Rattle.registry_c.specs.Clients.{ClientData, LeadsToClient};
-ghost use Rattle.registry_c.specs.Readers.{ReaderData, LeadsToReader};
+ghost use Rattle.c_handle.specs.Handles.{LeadsSomewhere, handle_owns};
+ghost use Rattle.registry_c.specs.Clients.{ClientData};
+ghost use Rattle.registry_c.specs.Readers.{ReaderData};
 ghost use Rattle.registry_c.specs.contracts.client.Client.{the_row as client_row};
 ghost use Rattle.registry_c.specs.contracts.reader.RegistryReader.{the_row as reader_row};
 
@@ -38,7 +38,7 @@ impl ClientHandle {
 
     /// The client. From here on the handle is nothing.
     pub(crate) fn open(self, alloc: Global) -> Box<Client, Global>
-        requires { LeadsToClient self.held }
+        requires { LeadsSomewhere self.held }
         ensures { self.held ≡ Some result.value }
     {
         self.into_parts(alloc).into_box()
@@ -52,7 +52,7 @@ impl ClientHandle {
     }
 
     fn into_parts(self, alloc: Global) -> Parts<Client, Global>
-        requires { LeadsToClient self.held }
+        requires { LeadsSomewhere self.held }
         ensures { self.held ≡ Some result.value }
     {
         let ClientHandle { at } = self;
@@ -87,7 +87,7 @@ impl ReaderHandle {
 
     /// The reader. From here on the handle is nothing.
     pub(crate) fn open(self, alloc: Global) -> Box<RegistryReader, Global>
-        requires { LeadsToReader self.held }
+        requires { LeadsSomewhere self.held }
         ensures { self.held ≡ Some result.value }
     {
         self.into_parts(alloc).into_box()
@@ -101,7 +101,7 @@ impl ReaderHandle {
     }
 
     fn into_parts(self, alloc: Global) -> Parts<RegistryReader, Global>
-        requires { LeadsToReader self.held }
+        requires { LeadsSomewhere self.held }
         ensures { self.held ≡ Some result.value }
     {
         let ReaderHandle { at } = self;

@@ -1,9 +1,9 @@
 //! Readers are made and dropped, and look up.
 
 ghost use Rattle.std.specs.Prelude.{◌≡◌, IsSomeAnd, length};
-ghost use Rattle.c_handle.specs.Handles.{HandsBack, IsHandedIn, LeadsNowhere};
+ghost use Rattle.c_handle.specs.Handles.{HandsBack, LeadsNowhere, LeadsSomewhere};
 ghost use Rattle.registry_c.specs.Finds.{TellsFind, found_told, place_told};
-ghost use Rattle.registry_c.specs.Readers.{LeadsToReader, MakesAnother, MakesReader};
+ghost use Rattle.registry_c.specs.Readers.{MakesAnother, MakesReader};
 ghost use Rattle.registry_c.specs.Readers.{ReaderAsksLoaded, ReaderAsksRegistered, ReaderFinds};
 
 use crate::client::Client;
@@ -48,7 +48,8 @@ pub extern "C" fn registry_c_reader(
     out: &mut ReaderHandle,
     back: &mut ClientHandle,
 ) -> bool
-    requires client { IsHandedIn client.held back.old.held }
+    requires client { LeadsSomewhere client.held }
+    requires back { LeadsNowhere back.old.held }
     requires out { LeadsNowhere out.old.held }
     ensures { HandsBack (MakesReader result out.new.held) client.held back.new.held }
 {
@@ -67,7 +68,8 @@ pub extern "C" fn registry_c_reader_again(
     out: &mut ReaderHandle,
     back: &mut ReaderHandle,
 ) -> bool
-    requires reader { IsHandedIn reader.held back.old.held }
+    requires reader { LeadsSomewhere reader.held }
+    requires back { LeadsNowhere back.old.held }
     requires out { LeadsNowhere out.old.held }
     ensures { HandsBack (MakesAnother result out.new.held) reader.held back.new.held }
 {
@@ -81,7 +83,7 @@ pub extern "C" fn registry_c_reader_again(
 /// updates it had seen.
 #[unsafe(no_mangle)]
 pub extern "C" fn registry_c_reader_drop(alloc: Global, reader: ReaderHandle) -> u32
-    requires { LeadsToReader reader.held }
+    requires { LeadsSomewhere reader.held }
     ensures { IsSomeAnd reader.held (λ r. result ≡ length r.me.log.past) }
 {
     let open = reader.open(alloc);
@@ -98,7 +100,8 @@ pub extern "C" fn registry_c_reader_try_registered(
     found: &mut RegistryFound,
     back: &mut ReaderHandle,
 )
-    requires reader { IsHandedIn reader.held back.old.held }
+    requires reader { LeadsSomewhere reader.held }
+    requires back { LeadsNowhere back.old.held }
     ensures { HandsBack (TellsFind ReaderAsksRegistered found_told pc found.new) reader.held
         back.new.held }
 {
@@ -117,7 +120,8 @@ pub extern "C" fn registry_c_reader_try_loaded(
     found: &mut RegistryFound,
     back: &mut ReaderHandle,
 )
-    requires reader { IsHandedIn reader.held back.old.held }
+    requires reader { LeadsSomewhere reader.held }
+    requires back { LeadsNowhere back.old.held }
     ensures { HandsBack (TellsFind ReaderAsksLoaded found_told pc found.new) reader.held
         back.new.held }
 {
@@ -136,7 +140,8 @@ pub extern "C" fn registry_c_reader_find(
     place: &mut RegistryPlace,
     back: &mut ReaderHandle,
 )
-    requires reader { IsHandedIn reader.held back.old.held }
+    requires reader { LeadsSomewhere reader.held }
+    requires back { LeadsNowhere back.old.held }
     ensures { HandsBack (TellsFind ReaderFinds place_told pc place.new) reader.held back.new.held }
 {
     let mut open = reader.open(alloc);

@@ -4,7 +4,7 @@
 //! has used up its releases, one that is left takes its place.
 
 ghost use Rattle.std.specs.Prelude.{◌≡◌, MatchBool};
-ghost use Rattle.c_handle.specs.Handles.{HandsBack, IsHandedIn};
+ghost use Rattle.c_handle.specs.Handles.{HandsBack, LeadsNowhere, LeadsSomewhere};
 ghost use Rattle.registry_c.specs.Answers.{TellsAttempt, insertion_told, loading_told};
 ghost use Rattle.registry_c.specs.Answers.{removal_told, replacement_told};
 ghost use Rattle.registry_c.specs.Tries.{Begins, IsSpent, is_lost, is_provided};
@@ -177,7 +177,8 @@ pub extern "C" fn registry_c_register(
     answer: &mut RegistryAnswer,
     back: &mut ClientHandle,
 )
-    requires client { IsHandedIn client.held back.old.held }
+    requires client { LeadsSomewhere client.held }
+    requires back { LeadsNowhere back.old.held }
     ensures { HandsBack (TellsAttempt (Registers member.now) insertion_told answer.new) client.held
         back.new.held }
 {
@@ -195,7 +196,8 @@ pub extern "C" fn registry_c_deregister(
     answer: &mut RegistryAnswer,
     back: &mut ClientHandle,
 )
-    requires client { IsHandedIn client.held back.old.held }
+    requires client { LeadsSomewhere client.held }
+    requires back { LeadsNowhere back.old.held }
     ensures { HandsBack (TellsAttempt (Deregisters base) removal_told answer.new) client.held
         back.new.held }
 {
@@ -213,7 +215,8 @@ pub extern "C" fn registry_c_replace(
     answer: &mut RegistryAnswer,
     back: &mut ClientHandle,
 )
-    requires client { IsHandedIn client.held back.old.held }
+    requires client { LeadsSomewhere client.held }
+    requires back { LeadsNowhere back.old.held }
     ensures { HandsBack
         (TellsAttempt (Replaces member.now) (replacement_told member.now) answer.new)
         client.held back.new.held }
@@ -232,7 +235,8 @@ pub extern "C" fn registry_c_load(
     answer: &mut RegistryAnswer,
     back: &mut ClientHandle,
 )
-    requires client { IsHandedIn client.held back.old.held }
+    requires client { LeadsSomewhere client.held }
+    requires back { LeadsNowhere back.old.held }
     ensures { HandsBack (TellsAttempt (Loads member.now) loading_told answer.new) client.held
         back.new.held }
 {
@@ -250,7 +254,8 @@ pub extern "C" fn registry_c_unload(
     answer: &mut RegistryAnswer,
     back: &mut ClientHandle,
 )
-    requires client { IsHandedIn client.held back.old.held }
+    requires client { LeadsSomewhere client.held }
+    requires back { LeadsNowhere back.old.held }
     ensures { HandsBack (TellsAttempt (Unloads base) removal_told answer.new) client.held
         back.new.held }
 {

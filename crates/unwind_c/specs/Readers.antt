@@ -3,10 +3,6 @@ use Rattle.std.specs.Prelude.{◌≡◌, Bool, true, false, Option, Some, None}
 use Rattle.fde_reader.specs.Readers.{FdeReaderData}
 use Rattle.word_rule.specs.Logs.{reader_of}
 
--- a handle leads to a reader
-abbrev pub LeadsToFdeReader : Option FdeReaderData → Type 0
-LeadsToFdeReader held = (r : FdeReaderData) × (held ≡ Some r)
-
 -- a reader that has seen what another one has
 abbrev pub fde_reader_again : FdeReaderData → FdeReaderData
 fde_reader_again r = record r {

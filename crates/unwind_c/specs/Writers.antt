@@ -1,13 +1,9 @@
 -- Writers, and the readers that are made of them.
-use Rattle.std.specs.Prelude.{◌≡◌, Bool, Option, Some}
+use Rattle.std.specs.Prelude.{◌≡◌, Bool, Option}
 use Rattle.fde_reader.specs.Readers.{FdeReaderData}
 use Rattle.fde_writer.specs.Sections.{FdeWriterData}
 use Rattle.word_rule.specs.Logs.{reader_of}
 use Rattle.unwind_c.specs.Readers.{HoldsFdeReader}
-
--- a handle leads to a writer
-abbrev pub LeadsToFdeWriter : Option FdeWriterData → Type 0
-LeadsToFdeWriter held = (u : FdeWriterData) × (held ≡ Some u)
 
 -- a reader that has seen what a writer has
 abbrev pub fde_reader_of : FdeWriterData → FdeReaderData

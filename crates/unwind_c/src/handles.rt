@@ -4,11 +4,9 @@
 
 ghost use Rattle.std.specs.Prelude.{◌≡◌, Option, Some};
 ghost use Rattle.std.specs.Coded.{coded_option};
-ghost use Rattle.c_handle.specs.Handles.{handle_owns};
+ghost use Rattle.c_handle.specs.Handles.{LeadsSomewhere, handle_owns};
 ghost use Rattle.fde_writer.specs.Sections.{FdeWriterData};
-ghost use Rattle.unwind_c.specs.Writers.{LeadsToFdeWriter};
 ghost use Rattle.fde_reader.specs.Readers.{FdeReaderData};
-ghost use Rattle.unwind_c.specs.Readers.{LeadsToFdeReader};
 ghost use Rattle.fde_writer.specs.contracts.writer.FdeWriter.{the_row as writer_row};
 ghost use Rattle.fde_reader.specs.contracts.reader.FdeReader.{the_row as reader_row};
 
@@ -40,7 +38,7 @@ impl FdeWriterHandle {
 
     /// The writer. From here on the handle is nothing.
     pub(crate) fn open(self, alloc: Global) -> Box<FdeWriter, Global>
-        requires { LeadsToFdeWriter self.held }
+        requires { LeadsSomewhere self.held }
         ensures { self.held ≡ Some result.value }
     {
         self.into_parts(alloc).into_box()
@@ -54,7 +52,7 @@ impl FdeWriterHandle {
     }
 
     fn into_parts(self, alloc: Global) -> Parts<FdeWriter, Global>
-        requires { LeadsToFdeWriter self.held }
+        requires { LeadsSomewhere self.held }
         ensures { self.held ≡ Some result.value }
     {
         let FdeWriterHandle { at } = self;
@@ -87,7 +85,7 @@ impl FdeReaderHandle {
 
     /// The reader. From here on the handle is nothing.
     pub(crate) fn open(self, alloc: Global) -> Box<FdeReader, Global>
-        requires { LeadsToFdeReader self.held }
+        requires { LeadsSomewhere self.held }
         ensures { self.held ≡ Some result.value }
     {
         self.into_parts(alloc).into_box()
@@ -101,7 +99,7 @@ impl FdeReaderHandle {
     }
 
     fn into_parts(self, alloc: Global) -> Parts<FdeReader, Global>
-        requires { LeadsToFdeReader self.held }
+        requires { LeadsSomewhere self.held }
         ensures { self.held ≡ Some result.value }
     {
         let FdeReaderHandle { at } = self;

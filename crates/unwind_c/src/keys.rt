@@ -3,7 +3,7 @@
 ghost use Rattle.std.specs.Prelude.{◌≡◌, ◌≢◌, ◌++◌, [], ℕ, Contains, IsSomeAnd, drop, length, take};
 ghost use Rattle.std.specs.Map.{keys_of};
 ghost use Rattle.fde_writer.specs.Standing.{standing_under};
-ghost use Rattle.c_handle.specs.Handles.{IsHandedIn};
+ghost use Rattle.c_handle.specs.Handles.{LeadsNowhere, LeadsSomewhere};
 
 use crate::handles::FdeWriterHandle;
 use std::alloc::Global;
@@ -17,7 +17,8 @@ pub extern "C" fn unwind_c_keys(
     keys: &mut [u64],
     back: &mut FdeWriterHandle,
 ) -> usize
-    requires writer { IsHandedIn writer.held back.old.held }
+    requires writer { LeadsSomewhere writer.held }
+    requires back { LeadsNowhere back.old.held }
     ensures count { IsSomeAnd writer.held (λ u. result ≡ length u.stands) }
     ensures written { IsSomeAnd writer.held (λ u. keys.new
         ≡ take (length keys.old) (keys_of u.stands) ++ drop (length u.stands) keys.old) }

@@ -1,9 +1,9 @@
 //! Readers are made, look up, and are dropped.
 
 ghost use Rattle.std.specs.Prelude.{◌≡◌, IsSomeAnd, length};
-ghost use Rattle.c_handle.specs.Handles.{HandsBack, IsHandedIn, LeadsNowhere};
+ghost use Rattle.c_handle.specs.Handles.{HandsBack, LeadsNowhere, LeadsSomewhere};
 ghost use Rattle.unwind_c.specs.Finds.{TellsFde};
-ghost use Rattle.unwind_c.specs.Readers.{LeadsToFdeReader, MakesFdeReaderAgain};
+ghost use Rattle.unwind_c.specs.Readers.{MakesFdeReaderAgain};
 ghost use Rattle.unwind_c.specs.Writers.{MakesFdeReader};
 
 use crate::found::UnwindFound;
@@ -55,7 +55,8 @@ pub extern "C" fn unwind_c_reader(
     out: &mut FdeReaderHandle,
     back: &mut FdeWriterHandle,
 ) -> bool
-    requires writer { IsHandedIn writer.held back.old.held }
+    requires writer { LeadsSomewhere writer.held }
+    requires back { LeadsNowhere back.old.held }
     requires out { LeadsNowhere out.old.held }
     ensures { HandsBack (MakesFdeReader result out.new.held) writer.held back.new.held }
 {
@@ -74,7 +75,8 @@ pub extern "C" fn unwind_c_reader_again(
     out: &mut FdeReaderHandle,
     back: &mut FdeReaderHandle,
 ) -> bool
-    requires reader { IsHandedIn reader.held back.old.held }
+    requires reader { LeadsSomewhere reader.held }
+    requires back { LeadsNowhere back.old.held }
     requires out { LeadsNowhere out.old.held }
     ensures { HandsBack (MakesFdeReaderAgain result out.new.held) reader.held back.new.held }
 {
@@ -88,7 +90,7 @@ pub extern "C" fn unwind_c_reader_again(
 /// it had seen.
 #[unsafe(no_mangle)]
 pub extern "C" fn unwind_c_reader_drop(alloc: Global, reader: FdeReaderHandle) -> u32
-    requires { LeadsToFdeReader reader.held }
+    requires { LeadsSomewhere reader.held }
     ensures { IsSomeAnd reader.held (λ r. result ≡ length r.me.log.past) }
 {
     let open = reader.open(alloc);
@@ -104,7 +106,8 @@ pub extern "C" fn unwind_c_find(
     found: &mut UnwindFound,
     back: &mut FdeReaderHandle,
 )
-    requires reader { IsHandedIn reader.held back.old.held }
+    requires reader { LeadsSomewhere reader.held }
+    requires back { LeadsNowhere back.old.held }
     ensures { HandsBack (TellsFde pc found.new) reader.held back.new.held }
 {
     let mut open = reader.open(alloc);

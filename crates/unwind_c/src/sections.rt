@@ -1,7 +1,7 @@
 //! Sections are registered, given up and moved.
 
 ghost use Rattle.std.specs.Prelude.{IsSomeAnd};
-ghost use Rattle.c_handle.specs.Handles.{HandsBack, IsHandedIn};
+ghost use Rattle.c_handle.specs.Handles.{HandsBack, LeadsNowhere, LeadsSomewhere};
 ghost use Rattle.fde_writer.specs.Outcomes.{IsDeregistration};
 ghost use Rattle.unwind_c.specs.Answers.{RegistersBytes, TellsMove, TellsSection, bytes_told};
 ghost use Rattle.unwind_c.specs.Answers.{deregistration_told};
@@ -61,7 +61,8 @@ pub extern "C" fn unwind_c_register(
     told: &mut UnwindTold,
     back: &mut FdeWriterHandle,
 )
-    requires writer { IsHandedIn writer.held back.old.held }
+    requires writer { LeadsSomewhere writer.held }
+    requires back { LeadsNowhere back.old.held }
     ensures { HandsBack (TellsSection (RegistersBytes key note address bytes.now) bytes_told
         told.new) writer.held back.new.held }
 {
@@ -80,7 +81,8 @@ pub extern "C" fn unwind_c_deregister(
     told: &mut UnwindTold,
     back: &mut FdeWriterHandle,
 )
-    requires writer { IsHandedIn writer.held back.old.held }
+    requires writer { LeadsSomewhere writer.held }
+    requires back { LeadsNowhere back.old.held }
     ensures { HandsBack (TellsSection (IsDeregistration key) deregistration_told told.new)
         writer.held back.new.held }
 {
@@ -101,8 +103,10 @@ pub extern "C" fn unwind_c_move(
     back: &mut FdeWriterHandle,
     into_back: &mut FdeWriterHandle,
 )
-    requires writer { IsHandedIn writer.held back.old.held }
-    requires into { IsHandedIn into.held into_back.old.held }
+    requires writer { LeadsSomewhere writer.held }
+    requires back { LeadsNowhere back.old.held }
+    requires into { LeadsSomewhere into.held }
+    requires into_back { LeadsNowhere into_back.old.held }
     ensures { IsSomeAnd into.held (λ v. IsSomeAnd into_back.new.held
         (λ v'. HandsBack (TellsMove key v v' told.new) writer.held back.new.held)) }
 {

@@ -1,10 +1,9 @@
 //! Libraries are made and dropped.
 
 ghost use Rattle.std.specs.Prelude.{◌≡◌, IsSomeAnd, MatchResult, Ok, Err};
-ghost use Rattle.c_handle.specs.Handles.{HandsBack, IsHandedIn, LeadsNowhere};
+ghost use Rattle.c_handle.specs.Handles.{LeadsNowhere, LeadsSomewhere};
 ghost use Rattle.fde_writer.specs.Sections.{members_due};
 ghost use Rattle.unwind_c.specs.Limits.{IsNewLibrary, TellsNewLibrary};
-ghost use Rattle.unwind_c.specs.Writers.{LeadsToFdeWriter};
 
 use crate::handles::FdeWriterHandle;
 use crate::limits::{NewFault, UnwindLimits};
@@ -53,7 +52,8 @@ pub extern "C" fn unwind_c_left(
     writer: FdeWriterHandle,
     back: &mut FdeWriterHandle,
 ) -> u32
-    requires writer { IsHandedIn writer.held back.old.held }
+    requires writer { LeadsSomewhere writer.held }
+    requires back { LeadsNowhere back.old.held }
     ensures left { IsSomeAnd writer.held (λ u. result ≡ u.client.me.left) }
     ensures back { back.new.held ≡ writer.held }
 {
@@ -70,7 +70,8 @@ pub extern "C" fn unwind_c_due(
     writer: FdeWriterHandle,
     back: &mut FdeWriterHandle,
 ) -> u32
-    requires writer { IsHandedIn writer.held back.old.held }
+    requires writer { LeadsSomewhere writer.held }
+    requires back { LeadsNowhere back.old.held }
     ensures due { IsSomeAnd writer.held (λ u. result ≡ members_due u) }
     ensures back { back.new.held ≡ writer.held }
 {
@@ -83,7 +84,7 @@ pub extern "C" fn unwind_c_due(
 /// Frees a writer, and the library with the last of it and its readers.
 #[unsafe(no_mangle)]
 pub extern "C" fn unwind_c_drop(alloc: Global, writer: FdeWriterHandle)
-    requires { LeadsToFdeWriter writer.held }
+    requires { LeadsSomewhere writer.held }
 {
     drop(writer.open(alloc));
 }
