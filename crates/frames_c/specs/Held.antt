@@ -24,6 +24,10 @@ held_loaded held = unwrap_or held (record {
 abbrev pub held_section : Option LoadedData → SectionData
 held_section held = (held_loaded held).section
 
+-- the regions of recorded memory, or the modules
+abbrev pub held_list : {A : Type 0} → Option (List A) → List A
+held_list held = unwrap_or held []
+
 -- the refused record that answers at an address; of a section in which none was refused, none does
 abbrev pub claim_in : ℕ → LoadedData → Option RefusedRecord
 claim_in pc l = claim_among pc l.section.fdes l.refused

@@ -1,13 +1,8 @@
--- What a handle of recorded memory leads to.
-use Rattle.std.specs.Prelude.{◌≡◌, ℕ, zero, suc, List, [], ◌∷◌, ◌++◌, Option}
-use Rattle.std.specs.Option.{unwrap_or}
+-- Recorded memory, as C is told.
+use Rattle.std.specs.Prelude.{◌≡◌, ℕ, zero, suc, List, [], ◌∷◌, ◌++◌}
 use Rattle.frame_expr.specs.Regions.{RegionData, Accepts, IsRefusedRegion}
 use Rattle.frame_expr.specs.declared.memory.RegionFault.{RegionFault}
 use Rattle.frame_expr.specs.declared.memory.RegionFault.TheVariants.{Empty, End, Order, NoMemory}
-
--- the regions to which it leads
-abbrev pub recorded_in : Option (List RegionData) → List RegionData
-recorded_in held = unwrap_or held []
 
 -- why a region isn't recorded
 abbrev pub region_told : RegionFault → ℕ

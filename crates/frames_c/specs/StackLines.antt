@@ -1,6 +1,5 @@
 -- Modules and walks over them, as C is told.
-use Rattle.std.specs.Prelude.{◌≡◌, ℕ, zero, suc, ◌≤◌, List, [], ◌∷◌, ◌++◌, map, Option}
-use Rattle.std.specs.Option.{unwrap_or}
+use Rattle.std.specs.Prelude.{◌≡◌, ℕ, zero, suc, ◌≤◌, List, [], ◌∷◌, ◌++◌, map}
 use Rattle.frame_expr.specs.Regions.{RegionData}
 use Rattle.stack_walk.specs.Modules.{ModuleData, IsModuleFault, modules_end}
 use Rattle.stack_walk.specs.StackWalks.{WalksStack}
@@ -33,10 +32,6 @@ module_with first size loaded = record {
   section = loaded.section;
   refused = loaded.refused;
 }
-
--- the modules to which a handle leads
-abbrev pub modules_in : Option (List ModuleData) → List ModuleData
-modules_in held = unwrap_or held []
 
 -- why a module isn't added
 abbrev pub module_fault_told : ModuleFault → ℕ

@@ -2,7 +2,8 @@
 
 ghost use Rattle.std.specs.Prelude.{◌≡◌, true, false, Some, []};
 ghost use Rattle.c_handle.specs.Handles.{LeadsNowhere, LeadsSomewhere};
-ghost use Rattle.frames_c.specs.Recorded.{recorded_in, AnswersRegion};
+ghost use Rattle.frames_c.specs.Held.{held_list};
+ghost use Rattle.frames_c.specs.Recorded.{AnswersRegion};
 
 use crate::handles::MemoryHandle;
 use frame_expr::{Memory, RegionFault};
@@ -50,8 +51,8 @@ pub extern "C" fn frames_c_memory_push(
 ) -> u64
     requires memory { LeadsSomewhere memory.held }
     requires back { LeadsNowhere back.old.held }
-    ensures region { AnswersRegion (recorded_in memory.held) address bytes.now result
-        (recorded_in back.new.held) }
+    ensures region { AnswersRegion (held_list memory.held) address bytes.now result
+        (held_list back.new.held) }
     ensures back { LeadsSomewhere back.new.held }
 {
     let mut recorded = memory.open(alloc);

@@ -6,8 +6,7 @@ ghost use Rattle.frame_expr.specs.Regions.{word_at};
 ghost use Rattle.told_memory.specs.Telling.{told_regions};
 ghost use Rattle.frames_c.specs.FrameSteps.{frame_look, outcome_told, frame_after, AnswersStep};
 ghost use Rattle.frames_c.specs.AskedSteps.{ServesMemory, told_in};
-ghost use Rattle.frames_c.specs.Held.{held_loaded};
-ghost use Rattle.frames_c.specs.Recorded.{recorded_in};
+ghost use Rattle.frames_c.specs.Held.{held_list, held_loaded};
 
 use crate::handles::{MemoryHandle, RowTableHandle, SectionHandle};
 use crate::share::LoadedSection;
@@ -125,7 +124,7 @@ pub extern "C" fn frames_c_step(
     requires memory_back { LeadsNowhere memory_back.old.held }
     ensures back { back.new.held ≡ section.held }
     ensures memory_back { memory_back.new.held ≡ memory.held }
-    ensures step { AnswersStep (held_loaded section.held) (recorded_in memory.held)
+    ensures step { AnswersStep (held_loaded section.held) (held_list memory.held)
         frame.old result frame.new }
 {
     let share = section.open(alloc);
@@ -179,7 +178,7 @@ pub extern "C" fn frames_c_row_table_step(
     requires memory_back { LeadsNowhere memory_back.old.held }
     ensures back { back.new.held ≡ table.held }
     ensures memory_back { memory_back.new.held ≡ memory.held }
-    ensures step { AnswersStep (held_loaded table.held) (recorded_in memory.held)
+    ensures step { AnswersStep (held_loaded table.held) (held_list memory.held)
         frame.old result frame.new }
 {
     let share = table.open(alloc);

@@ -2,8 +2,8 @@
 
 ghost use Rattle.std.specs.Prelude.{◌≡◌, ◌<◌, ◌≤◌, [], ◌∷◌, true, false, Some, length, take, drop};
 ghost use Rattle.c_handle.specs.Handles.{LeadsNowhere, LeadsSomewhere};
-ghost use Rattle.frames_c.specs.Held.{held_loaded};
-ghost use Rattle.frames_c.specs.StackLines.{AnswersModule, AnswersWalk, frame_given, modules_in};
+ghost use Rattle.frames_c.specs.Held.{held_list, held_loaded};
+ghost use Rattle.frames_c.specs.StackLines.{AnswersModule, AnswersWalk, frame_given};
 ghost use Rattle.frames_c.specs.StackLines.{module_loaded, module_with, missing_after};
 ghost use Rattle.frames_c.specs.StackLines.{walk_end_told};
 
@@ -59,8 +59,8 @@ pub extern "C" fn frames_c_modules_add(
     requires modules { LeadsSomewhere modules.held }
     requires back { LeadsNowhere back.old.held }
     requires held { LeadsSomewhere section.held }
-    ensures module { AnswersModule (modules_in modules.held)
-        (module_with first size (held_loaded section.held)) result (modules_in back.new.held) }
+    ensures module { AnswersModule (held_list modules.held)
+        (module_with first size (held_loaded section.held)) result (held_list back.new.held) }
     ensures back { LeadsSomewhere back.new.held }
 {
     let mut list = modules.open(alloc);
@@ -83,8 +83,8 @@ pub extern "C" fn frames_c_modules_add_rows(
     requires modules { LeadsSomewhere modules.held }
     requires back { LeadsNowhere back.old.held }
     requires held { LeadsSomewhere table.held }
-    ensures module { AnswersModule (modules_in modules.held)
-        (module_with first size (held_loaded table.held)) result (modules_in back.new.held) }
+    ensures module { AnswersModule (held_list modules.held)
+        (module_with first size (held_loaded table.held)) result (held_list back.new.held) }
     ensures back { LeadsSomewhere back.new.held }
 {
     let mut list = modules.open(alloc);
@@ -174,7 +174,7 @@ pub extern "C" fn frames_c_walk(
     requires back { LeadsNowhere back.old.held }
     requires room { 0 < length lines.old }
     ensures back { back.new.held ≡ modules.held }
-    ensures walk { AnswersWalk (modules_in modules.held)
+    ensures walk { AnswersWalk (held_list modules.held)
         (record { address = address; bytes = stack.now } ∷ []) frame.old
         (take count.new lines.new) result frame.new }
     ensures count { count.new ≤ length lines.old }
