@@ -155,10 +155,7 @@ impl Client {
     fn find(&mut self, how: LookupBy, pc: u64) -> Result<Place, Again>
         ensures { FindsOnce how pc self.old self.new result }
     {
-        let registered = match self.registered_by(how, pc) {
-            Ok(registered) => registered,
-            Err(again) => return Err(again),
-        };
+        let registered = self.registered_by(how, pc)?;
         match registered {
             Found::Hit { .. } => Ok(Place {
                 registered,

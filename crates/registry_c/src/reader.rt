@@ -2,6 +2,7 @@
 //! only looks up. No client waits for it.
 
 ghost use Rattle.std.specs.Prelude.{◌≡◌, IfOk, length};
+ghost use Rattle.std.specs.Arc.{arc_value};
 ghost use Rattle.registry_c.specs.Readers.{ReaderAsksLoaded, ReaderAsksRegistered, ReaderFinds};
 ghost use Rattle.registry_c.specs.Readers.{reader_beside};
 
@@ -36,17 +37,9 @@ impl Client {
     /// A reader that has seen what the client has.
     pub(crate) fn reader(&mut self, alloc: Global) -> Result<Box<RegistryReader, Global>, NoMemory>
         ensures same { self.new ≡ self.old }
-        ensures reader { IfOk result
-            (λ reader. reader.value ≡ reader_beside self.old.words self.old.me) }
+        ensures reader { IfOk result (λ r. r.value ≡ reader_beside self.old.words self.old.me) }
     {
-        let Ok(registry) = Arc::try_clone(&self.registry) else {
-            return Err(NoMemory);
-        };
-        let me = self.registry.reader_of(&mut self.me);
-        match Box::new(alloc, RegistryReader { registry, me }) {
-            Ok(reader) => Ok(reader),
-            Err(_) => Err(NoMemory),
-        }
+        RegistryReader::boxed(alloc, &self.registry, self.registry.reader_of(&mut self.me))
     }
 }
 
@@ -54,13 +47,27 @@ impl RegistryReader {
     /// Another reader, which has seen what this one has.
     pub(crate) fn another(&mut self, alloc: Global) -> Result<Box<RegistryReader, Global>, NoMemory>
         ensures same { self.new ≡ self.old }
-        ensures reader { IfOk result
-            (λ reader. reader.value ≡ reader_beside self.old.words self.old.me) }
+        ensures reader { IfOk result (λ r. r.value ≡ reader_beside self.old.words self.old.me) }
     {
-        let Ok(registry) = Arc::try_clone(&self.registry) else {
+        RegistryReader::boxed(
+            alloc,
+            &self.registry,
+            self.registry.another_reader(&mut self.me),
+        )
+    }
+
+    /// A reader of the registry, in a box of its own.
+    fn boxed(
+        alloc: Global,
+        registry: &Arc<Registry, Global>,
+        me: Reader,
+    ) -> Result<Box<RegistryReader, Global>, NoMemory>
+        requires { me.table ≡ (arc_value registry.now).table }
+        ensures { IfOk result (λ r. r.value ≡ record { words = arc_value registry.now; me = me }) }
+    {
+        let Ok(registry) = Arc::try_clone(registry) else {
             return Err(NoMemory);
         };
-        let me = self.registry.another_reader(&mut self.me);
         match Box::new(alloc, RegistryReader { registry, me }) {
             Ok(reader) => Ok(reader),
             Err(_) => Err(NoMemory),
@@ -92,10 +99,7 @@ impl RegistryReader {
     pub(crate) fn find(&mut self, pc: u64) -> Result<Place, Again>
         ensures { ReaderFinds pc self.old self.new result }
     {
-        let registered = match self.try_registered(pc) {
-            Ok(registered) => registered,
-            Err(again) => return Err(again),
-        };
+        let registered = self.try_registered(pc)?;
         match registered {
             Found::Hit { .. } => Ok(Place {
                 registered,
