@@ -1,7 +1,8 @@
 -- Tries of a client that may add a member: the answers of four variants.
 use Rattle.std.proofs.Common.{◌≡◌, ◌∙◌, ◌<◌, ◌≤◌, ℕ, Bool, List, [], true, false, true≢false, refl, ap, subst, arith}
-use Rattle.btree_change.specs.Insertion.{TriesInsertion}
-use Rattle.btree_change.specs.Replacement.{TriesReplacement}
+use Rattle.array_publish.specs.Update.{TellsLoad}
+use Rattle.btree_change.specs.Insertion.{AnswersInsertion, TriesInsertion}
+use Rattle.btree_change.specs.Replacement.{AnswersReplacement, TriesReplacement}
 use Rattle.reg_model.specs.declared.answer.Inserted.{Inserted}
 use Rattle.reg_model.specs.declared.answer.Inserted.TheVariants as inserted
 use Rattle.reg_model.specs.declared.answer.Replaced.{Replaced}
@@ -9,7 +10,8 @@ use Rattle.reg_model.specs.declared.answer.Replaced.TheVariants as replaced
 use Rattle.reg_model.specs.declared.answer.Loading.{Loading}
 use Rattle.reg_model.specs.declared.answer.Loading.TheVariants as loading
 use Rattle.registry_core.specs.Begun.{TriesLoad}
-use Rattle.word_rule.specs.CallerData.{CallerData, WordsData, due}
+use Rattle.word_rule.specs.CallerData.{CallerData, WordsData, due, surplus}
+use Rattle.word_rule.specs.Places.{CALL_CREDIT}
 use Rattle.word_rule.specs.declared.log.Terms.{Terms}
 use Rattle.reg_model.specs.declared.span.Member.{Member}
 use Rattle.btree_change.specs.Paths.{IsLeftOut}
@@ -22,7 +24,6 @@ use Rattle.registry_c.specs.Clients.{ClientData, IsClient, begun_count}
 use Rattle.registry_c.specs.Members.{IsGivenMember, given_member}
 use Rattle.registry_c.specs.Tries.{Begins, TriesCall, is_lost}
 use Rattle.registry_c.specs.Updates.{Loads, MayAdd, Registers, Replaces}
-use Rattle.registry_c.specs.declared.attempt.Attempt.TheVariants as attempt
 use Rattle.registry_c.specs.declared.attempt.Attempt.TheVariants.{Answered}
 use Rattle.registry_c.specs.declared.member.RegistryMember.{RegistryMember}
 
@@ -38,10 +39,10 @@ module _ (r : RegistryMember) (c mid : ClientData) (k : CallerData) (may : MayAd
   answered = record mid { me = k; begun = false }
 
   -- the call was answered by a step of the caller from where it was begun
-  stepped : (step : CallerData → CallerData → Type 0) → step mid.me k → TriesCall step false false c answered
+  stepped : (step : Terms → CallerData → CallerData → Type 0) → step mid.words.terms mid.me k → TriesCall (step c.words.terms) false false c answered
   stepped step s = record {
     may = b.may;
-    stepped = subst (λ (z : CallerData). step z k) (ap (λ (z : ClientData). z.me) b.begun) s;
+    stepped = subst (λ (z : ClientData). step z.words.terms z.me k) b.begun s;
     words = ap (λ (z : ClientData). z.words) b.begun;
     registered = ap (λ (z : ClientData). z.registered) b.begun;
     loaded = ap (λ (z : ClientData). z.loaded) b.begun;
@@ -50,50 +51,25 @@ module _ (r : RegistryMember) (c mid : ClientData) (k : CallerData) (may : MayAd
     lost_now = ap (λ (z : ClientData). z.lost) b.begun ∙ b.may.0;
   }
 
-  same_terms : mid.words.terms ≡ c.words.terms
-  same_terms = ap (λ (z : ClientData). z.words.terms) b.begun
+  never_spent : surplus mid.me < CALL_CREDIT → ⊥
+  never_spent cannot = (let can = b.spare in omega (arith, can, cannot))
 
   pub registered : (answer : Inserted) → TriesInsertion mid.words.terms (given_member r) mid.me k answer → Registers r c answered (Answered answer)
-  registered answer t = go answer (subst (λ z. TriesInsertion z (given_member r) mid.me k answer) same_terms t)
-    where
-      go : (answer : Inserted) → TriesInsertion c.words.terms (given_member r) mid.me k answer → Registers r c answered (Answered answer)
-      go inserted.Spent s = let can = b.spare in let cannot = s.0 in absurd (omega (arith, can, cannot))
-      go (inserted.Done number) s = (may, stepped _ s.1)
-      go (inserted.Overlap other stamp) s = (may, stepped _ s.1)
-      go (inserted.Full stamp) s = (may, stepped _ s.1)
-
-  -- it was given up by such a step, and is still begun
-  still_begun : (lost : Bool) (step : CallerData → CallerData → Type 0) → step mid.me k → TriesCall step true lost c (record mid { me = k; lost = lost })
-  still_begun lost step s = record {
-    may = b.may;
-    stepped = subst (λ (z : CallerData). step z k) (ap (λ (z : ClientData). z.me) b.begun) s;
-    words = ap (λ (z : ClientData). z.words) b.begun;
-    registered = ap (λ (z : ClientData). z.registered) b.begun;
-    loaded = ap (λ (z : ClientData). z.loaded) b.begun;
-    name = ap (λ (z : ClientData). z.name) b.begun;
-    begun_now = ap (λ (z : ClientData). z.begun) b.begun;
-    lost_now = refl;
-  }
-
-  pub registered_busy : (why : Busy) → GivesUp why mid.me k → Registers r c (record mid { me = k; lost = is_lost why }) (attempt.Busy why)
-  registered_busy why g = (may, still_begun (is_lost why) (GivesUp why) g)
+  registered inserted.Spent s = absurd (never_spent s.0)
+  registered (inserted.Done number) s = (may, stepped (λ t. AnswersInsertion t (given_member r) (inserted.Done number)) s.1)
+  registered (inserted.Overlap other stamp) s = (may, stepped (λ t. AnswersInsertion t (given_member r) (inserted.Overlap other stamp)) s.1)
+  registered (inserted.Full stamp) s = (may, stepped (λ t. AnswersInsertion t (given_member r) (inserted.Full stamp)) s.1)
 
   pub given : (answer : Replaced) → TriesReplacement mid.words.terms (given_member r) mid.me k answer → Replaces r c answered (Answered answer)
-  given answer t = go answer (subst (λ z. TriesReplacement z (given_member r) mid.me k answer) same_terms t)
-    where
-      go : (answer : Replaced) → TriesReplacement c.words.terms (given_member r) mid.me k answer → Replaces r c answered (Answered answer)
-      go replaced.Spent s = let can = b.spare in let cannot = s.0 in absurd (omega (arith, can, cannot))
-      go (replaced.Done number payload) s = (may, stepped _ s.1)
-      go (replaced.NotFound stamp) s = (may, stepped _ s.1)
+  given replaced.Spent s = absurd (never_spent s.0)
+  given (replaced.Done number payload) s = (may, stepped (λ t. AnswersReplacement t (given_member r) (replaced.Done number payload)) s.1)
+  given (replaced.NotFound stamp) s = (may, stepped (λ t. AnswersReplacement t (given_member r) (replaced.NotFound stamp)) s.1)
 
   pub loaded : (answer : Loading) → TriesLoad mid.words.terms (given_member r) mid.me k answer → Loads r c answered (Answered answer)
-  loaded answer t = go answer (subst (λ z. TriesLoad z (given_member r) mid.me k answer) same_terms t)
-    where
-      go : (answer : Loading) → TriesLoad c.words.terms (given_member r) mid.me k answer → Loads r c answered (Answered answer)
-      go loading.Spent s = let can = b.spare in let cannot = s.0 in absurd (omega (arith, can, cannot))
-      go (loading.Done number) s = (may, stepped _ s.1)
-      go (loading.Overlap other stamp) s = (may, stepped _ s.1)
-      go (loading.LoadFull stamp) s = (may, stepped _ s.1)
+  loaded loading.Spent s = absurd (never_spent s.0)
+  loaded (loading.Done number) s = (may, stepped (λ t k k'. TellsLoad t (given_member r) k k' (loading.Done number)) s.1)
+  loaded (loading.Overlap other stamp) s = (may, stepped (λ t k k'. TellsLoad t (given_member r) k k' (loading.Overlap other stamp)) s.1)
+  loaded (loading.LoadFull stamp) s = (may, stepped (λ t k k'. TellsLoad t (given_member r) k k' (loading.LoadFull stamp)) s.1)
 
 -- a client that may try holds nothing
 pub idle_begun : (c mid : ClientData) → IsClient mid → Begins c mid → IsIdle mid.me.log

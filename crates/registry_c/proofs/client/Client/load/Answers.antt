@@ -18,8 +18,6 @@ invariant_of-self-in-Err-load_by c =
 
 pub returns-in-Ok-load_by : goal.returns-in-Ok-load_by
 returns-in-Ok-load_by c =
-    let k = c.load_by.new.me in
-    let told = c.in-Ok.ensures.member in
-    let may = may_add c.args.told.now _ c.args.self.now _ c.self.invariant.1 c.self.view_is told.1 in
+    let may = may_add c.args.told.now _ c.args.self.now _ c.self.invariant.1 c.self.view_is c.in-Ok.ensures.member.1 in
     let begun = subst (Begins c.args.self.now) (sym c.self-2.view_is) c.if-not-begin.ensures in
-    loaded c.args.told.now c.args.self.now _ k may begun c.in-Ok-load_by.loading (answer_of (λ t m. TriesLoad t m c.self-2.inside.me k c.in-Ok-load_by.loading) _ _ _ _ c.deref.ensures told.0 c.in-Ok-load_by.ensures.answer)
+    loaded c.args.told.now c.args.self.now _ _ may begun c.in-Ok-load_by.loading (answer_of (λ t m. TriesLoad t m c.self-2.inside.me c.load_by.new.me c.in-Ok-load_by.loading) _ _ _ _ c.deref.ensures c.in-Ok.ensures.member.0 c.in-Ok-load_by.ensures.answer)

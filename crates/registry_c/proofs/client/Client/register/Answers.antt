@@ -16,8 +16,6 @@ invariant_of-self-in-Err-register_by c =
 
 pub returns-in-Ok-register_by : goal.returns-in-Ok-register_by
 returns-in-Ok-register_by c =
-    let k = c.register_by.new.me in
-    let told = c.in-Ok.ensures.member in
-    let may = may_add c.args.told.now _ c.args.self.now _ c.self.invariant.1 c.self.view_is told.1 in
+    let may = may_add c.args.told.now _ c.args.self.now _ c.self.invariant.1 c.self.view_is c.in-Ok.ensures.member.1 in
     let begun = subst (Begins c.args.self.now) (sym c.self-2.view_is) c.if-not-begin.ensures in
-    registered c.args.told.now c.args.self.now _ k may begun c.in-Ok-register_by.inserted (answer_of (λ t m. TriesInsertion t m c.self-2.inside.me k c.in-Ok-register_by.inserted) _ _ _ _ c.deref.ensures told.0 c.in-Ok-register_by.ensures.answer)
+    registered c.args.told.now c.args.self.now _ _ may begun c.in-Ok-register_by.inserted (answer_of (λ t m. TriesInsertion t m c.self-2.inside.me c.register_by.new.me c.in-Ok-register_by.inserted) _ _ _ _ c.deref.ensures c.in-Ok.ensures.member.0 c.in-Ok-register_by.ensures.answer)
