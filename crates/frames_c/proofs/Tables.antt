@@ -1,11 +1,11 @@
 -- Tables of FDEs whose ranges are apart: a search by halves finds the one that has the address, and it is the first that covers it.
-use Rattle.std.proofs.lemmas.Bool.{false_from_ne_true}
 use Rattle.std.specs.Prelude.{◌⊎◌, slice_get, slice_set}
 use Rattle.std.proofs.lemmas.Option.{slice_get-get_or}
-use Rattle.std.proofs.lemmas.List.{take_more_set, append-nil, get_or_default, length-map}
+use Rattle.std.proofs.lemmas.List.{drop_more, take_more_set, append-nil, get_or_default, length-map}
 use Rattle.std.proofs.Math.ListN.{get_or-map}
-use Rattle.std.proofs.Common.{map, take, ◌≡◌, ℕ, zero, suc, ◌+◌, ◌-◌, ◌<◌, ◌≤◌, Bool, cond, List, [], ◌∷◌, ◌++◌, length, get_or, true, false, Some, None, ◌&&◌, nat_le, nat_lt, refl, sym, ap, subst, ◌∙◌, arith, inl, inr, leb-true, leb-false, ltb-true, le-ltb}
-use Rattle.std.proofs.lemmas.Bool.{and_parts, and_left, and_right, cases_lt, lt-leb, lt-ltb}
+use Rattle.std.proofs.Math.Seq.{drop-length}
+use Rattle.std.proofs.Common.{map, take, drop, ◌≡◌, ℕ, zero, suc, ◌+◌, ◌-◌, ◌<◌, ◌≤◌, Bool, cond, List, [], ◌∷◌, ◌++◌, length, get_or, true, false, Some, None, ◌&&◌, nat_le, nat_lt, refl, sym, ap, subst, ◌∙◌, arith, inl, inr, leb-true, ltb-true, le-ltb}
+use Rattle.std.proofs.lemmas.Bool.{and_parts, and_right, cases_lt, lt-ltb}
 use Rattle.std.proofs.lemmas.List.Elements.{filter_more, All-cons, All-nil}
 use Rattle.std.proofs.lemmas.List.Sorted.{Contains-permutation, All-permutation}
 use Rattle.std.specs.List.{All, Contains, find, filter}
@@ -38,9 +38,6 @@ apart es i j d h lt within =
     let up = lookups.apart (map range_of es) i j (range_of d) (ranges_apart es ∙ h) lt (rw (length-map es range_of) within) in
     rw (get_or-map range_of es i d, get_or-map range_of es j d) at up
 
-not_below : (pc : ℕ) (e : FramesEntry) → pc < e.first → entry_has pc e ≡ false
-not_below pc e lt = and_left _ _ (lt-leb e.first pc lt)
-
 not_above : (pc : ℕ) (e : FramesEntry) → e.first + e.range ≤ pc → entry_has pc e ≡ false
 not_above pc e le = and_right _ _ (le-ltb pc (e.first + e.range) le)
 
@@ -49,70 +46,48 @@ not_above pc e le = and_right _ _ (le-ltb pc (e.first + e.range) le)
 -- those from `base` on, as many as `size`, are entries, and where the entries are apart no other has the address
 pub record AreLeft (es : List FramesEntry) (pc base size : ℕ) : Type 0 where
   pub within : base + size ≤ length es
-  pub below : entries_apart es ≡ true → (k : ℕ) (d : FramesEntry) → k < base → entry_has pc (get_or es k d) ≡ false
-  pub above : entries_apart es ≡ true → (k : ℕ) (d : FramesEntry) → base + size ≤ k → k < length es → entry_has pc (get_or es k d) ≡ false
+  pub others : entries_apart es ≡ true → lookups.AreLeft (map range_of es) pc base size
 
 pub all_left : (es : List FramesEntry) (pc : ℕ) → AreLeft es pc 0 (length es)
-all_left es pc = record { within = omega arith; below = λ h k d lt. absurd (omega arith); above = λ h k d le lt. absurd (omega arith) }
-
-upper_left : (es : List FramesEntry) (pc base size j : ℕ) (d : FramesEntry) → AreLeft es pc base size → j < size → (get_or es (base + j) d).first ≤ pc → AreLeft es pc (base + j) (size - j)
-upper_left es pc base size j d left lt reached =
-    let w = left.within in
-    record {
-      within = omega (arith, w);
-      below = λ h k f kl.
-          let up = apart es k (base + j) f h kl (omega (arith, w)) in
-          let same = get_or_default es (base + j) f d (omega (arith, w)) in
-          not_above pc (get_or es k f) (omega (arith, up, ap (λ (e : FramesEntry). e.first) same, reached));
-      above = λ h k f ge kl. left.above h k f (omega (arith, ge, w)) kl;
-    }
-
-lower_left : (es : List FramesEntry) (pc base size j more : ℕ) (d : FramesEntry) → AreLeft es pc base size → j < size → pc < (get_or es (base + j) d).first → j ≤ more → more ≤ size → AreLeft es pc base more
-lower_left es pc base size j more d left lt beyond le few =
-    let w = left.within in
-    record {
-      within = omega (arith, w);
-      below = left.below;
-      above = λ h k f ge kl.
-          elim (cases_lt (base + j) k) [
-            | inl past ↦
-                let up = apart es (base + j) k f h past kl in
-                let same = get_or_default es (base + j) f d (omega (arith, w)) in
-                not_below pc (get_or es k f) (omega (arith, up, ap (λ (e : FramesEntry). e.first) same, beyond))
-            | inr here ↦
-                let same : k ≡ base + j = omega arith in
-                let one = get_or_default es k f d kl in
-                not_below pc (get_or es k f) (omega (arith, ap (λ (e : FramesEntry). e.first) (one ∙ ap (λ i. get_or es i d) same), beyond))
-          ];
-    }
-
-halved : (es : List FramesEntry) (pc base size half : ℕ) (d : FramesEntry) (b : Bool) → AreLeft es pc base size → half + half ≤ size → half < size
-    → nat_le (get_or es (base + half) d).first pc ≡ b → AreLeft es pc (base + cond b half 0) (size - half)
-halved es pc base size half d true left le lt e = upper_left es pc base size half d left lt (leb-true _ _ e)
-halved es pc base size half d false left le lt e =
-    let none : base + 0 ≡ base = omega arith in
-    let lower = lower_left es pc base size half (size - half) d left lt (leb-false _ _ e) (omega arith) (omega arith) in
-    subst (λ k. AreLeft es pc k (size - half)) (sym none) lower
+all_left es pc = record {
+  within = omega arith;
+  others = λ h. subst (lookups.AreLeft (map range_of es) pc 0) (length-map es range_of) (lookups.all_left (map range_of es) pc);
+}
 
 -- the upper half is left where the entry in the middle begins up to the address, else the lower one
 pub half_left : (es : List FramesEntry) (pc base size half : ℕ) (d : FramesEntry) → AreLeft es pc base size → half + half ≤ size → half < size
     → AreLeft es pc (base + cond (nat_le (get_or es (base + half) d).first pc) half 0) (size - half)
-half_left es pc base size half d left le lt = halved es pc base size half d (nat_le (get_or es (base + half) d).first pc) left le lt refl
+half_left es pc base size half d left le lt = record {
+  within = inside (nat_le (get_or es (base + half) d).first pc);
+  others = λ h.
+      let halves = lookups.half_left (map range_of es) pc base size half (range_of d) (ranges_apart es ∙ h) (left.others h) le lt in
+      rw (get_or-map range_of es (base + half) d) at halves;
+}
+  where
+    inside : (b : Bool) → base + cond b half 0 + (size - half) ≤ length es
+    inside true = (let w = left.within in omega (arith, w))
+    inside false = (let w = left.within in omega (arith, w))
+
+module _ (es : List FramesEntry) (pc base size : ℕ) (left : lookups.AreLeft (map range_of es) pc base size) (j : ℕ) (d : FramesEntry) where
+  below : j < base → entry_has pc (get_or es j d) ≡ false
+  below lt = (let none = left.below j (range_of d) lt in rw (get_or-map range_of es j d) at none)
+
+  above : base + size ≤ j → j < length es → entry_has pc (get_or es j d) ≡ false
+  above le lt = (let none = left.above j (range_of d) le (rw (length-map es range_of) lt) in rw (get_or-map range_of es j d) at none)
 
 -- ---- what is found
 
-find-here : (pc : ℕ) (es : List FramesEntry) (i : ℕ) (d : FramesEntry) → i < length es → entry_has pc (get_or es i d) ≡ true → ((j : ℕ) → j < i → entry_has pc (get_or es j d) ≡ false) → find (entry_has pc) es ≡ Some (get_or es i d)
-find-here pc [] i d lt e before = absurd (omega arith)
-find-here pc (x ∷ es) zero d lt e before = rw e refl
-find-here pc (x ∷ es) (suc i) d lt e before =
-    let no : entry_has pc x ≡ false = before 0 (omega arith) in
-    rw no (find-here pc es i d (omega arith) e (λ j h. before (suc j) (omega arith)))
+-- entries without the address at the front find nothing
+find_behind : (pc : ℕ) (es : List FramesEntry) (n : ℕ) → ((j : ℕ) (d : FramesEntry) → j < n → j < length es → entry_has pc (get_or es j d) ≡ false) → find (entry_has pc) es ≡ find (entry_has pc) (drop n es)
+find_behind pc es zero none = refl
+find_behind pc [] (suc n) none = refl
+find_behind pc (x ∷ es) (suc n) none = rw (none 0 x (omega arith) (omega arith)) (find_behind pc es n (λ j d low lt. none (suc j) d (omega arith) (omega arith)))
+
+find-here : (pc : ℕ) (es : List FramesEntry) (i : ℕ) (d : FramesEntry) → i < length es → entry_has pc (get_or es i d) ≡ true → ((j : ℕ) (f : FramesEntry) → j < i → entry_has pc (get_or es j f) ≡ false) → find (entry_has pc) es ≡ Some (get_or es i d)
+find-here pc es i d lt has before = find_behind pc es i (λ j f low _. before j f low) ∙ ap (find (entry_has pc)) (drop_more es i d lt) ∙ rw has refl
 
 find-none : (pc : ℕ) (es : List FramesEntry) → ((j : ℕ) (d : FramesEntry) → j < length es → entry_has pc (get_or es j d) ≡ false) → find (entry_has pc) es ≡ None
-find-none pc [] none = refl
-find-none pc (x ∷ es) none =
-    let no : entry_has pc x ≡ false = none 0 x (omega arith) in
-    rw no (find-none pc es (λ j d h. none (suc j) d (omega arith)))
+find-none pc es none = find_behind pc es (length es) (λ j d _ lt. none j d lt) ∙ ap (find (entry_has pc)) (drop-length es)
 
 -- the entry that is left has the address
 pub found_here : (es : List FramesEntry) (pc base size : ℕ) (e : FramesEntry) → AreLeft es pc base size → size ≤ 1 → base < length es → get_or es base e ≡ e → entry_has pc e ≡ true → IsSearched es pc (Some e)
@@ -120,7 +95,7 @@ found_here es pc base size e left few lt is here = record {
   has = λ x same. let one : e ≡ x = cc in subst (λ (k : FramesEntry). Contains es k × (entry_has pc k ≡ true)) one ((base, lt, is), here);
   apart = λ h.
       let at = subst (λ k. entry_has pc k ≡ true) (sym is) here in
-      ap (λ k. Some k) (sym is) ∙ sym (find-here pc es base e lt at (λ j below. left.below h j e below));
+      ap (λ k. Some k) (sym is) ∙ sym (find-here pc es base e lt at (below es pc base size (left.others h)));
 }
 
 -- no entry has it
@@ -129,10 +104,10 @@ found_none es pc base size left few none = record {
   has = λ x same. absurd cc;
   apart = λ h. sym (find-none pc es (λ j d lt.
       elim (cases_lt j base) [
-        | inl below ↦ left.below h j d below
+        | inl before ↦ below es pc base size (left.others h) j d before
         | inr ge ↦
             elim (cases_lt base j) [
-              | inl past ↦ left.above h j d (omega arith) lt
+              | inl past ↦ above es pc base size (left.others h) j d (omega arith) lt
               | inr le ↦ let same : base ≡ j = omega arith in subst (λ k. entry_has pc (get_or es k d) ≡ false) same (none d (omega arith))
             ]
       ]));
@@ -193,23 +168,17 @@ told : (pc : ℕ) (fdes : List FdeRecord) → Told pc fdes
 told pc [] = inl (refl, All-nil (λ e. entry_has pc e ≡ false))
 told pc (f ∷ fs) = told_first (covers pc f) pc f fs refl (told pc fs)
 
-within_both : (pc : ℕ) (a b : FramesEntry) → entry_has pc a ≡ true → entry_has pc b ≡ true → a.first + a.range ≤ b.first → ⊥
-within_both pc a b ha hb le =
-    let pa = and_parts (nat_le a.first pc) (nat_lt pc (a.first + a.range)) ha in
-    let pb = and_parts (nat_le b.first pc) (nat_lt pc (b.first + b.range)) hb in
-    let up = ltb-true _ _ pa.1 in
-    let down = leb-true _ _ pb.0 in
-    omega (arith, up, down)
-
 found_told : (pc : ℕ) (fdes : List FdeRecord) (es : List FramesEntry) → IsPermutation (entries_told fdes) es → entries_apart es ≡ true → Told pc fdes → find (entry_has pc) es ≡ option_map entry_told (first_cover pc fdes)
 found_told pc fdes es p h (inl (none, all)) =
     rw none (find-none pc es (All-permutation (λ e. entry_has pc e ≡ false) (entries_told fdes) es p all))
 found_told pc fdes es p h (inr (f, is, has, here)) =
     let (i, lt, at) = Contains-permutation (entries_told fdes) es (entry_told f) p has in
     let e = entry_told f in
-    rw is (find-here pc es i e lt (subst (λ k. entry_has pc k ≡ true) (sym at) here) (λ j below.
-    false_from_ne_true (entry_has pc (get_or es j e)) (λ other.
-    within_both pc (get_or es j e) (get_or es i e) other (subst (λ k. entry_has pc k ≡ true) (sym at) here) (apart es j i e h below lt)))
+    let low = leb-true _ _ (and_parts (nat_le e.first pc) (nat_lt pc (e.first + e.range)) here).0 in
+    rw is (find-here pc es i e lt (subst (λ k. entry_has pc k ≡ true) (sym at) here) (λ j d before.
+    let up = apart es j i d h before lt in
+    let same = ap (λ (k : FramesEntry). k.first) (get_or_default es i d e lt ∙ at) in
+    not_above pc (get_or es j d) (omega (arith, up, same, low)))
     ∙ ap (λ k. Some k) at)
 
 -- a table whose entries are apart finds what the section does
