@@ -20,13 +20,7 @@ const NO_ROW: FramesRow = FramesRow {
 };
 
 /// The row of an address at which a refused record answers, in a batch.
-const REFUSED_ROW: FramesRow = FramesRow {
-    cfa: 4,
-    cfa_column: 0,
-    cfa_offset: 0,
-    rules: [0; 17],
-    numbers: [0; 17],
-};
+const REFUSED_ROW: FramesRow = FramesRow { cfa: 4, ..NO_ROW };
 
 /// Writes the row of an address, or why there is none.
 fn write_row(section: &LoadedSection, pc: u64, out: &mut FramesRow)
