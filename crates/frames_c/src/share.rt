@@ -109,13 +109,9 @@ impl RowSource for LoadedSection {
 
     #[inline(always)]
     fn row_of(&self, pc: u64) -> Option<FdeRow<'_>> {
-        match self.fde_at(pc) {
-            None => None,
-            Some(fde) => {
-                let row = row_at(&fde, pc);
-                Some(FdeRow { fde, row })
-            }
-        }
+        let fde = self.fde_at(pc)?;
+        let row = row_at(&fde, pc);
+        Some(FdeRow { fde, row })
     }
 }
 
