@@ -66,7 +66,7 @@ pub extern "C" fn frames_c_rows(
     let fits = rows.len() == pcs.len();
     let share = section.open(alloc);
     if fits {
-        write_rows(share.loaded(), pcs, rows);
+        write_rows(share.get(), pcs, rows);
     }
     *back = SectionHandle::of(share);
     fits

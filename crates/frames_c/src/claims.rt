@@ -115,7 +115,7 @@ pub extern "C" fn frames_c_claim(
     ensures claim { AnswersClaim (claim_in pc (held_loaded section.held)) result out.old out.new }
 {
     let share = section.open(alloc);
-    let found = claim(share.loaded(), pc, out);
+    let found = claim(share.get(), pc, out);
     *back = SectionHandle::of(share);
     found
 }

@@ -93,7 +93,7 @@ pub extern "C" fn frames_c_find(
         (first_cover pc (held_section section.held).fdes)) result out.old out.new }
 {
     let share = section.open(alloc);
-    let found = find(share.loaded(), pc, out);
+    let found = find(share.get(), pc, out);
     *back = SectionHandle::of(share);
     found
 }

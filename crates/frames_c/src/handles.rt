@@ -5,18 +5,19 @@
 ghost use Rattle.std.specs.Prelude.{◌≡◌, Option, Some, List};
 ghost use Rattle.std.specs.Coded.{coded_option};
 ghost use Rattle.c_handle.specs.Handles.{LeadsSomewhere, handle_owns};
+ghost use Rattle.c_handle.specs.contracts.shared.Shared.{the_row as shared_row};
 ghost use Rattle.frames_c.specs.Held.{LoadedData};
 ghost use Rattle.stack_walk.specs.Modules.{ModuleData};
 ghost use Rattle.frame_expr.specs.Regions.{RegionData};
-ghost use Rattle.frames_c.specs.contracts.share.SectionShare.{the_row as section_row};
-ghost use Rattle.frames_c.specs.contracts.row_share.TableShare.{the_row as table_row};
+ghost use Rattle.frames_c.specs.contracts.share.LoadedSection.{the_row as section_row};
+ghost use Rattle.frames_c.specs.contracts.row_share.RowsOfSection.{the_row as rows_row};
 ghost use Rattle.frames_c.specs.contracts.modules.LoadedModules.{the_row as modules_row};
 ghost use Rattle.frame_expr.specs.contracts.memory.Memory.{the_row as memory_row};
 
 use crate::modules::LoadedModules;
-use crate::row_share::TableShare;
-use crate::share::SectionShare;
-use c_handle::Parts;
+use crate::row_share::RowsOfSection;
+use crate::share::LoadedSection;
+use c_handle::{Parts, Shared};
 use frame_expr::Memory;
 use std::alloc::Global;
 use std::marker::{Model, Send};
@@ -26,43 +27,43 @@ use std::marker::{Model, Send};
 #[derive(Drop)]
 pub struct SectionHandle {
     at: *mut u8,
-    pub ghost held: { Option LoadedData } by { coded_option section_row.coded },
+    pub ghost held: { Option LoadedData } by { coded_option (shared_row section_row).coded },
 }
 
 impl Model for SectionHandle {
-    ghost also_owns = { λ h. handle_owns section_row h.at h.held };
+    ghost also_owns = { λ h. handle_owns (shared_row section_row) h.at h.held };
 }
 
 impl SectionHandle {
     /// A handle of a share.
-    pub(crate) fn of(share: Box<SectionShare, Global>) -> SectionHandle
+    pub(crate) fn of(share: Box<Shared<LoadedSection>, Global>) -> SectionHandle
         ensures { result.held ≡ Some share.value }
     {
         SectionHandle::of_parts(Parts::of(share))
     }
 
     /// The share. From here on the handle is nothing.
-    pub(crate) fn open(self, alloc: Global) -> Box<SectionShare, Global>
+    pub(crate) fn open(self, alloc: Global) -> Box<Shared<LoadedSection>, Global>
         requires { LeadsSomewhere self.held }
         ensures { self.held ≡ Some result.value }
     {
         self.into_parts(alloc).into_box()
     }
 
-    fn of_parts(parts: Parts<SectionShare, Global>) -> SectionHandle
+    fn of_parts(parts: Parts<Shared<LoadedSection>, Global>) -> SectionHandle
         ensures { result.held ≡ Some parts.value }
     {
         let Parts { ptr, alloc: _ } = parts;
         SectionHandle { at: ptr as *mut u8 }
     }
 
-    fn into_parts(self, alloc: Global) -> Parts<SectionShare, Global>
+    fn into_parts(self, alloc: Global) -> Parts<Shared<LoadedSection>, Global>
         requires { LeadsSomewhere self.held }
         ensures { self.held ≡ Some result.value }
     {
         let SectionHandle { at } = self;
         Parts {
-            ptr: at as *mut SectionShare,
+            ptr: at as *mut Shared<LoadedSection>,
             alloc,
         }
     }
@@ -75,43 +76,43 @@ unsafe impl Send for SectionHandle {}
 #[derive(Drop)]
 pub struct RowTableHandle {
     at: *mut u8,
-    pub ghost held: { Option LoadedData } by { coded_option table_row.coded },
+    pub ghost held: { Option LoadedData } by { coded_option (shared_row rows_row).coded },
 }
 
 impl Model for RowTableHandle {
-    ghost also_owns = { λ h. handle_owns table_row h.at h.held };
+    ghost also_owns = { λ h. handle_owns (shared_row rows_row) h.at h.held };
 }
 
 impl RowTableHandle {
     /// A handle of a share.
-    pub(crate) fn of(share: Box<TableShare, Global>) -> RowTableHandle
+    pub(crate) fn of(share: Box<Shared<RowsOfSection>, Global>) -> RowTableHandle
         ensures { result.held ≡ Some share.value }
     {
         RowTableHandle::of_parts(Parts::of(share))
     }
 
     /// The share. From here on the handle is nothing.
-    pub(crate) fn open(self, alloc: Global) -> Box<TableShare, Global>
+    pub(crate) fn open(self, alloc: Global) -> Box<Shared<RowsOfSection>, Global>
         requires { LeadsSomewhere self.held }
         ensures { self.held ≡ Some result.value }
     {
         self.into_parts(alloc).into_box()
     }
 
-    fn of_parts(parts: Parts<TableShare, Global>) -> RowTableHandle
+    fn of_parts(parts: Parts<Shared<RowsOfSection>, Global>) -> RowTableHandle
         ensures { result.held ≡ Some parts.value }
     {
         let Parts { ptr, alloc: _ } = parts;
         RowTableHandle { at: ptr as *mut u8 }
     }
 
-    fn into_parts(self, alloc: Global) -> Parts<TableShare, Global>
+    fn into_parts(self, alloc: Global) -> Parts<Shared<RowsOfSection>, Global>
         requires { LeadsSomewhere self.held }
         ensures { self.held ≡ Some result.value }
     {
         let RowTableHandle { at } = self;
         Parts {
-            ptr: at as *mut TableShare,
+            ptr: at as *mut Shared<RowsOfSection>,
             alloc,
         }
     }

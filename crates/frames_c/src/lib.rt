@@ -32,9 +32,9 @@ pub use load::{frames_c_count, frames_c_read, frames_c_read_sound};
 pub use modules::{LoadedModules, ModuleRows};
 pub use record::{frames_c_memory, frames_c_memory_free, frames_c_memory_push};
 pub use row::{FramesRow, frames_c_row, frames_c_row_table_row};
-pub use row_share::{RowsOfSection, TableShare};
+pub use row_share::RowsOfSection;
 pub use row_tables::frames_c_row_table;
-pub use share::{LoadedSection, SectionShare};
+pub use share::LoadedSection;
 pub use shares::{
     frames_c_free, frames_c_modules_free, frames_c_modules_share, frames_c_row_table_free,
     frames_c_row_table_share, frames_c_share,

@@ -15,7 +15,8 @@ ghost use Rattle.frames_c.specs.Loads.{LeadsToLoaded, HasNothingRefused, HasNoTa
 
 use crate::claims::FramesRefused;
 use crate::handles::SectionHandle;
-use crate::share::{LoadedSection, SectionShare};
+use crate::share::LoadedSection;
+use c_handle::Shared;
 use c_sections::{FramesRefusal, LoadFault, read_section};
 use frame_parse::FrameFault;
 use sound_records::SoundSection;
@@ -25,11 +26,11 @@ use std::alloc::Global;
 pub(crate) fn shared(
     alloc: Global,
     loaded: LoadedSection,
-) -> Result<Box<SectionShare, Global>, LoadFault>
+) -> Result<Box<Shared<LoadedSection>, Global>, LoadFault>
     ensures share { IfOk result (λ share. share.value ≡ loaded) }
     ensures fault { IfErr result (λ f. f ≡ Frames NoMemory) }
 {
-    let share = match SectionShare::new(alloc, loaded) {
+    let share = match Shared::new(alloc, loaded) {
         Ok(share) => share,
         Err(_) => return Err(LoadFault::Frames(FrameFault::NoMemory)),
     };
@@ -39,7 +40,11 @@ pub(crate) fn shared(
     }
 }
 
-fn load(alloc: Global, address: u64, bytes: &[u8]) -> Result<Box<SectionShare, Global>, LoadFault>
+fn load(
+    alloc: Global,
+    address: u64,
+    bytes: &[u8],
+) -> Result<Box<Shared<LoadedSection>, Global>, LoadFault>
     ensures loaded { IfOk result (λ share. IsLoaded address bytes.now share.value.section) }
     ensures sound { IfOk result (λ share. share.value.refused ≡ []) }
     ensures table { IfOk result (λ share. share.value.table ≡ None) }
@@ -83,7 +88,7 @@ fn load_sound(
     alloc: Global,
     address: u64,
     bytes: &[u8],
-) -> Result<Box<SectionShare, Global>, LoadFault>
+) -> Result<Box<Shared<LoadedSection>, Global>, LoadFault>
     ensures loaded { IfOk result
         (λ share. share.value ≡ sound_loaded (sound_section address bytes.now)) }
     ensures short { IfOk result (λ _. length bytes.now < 2 ^ 32) }
@@ -120,7 +125,7 @@ pub extern "C" fn frames_c_read_sound(
 {
     match load_sound(alloc, address, bytes) {
         Ok(share) => {
-            *told = FramesRefused::of(share.loaded().refused());
+            *told = FramesRefused::of(share.get().refused());
             *out = SectionHandle::of(share);
             true
         }
@@ -144,7 +149,7 @@ pub extern "C" fn frames_c_count(
     ensures count { result ≡ length (held_section section.held).fdes }
 {
     let share = section.open(alloc);
-    let count = share.loaded().section().count();
+    let count = share.get().section().count();
     *back = SectionHandle::of(share);
     count
 }

@@ -5,8 +5,9 @@ ghost use Rattle.stack_walk.specs.Modules.{IsModuleFault, modules_end};
 ghost use Rattle.stack_walk.specs.StackWalks.{GoesUp};
 ghost use Rattle.frames_c.specs.StackLines.{module_loaded, module_with};
 
-use crate::row_share::TableShare;
-use crate::share::SectionShare;
+use crate::row_share::RowsOfSection;
+use crate::share::LoadedSection;
+use c_handle::Shared;
 use frame_expr::{Regs, WordSource};
 use sound_records::RefusedRecord;
 use stack_walk::{ModuleFault, Modules, SharedSource, StepSource, WalkEnd, take_step};
@@ -17,8 +18,8 @@ use unwind_step::{FoundStep, Frame, step_at};
 /// A share of what tells the frames of a module: its section, or the table of its rows.
 #[derive(Drop)]
 pub enum ModuleRows {
-    Section { share: SectionShare },
-    Table { share: TableShare },
+    Section { share: Shared<LoadedSection> },
+    Table { share: Shared<RowsOfSection> },
 }
 
 impl StepSource for ModuleRows {
@@ -29,15 +30,15 @@ impl StepSource for ModuleRows {
     #[inline(always)]
     fn claim_at(&self, pc: u64) -> Option<RefusedRecord> {
         match self {
-            ModuleRows::Section { share } => share.loaded().claim_at(pc),
-            ModuleRows::Table { share } => share.loaded().claim_at(pc),
+            ModuleRows::Section { share } => share.get().claim_at(pc),
+            ModuleRows::Table { share } => share.get().loaded().claim_at(pc),
         }
     }
 
     fn step_at<M: WordSource>(&self, look: u64, regs: &Regs, memory: &M) -> Option<FoundStep> {
         match self {
-            ModuleRows::Section { share } => step_at(share.loaded(), look, regs, memory),
-            ModuleRows::Table { share } => step_at(&share.rows(), look, regs, memory),
+            ModuleRows::Section { share } => step_at(share.get(), look, regs, memory),
+            ModuleRows::Table { share } => step_at(&share.get().rows(), look, regs, memory),
         }
     }
 
@@ -45,7 +46,7 @@ impl StepSource for ModuleRows {
     fn go_up<M: WordSource>(&self, frame: &mut Frame, memory: &M) -> Option<WalkEnd> {
         match self {
             ModuleRows::Section { share } => go_up_by_section(share, frame, memory),
-            ModuleRows::Table { share } => share.rows().go_up(frame, memory),
+            ModuleRows::Table { share } => share.get().rows().go_up(frame, memory),
         }
     }
 }
@@ -53,13 +54,13 @@ impl StepSource for ModuleRows {
 /// A frame becomes the one before by the instructions of its FDE.
 #[inline(never)]
 fn go_up_by_section<M: WordSource>(
-    share: &SectionShare,
+    share: &Shared<LoadedSection>,
     frame: &mut Frame,
     memory: &M,
 ) -> Option<WalkEnd>
     ensures { GoesUp share.now.section (M.regions memory.now) frame.old result frame.new }
 {
-    let step = step_at(share.loaded(), frame.look(), &frame.regs, memory);
+    let step = step_at(share.get(), frame.look(), &frame.regs, memory);
     take_step(step, frame)
 }
 

@@ -133,7 +133,7 @@ pub extern "C" fn frames_c_row(
         (fde_in pc (held_section section.held))) pc result out.old out.new }
 {
     let share = section.open(alloc);
-    let found = row_in(share.loaded(), pc, out);
+    let found = row_in(share.get(), pc, out);
     *back = SectionHandle::of(share);
     found
 }
@@ -154,7 +154,7 @@ pub extern "C" fn frames_c_row_table_row(
         (fde_in pc (held_section table.held))) pc result out.old out.new }
 {
     let share = table.open(alloc);
-    let found = share.row_in(pc, out);
+    let found = share.get().row_in(pc, out);
     *back = RowTableHandle::of(share);
     found
 }

@@ -1,4 +1,4 @@
-//! What the handle of a row table leads to.
+//! A row table, as its shares have it.
 
 ghost use Rattle.std.specs.Prelude.{◌≡◌, ◌⊎◌, IfOk, IfErr};
 ghost use Rattle.std.specs.List.{AllZip};
@@ -8,18 +8,18 @@ ghost use Rattle.frames_c.specs.Held.{claim_in, unless_claimed};
 ghost use Rattle.frames_c.specs.Rows.{IsToldPlaced, AnswersRow};
 
 use crate::row::FramesRow;
-use crate::share::{LoadedSection, SectionShare};
+use crate::share::LoadedSection;
 use crate::told_rows::told_rows;
+use c_handle::Shared;
 use frame_parse::Section;
 use row_table::{RowTable, SectionRows, TableFault};
-use std::alloc::{AllocError, Global};
+use std::alloc::Global;
 use std::marker::Model;
-use std::sync::Arc;
 
 /// A share of a section, the table of its rows, and those of them that differ as C is told.
 #[derive(Drop)]
 pub struct RowsOfSection {
-    share: SectionShare,
+    share: Shared<LoadedSection>,
     table: RowTable,
     told: Vec<FramesRow>,
 }
@@ -40,12 +40,15 @@ impl Model for RowsOfSection {
 
 impl RowsOfSection {
     /// Makes the table.
-    pub(crate) fn of(alloc: Global, share: SectionShare) -> Result<RowsOfSection, TableFault>
+    pub(crate) fn of(
+        alloc: Global,
+        share: Shared<LoadedSection>,
+    ) -> Result<RowsOfSection, TableFault>
         ensures rows { IfOk result (λ rows. rows ≡ share) }
         ensures refused { IfErr result (λ fault. (fault ≡ TableFault.NoMemory)
             ⊎ HasTooManyRows share.section) }
     {
-        let table = RowTable::of(alloc, share.loaded().section())?;
+        let table = RowTable::of(alloc, share.get().section())?;
         let told = told_rows(alloc, table.distinct())?;
         Ok(RowsOfSection { share, table, told })
     }
@@ -54,7 +57,7 @@ impl RowsOfSection {
     pub(crate) fn rows(&self) -> SectionRows<'_>
         ensures { result ≡ self.now.section }
     {
-        SectionRows::new(self.share.loaded().section(), &self.table)
+        SectionRows::new(self.share.get().section(), &self.table)
     }
 
     /// Writes the row of an address, where an FDE answers.
@@ -62,7 +65,7 @@ impl RowsOfSection {
         ensures { AnswersRow (unless_claimed (claim_in pc self.now) (fde_in pc self.now.section))
             pc result out.old out.new }
     {
-        let loaded = self.share.loaded();
+        let loaded = self.share.get();
         match loaded.claim_at(pc) {
             Some(_) => false,
             None => copy_row(loaded.section(), &self.table, &self.told, pc, out),
@@ -72,7 +75,7 @@ impl RowsOfSection {
     pub(crate) fn loaded(&self) -> &LoadedSection
         ensures { result.now ≡ self.now }
     {
-        self.share.loaded()
+        self.share.get()
     }
 }
 
@@ -94,60 +97,5 @@ fn copy_row(
             *out = told[number];
             true
         }
-    }
-}
-
-/// A share of a row table, which goes with the last of them.
-#[derive(Drop)]
-pub struct TableShare {
-    rows: Arc<RowsOfSection, Global>,
-}
-
-impl Model for TableShare {
-    ghost use Rattle.std.specs.Arc.{arc_value};
-    ghost use Rattle.frames_c.specs.Held.{LoadedData};
-
-    ghost Value = { LoadedData };
-
-    ghost view = { λ s. arc_value s.rows };
-}
-
-impl TableShare {
-    /// The first share.
-    pub(crate) fn new(alloc: Global, rows: RowsOfSection) -> Result<TableShare, AllocError>
-        ensures { IfOk result (λ share. share ≡ rows) }
-    {
-        match Arc::new(alloc, rows) {
-            Ok(rows) => Ok(TableShare { rows }),
-            Err(_) => Err(AllocError),
-        }
-    }
-
-    /// One more.
-    pub(crate) fn another(&self) -> Result<TableShare, AllocError>
-        ensures { IfOk result (λ share. share ≡ self.now) }
-    {
-        let rows = Arc::try_clone(&self.rows)?;
-        Ok(TableShare { rows })
-    }
-
-    pub(crate) fn rows(&self) -> SectionRows<'_>
-        ensures { result ≡ self.now.section }
-    {
-        self.rows.rows()
-    }
-
-    pub(crate) fn loaded(&self) -> &LoadedSection
-        ensures { result.now ≡ self.now }
-    {
-        self.rows.loaded()
-    }
-
-    /// Writes the row of an address, where an FDE answers.
-    pub(crate) fn row_in(&self, pc: u64, out: &mut FramesRow) -> bool
-        ensures { AnswersRow (unless_claimed (claim_in pc self.now) (fde_in pc self.now.section))
-            pc result out.old out.new }
-    {
-        self.rows.row_in(pc, out)
     }
 }

@@ -6,20 +6,24 @@ ghost use Rattle.row_table.specs.Tables.{HasTooManyRows};
 ghost use Rattle.frames_c.specs.RowTables.{table_fault_told, AnswersRowTable};
 
 use crate::handles::{RowTableHandle, SectionHandle};
-use crate::row_share::{RowsOfSection, TableShare};
-use crate::share::SectionShare;
+use crate::row_share::RowsOfSection;
+use crate::share::LoadedSection;
+use c_handle::Shared;
 use row_table::TableFault;
 use std::alloc::Global;
 
 /// The first share of a section's row table, in a box of its own.
-fn made(alloc: Global, share: &SectionShare) -> Result<Box<TableShare, Global>, TableFault>
+fn made(
+    alloc: Global,
+    share: &Shared<LoadedSection>,
+) -> Result<Box<Shared<RowsOfSection>, Global>, TableFault>
     ensures share { IfOk result (λ table. table.value ≡ share.now) }
     ensures refused { IfErr result (λ fault. (fault ≡ TableFault.NoMemory)
         ⊎ HasTooManyRows share.now.section) }
 {
     let own = share.another()?;
     let rows = RowsOfSection::of(alloc, own)?;
-    let table = TableShare::new(alloc, rows)?;
+    let table = Shared::new(alloc, rows)?;
     match Box::new(alloc, table) {
         Ok(boxed) => Ok(boxed),
         Err(_) => Err(TableFault::NoMemory),

@@ -1,6 +1,6 @@
-//! What the handle of a section leads to.
+//! A section, as its shares have it.
 
-ghost use Rattle.std.specs.Prelude.{◌≡◌, ◌<◌, ◌^◌, [], IfOk, IfSome, length};
+ghost use Rattle.std.specs.Prelude.{◌≡◌, ◌<◌, ◌^◌, [], IfSome, length};
 ghost use Rattle.std.specs.Option.{option_map};
 ghost use Rattle.eh_hdr.specs.Tables.{IsSortedTable};
 ghost use Rattle.frame_parse.specs.Sections.{first_cover, HasFdes};
@@ -10,9 +10,8 @@ use eh_hdr::SearchTable;
 use frame_parse::{Fde, Section};
 use frame_rows::row_at;
 use sound_records::{RefusedRecord, SoundSection};
-use std::alloc::{AllocError, Global};
+use std::alloc::Global;
 use std::marker::Model;
-use std::sync::Arc;
 use unwind_step::{FdeRow, RowSource};
 
 /// A section whose places are numbers of four bytes, the records that are refused in it, and the
@@ -112,46 +111,5 @@ impl RowSource for LoadedSection {
         let fde = self.fde_at(pc)?;
         let row = row_at(&fde, pc);
         Some(FdeRow { fde, row })
-    }
-}
-
-/// A share of a section, which goes with the last of them.
-#[derive(Drop)]
-pub struct SectionShare {
-    loaded: Arc<LoadedSection, Global>,
-}
-
-impl Model for SectionShare {
-    ghost use Rattle.std.specs.Arc.{arc_value};
-    ghost use Rattle.frames_c.specs.Held.{LoadedData};
-
-    ghost Value = { LoadedData };
-
-    ghost view = { λ s. arc_value s.loaded };
-}
-
-impl SectionShare {
-    /// The first share.
-    pub(crate) fn new(alloc: Global, loaded: LoadedSection) -> Result<SectionShare, AllocError>
-        ensures { IfOk result (λ share. share ≡ loaded) }
-    {
-        match Arc::new(alloc, loaded) {
-            Ok(loaded) => Ok(SectionShare { loaded }),
-            Err(_) => Err(AllocError),
-        }
-    }
-
-    /// One more.
-    pub(crate) fn another(&self) -> Result<SectionShare, AllocError>
-        ensures { IfOk result (λ share. share ≡ self.now) }
-    {
-        let loaded = Arc::try_clone(&self.loaded)?;
-        Ok(SectionShare { loaded })
-    }
-
-    pub(crate) fn loaded(&self) -> &LoadedSection
-        ensures { result.now ≡ self.now }
-    {
-        &self.loaded
     }
 }

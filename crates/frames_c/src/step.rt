@@ -129,7 +129,7 @@ pub extern "C" fn frames_c_step(
 {
     let share = section.open(alloc);
     let recorded = memory.open(alloc);
-    let outcome = step_in(share.loaded(), &*recorded, frame);
+    let outcome = step_in(share.get(), &*recorded, frame);
     *memory_back = MemoryHandle::of(recorded);
     *back = SectionHandle::of(share);
     outcome
@@ -157,7 +157,7 @@ pub extern "C" fn frames_c_step_lent(
         address,
         bytes: stack,
     };
-    let outcome = step_in(share.loaded(), &lent, frame);
+    let outcome = step_in(share.get(), &lent, frame);
     *back = SectionHandle::of(share);
     outcome
 }
@@ -183,7 +183,7 @@ pub extern "C" fn frames_c_row_table_step(
 {
     let share = table.open(alloc);
     let recorded = memory.open(alloc);
-    let outcome = step_by(share.loaded(), &share.rows(), &*recorded, frame);
+    let outcome = step_by(share.get().loaded(), &share.get().rows(), &*recorded, frame);
     *memory_back = MemoryHandle::of(recorded);
     *back = RowTableHandle::of(share);
     outcome
@@ -210,7 +210,7 @@ pub extern "C" fn frames_c_row_table_step_lent(
         address,
         bytes: stack,
     };
-    let outcome = step_by(share.loaded(), &share.rows(), &lent, frame);
+    let outcome = step_by(share.get().loaded(), &share.get().rows(), &lent, frame);
     *back = RowTableHandle::of(share);
     outcome
 }
@@ -262,7 +262,7 @@ pub extern "C" fn frames_c_step_asking(
         bytes: stack,
     };
     let told = ToldMemory { lent, words };
-    let outcome = step_told(share.loaded(), share.loaded(), &told, frame);
+    let outcome = step_told(share.get(), share.get(), &told, frame);
     *back = SectionHandle::of(share);
     outcome
 }
@@ -294,7 +294,7 @@ pub extern "C" fn frames_c_row_table_step_asking(
         bytes: stack,
     };
     let told = ToldMemory { lent, words };
-    let outcome = step_told(share.loaded(), &share.rows(), &told, frame);
+    let outcome = step_told(share.get().loaded(), &share.get().rows(), &told, frame);
     *back = RowTableHandle::of(share);
     outcome
 }

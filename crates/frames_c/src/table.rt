@@ -118,7 +118,7 @@ pub extern "C" fn frames_c_table(
     ensures room { count.new ≤ length entries.old }
 {
     let share = section.open(alloc);
-    let (made, entries_made) = table(share.loaded().section(), entries);
+    let (made, entries_made) = table(share.get().section(), entries);
     *count = entries_made;
     *back = SectionHandle::of(share);
     made

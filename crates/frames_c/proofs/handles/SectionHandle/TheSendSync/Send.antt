@@ -2,9 +2,11 @@
 use denote.Struct.Owning.{to}
 use denote.Param.Send.{IsSend, owning_send}
 use Rattle.c_handle.proofs.HandleSteps.Crossing.{pointer_sends, owned, leaves}
-use Rattle.frames_c.specs.contracts.share.SectionShare as SectionShare
-use Rattle.frames_c.proofs.share.SectionShare.TheSendSync.{the_send as share}
+use Rattle.c_handle.specs.contracts.shared.Shared as Shared
+use Rattle.c_handle.proofs.shared.Shared.TheSendSync.{the_send as share}
+use Rattle.frames_c.specs.contracts.share.LoadedSection as LoadedSection
+use Rattle.frames_c.proofs.share.LoadedSection.TheSendSync.{the_send, the_sync}
 use Rattle.frames_c.specs.contracts.handles.SectionHandle.{the_row, the_type}
 
 pub send : IsSend the_row
-send = owning_send the_type pointer_sends (λ d. owned SectionShare.the_row share d.at d.held) (leaves (to the_type))
+send = owning_send the_type pointer_sends (λ d. owned (Shared.the_row LoadedSection.the_row) (share LoadedSection.the_row the_send the_sync) d.at d.held) (leaves (to the_type))

@@ -9,6 +9,6 @@ use Rattle.frames_c.proofs.row_share.RowsOfSection.of.Goals as goal
 
 pub invariant_of-result : goal.invariant_of-result
 invariant_of-result c = (
-  subst (λ (s : SectionData). IsRowTableOf s c.in_ok-table.table) (c.section.ensures ∙ ap (λ (l : LoadedData). l.section) c.loaded.ensures) c.in_ok-table.ensures.rows,
+  subst (λ (s : SectionData). IsRowTableOf s c.in_ok-table.table) (c.section.ensures ∙ ap (λ (l : LoadedData). l.section) c.get.ensures) c.in_ok-table.ensures.rows,
   subst (λ (l : List PlacedRow). AllZip IsToldPlaced l c.in_ok-told.told.items) c.distinct.ensures c.in_ok-told.ensures,
 )
