@@ -6,10 +6,10 @@ use Rattle.frame_parse.specs.Sections.{covers, first_cover}
 use Rattle.fde_members.specs.Members.{ShareNone}
 
 -- what an item of a list is: the first one, or one of the rest
-first_or_later : (g : FdeRecord) (fs : List FdeRecord) (f : FdeRecord) → Contains (g ∷ fs) f → (f ≡ g) ⊎ Contains fs f
-first_or_later g fs f among =
-    elim (Contains-append_cases (g ∷ []) fs f among) [
-      | inl here ↦ elim (Contains-push_cases [] g f here) [
+pub first_or_later : {X : Type 0} (h : X) (xs : List X) (x : X) → Contains (h ∷ xs) x → (x ≡ h) ⊎ Contains xs x
+first_or_later h xs x among =
+    elim (Contains-append_cases (h ∷ []) xs x among) [
+      | inl here ↦ elim (Contains-push_cases [] h x here) [
         | inl nowhere ↦ absurd (let within = nowhere.1 in omega (arith, within))
         | inr same ↦ inl (sym same)
       ]

@@ -1,10 +1,11 @@
 -- How often lists of members have one, and what putting one and taking one away make of that.
-use Rattle.std.proofs.Common.{◌≡◌, ◌&&◌, ℕ, ◌+◌, ◌≤◌, List, [], ◌∷◌, ◌++◌, Bool, true, false, not, cond, eqb, Some, refl, sym, ap, ◌∙◌, subst, arith, inl, inr, ◌⊎◌, leb, le-leb}
+use Rattle.std.proofs.Common.{◌≡◌, ◌&&◌, ℕ, ◌+◌, ◌≤◌, List, [], ◌∷◌, ◌++◌, Bool, true, false, not, cond, eqb, Some, refl, sym, ap, ◌∙◌, subst, arith, inl, inr, leb, le-leb}
 use Rattle.std.specs.List.{All, Contains, count_by}
 use Rattle.std.proofs.lemmas.Bool.{and_parts, eqb-true, eq-eqb}
 use Rattle.std.proofs.lemmas.Bool.Decides.{eqb_tells}
-use Rattle.std.proofs.lemmas.List.Elements.{All-contains, All-head, All-tail, Contains-append_cases, Contains-append_right, Contains-push_cases}
+use Rattle.std.proofs.lemmas.List.Elements.{All-contains, All-head, All-tail, Contains-append_right}
 use Rattle.std.proofs.lemmas.List.Sums.{sum_by-append, sum_by-cons, sum_by_push}
+use Rattle.fde_members.proofs.Covers.{first_or_later}
 use Rattle.reg_model.specs.History.{without}
 use Rattle.reg_model.specs.SpanData.{IsSpan, Overlaps}
 use Rattle.reg_model.specs.State.{AreDisjoint, IsFree, at_base}
@@ -18,17 +19,6 @@ count-append test xs ys = sum_by-append (λ y. cond (test y) 1 0) xs ys
 
 pub count-push : {X : Type 0} (test : X → Bool) (xs : List X) (x : X) → count_by test (xs ++ x ∷ []) ≡ count_by test xs + cond (test x) 1 0
 count-push test xs x = sum_by_push (λ y. cond (test y) 1 0) xs x
-
--- what an item of a list is: the first one, or one of the rest
-pub first_or_later : {X : Type 0} (h : X) (xs : List X) (x : X) → Contains (h ∷ xs) x → (x ≡ h) ⊎ Contains xs x
-first_or_later h xs x among =
-    elim (Contains-append_cases (h ∷ []) xs x among) [
-      | inl here ↦ elim (Contains-push_cases [] h x here) [
-        | inl nowhere ↦ absurd (let within = nowhere.1 in omega (arith, within))
-        | inr same ↦ inl (sym same)
-      ]
-      | inr later ↦ inr later
-    ]
 
 -- 1 for a test that passes
 abbrev pub one_if : Bool → ℕ

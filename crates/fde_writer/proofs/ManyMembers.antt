@@ -7,6 +7,7 @@ use Rattle.std.proofs.lemmas.List.Elements.{All-cons, All-contains, All-contains
 use Rattle.reg_model.specs.declared.answer.Half.{Half}
 use Rattle.reg_model.specs.declared.span.Member.{Member}
 use Rattle.sole_writer.specs.Writers.{WriterData}
+use Rattle.fde_members.proofs.Covers.{first_or_later}
 use Rattle.fde_writer.specs.Places.{HoldsAtLeast, PlaceData, placed_members, passes}
 use Rattle.fde_writer.specs.Puttings.{IsPutFault, IsUndone, MayUndo, Puts, PutsNone, StopsPutting, StopsTaking, TakesAway, UnlessStuck, writer_state, writer_updates}
 use Rattle.fde_writer.specs.Runs.{Runs, numbers_told}
@@ -14,7 +15,7 @@ use Rattle.fde_writer.specs.declared.outcome.Numbers.{Numbers}
 use Rattle.fde_writer.specs.declared.putting.PutFault.{PutFault}
 use Rattle.fde_writer.specs.declared.putting.PutFault.TheVariants as fault
 use Rattle.fde_writer.proofs.Calls.{full_within, none_among, overlap_within, runs_more, runs_none, runs_then, taken_within}
-use Rattle.fde_writer.proofs.Counts.{count-append, first_or_later}
+use Rattle.fde_writer.proofs.Counts.{count-append}
 use Rattle.fde_writer.proofs.Gaining.{gained_held, gained_lost, gained_stopped, gained_then_stopped, gains_none, gains_then}
 use Rattle.fde_writer.proofs.OneMember.{one}
 

@@ -5,6 +5,7 @@ use Rattle.std.proofs.lemmas.Bool.{and_parts, le-leb, ltb-true}
 use Rattle.std.proofs.lemmas.List.Elements.{All-take, Contains-append_right}
 use Rattle.frame_parse.specs.Entries.{FdeRecord}
 use Rattle.frame_parse.specs.Sections.{SectionData, covers}
+use Rattle.fde_members.proofs.Covers.{first_or_later}
 use Rattle.fde_members.specs.Members.{AddsOnly, LeadsToFde, fde_member, is_kept}
 use Rattle.reg_model.specs.History.{state_after, state_at}
 use Rattle.reg_model.specs.Query.{query}
@@ -18,7 +19,6 @@ use Rattle.word_rule.specs.Callers.{start}
 use Rattle.fde_writer.specs.Places.{PlaceData, placed_members}
 use Rattle.fde_writer.specs.Sections.{FdeWriterData, IsFdeWriter, IsStanding, StandsIn}
 use Rattle.fde_writer.specs.Standing.{StandingData}
-use Rattle.fde_writer.proofs.Counts.{first_or_later}
 
 pub given_hit : ((low loads : ℕ) (sections : List SectionData) (history : List Update) (h : Half) (pc : ℕ) (m : Member) → low < 2 ^ 64 → m.span.first < 2 ^ 64 → All (AddsOnly low sections) history → query h pc (state_after (opening [] loads) history) ≡ Some m → LeadsToFde low sections pc m)
     → (u : FdeWriterData) (k : ℕ) (h : Half) (pc : ℕ) (m : Member) → IsFdeWriter u → u.low < 2 ^ 64 → m.span.first < 2 ^ 64 → query h pc (state_at (start u.client.words.terms) u.client.me.log.past k) ≡ Some m → LeadsToFde u.low u.ever pc m
