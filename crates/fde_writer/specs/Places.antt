@@ -1,5 +1,5 @@
 -- Where members stand, and how often lists have them.
-use Rattle.std.specs.Prelude.{◌≡◌, ◌≤◌, ◌+◌, ℕ, List, map, Bool, true, false, ◌&&◌, count_by}
+use Rattle.std.specs.Prelude.{◌≡◌, ◌≤◌, ◌+◌, List, map, Bool, true, false, ◌&&◌, count_by}
 use Rattle.reg_model.specs.State.{State}
 use Rattle.reg_model.specs.declared.answer.Half.{Half}
 use Rattle.reg_model.specs.declared.answer.Half.TheVariants.{Loaded, Registered}
@@ -9,13 +9,6 @@ use Rattle.reg_model.specs.declared.span.Member.{Member}
 pub record PlaceData : Type 0 where
   pub member : Member
   pub half : Half
-
--- one of its parts
-abbrev pub place_of_parts : ℕ → ℕ → ℕ → Half → PlaceData
-place_of_parts first last payload half = record {
-  member = record { span = record { first = first; last = last }; payload = payload };
-  half = half;
-}
 
 -- the members of one half
 abbrev pub members_in : Half → State → List Member

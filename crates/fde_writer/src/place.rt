@@ -4,7 +4,7 @@ ghost use Rattle.std.specs.Prelude.{◌≡◌, ◌++◌, ◌∷◌, [], ◌<◌,
 ghost use Rattle.std.specs.Prelude.{slice_index_or};
 ghost use Rattle.reg_model.specs.SpanData.{IsSpan};
 ghost use Rattle.reg_model.specs.declared.answer.Half.TheVariants as half;
-ghost use Rattle.fde_writer.specs.Places.{PlaceData, all_registered, place_of_parts};
+ghost use Rattle.fde_writer.specs.Places.{PlaceData, all_registered};
 ghost use Rattle.fde_writer.specs.Places.{placed_members};
 
 use reg_model::{Half, Member, NoMemory, Span};
@@ -57,19 +57,6 @@ impl Place {
         }
     }
 
-    /// A place of its parts.
-    pub fn of_parts(first: u64, last: u64, payload: u32, half: Half) -> Place
-        requires { IsSpan (record { first = first; last = last }) }
-        ensures { result ≡ place_of_parts first last payload half }
-    {
-        Place {
-            first,
-            last,
-            payload,
-            half,
-        }
-    }
-
     pub fn member(&self) -> Member
         ensures { result ≡ self.now.member }
     {
@@ -86,19 +73,6 @@ impl Place {
         ensures span { IsSpan self.now.member.span }
     {
         self.first
-    }
-
-    /// Its last address.
-    pub fn last(&self) -> u64
-        ensures { result ≡ self.now.member.span.last }
-    {
-        self.last
-    }
-
-    pub fn payload(&self) -> u32
-        ensures { result ≡ self.now.member.payload }
-    {
-        self.payload
     }
 
     pub fn half(&self) -> Half

@@ -5,15 +5,14 @@ ghost use Rattle.std.specs.Prelude.{IfOk, IfSome, IfNone, List, IsTrue, ◌↔�
 ghost use Rattle.std.specs.Prelude.{vec_capacity, vec_len};
 ghost use Rattle.std.specs.Cow.{cow_value};
 ghost use Rattle.std.specs.Option.{option_to_list};
-ghost use Rattle.reg_model.specs.SpanData.{IsSpan};
-ghost use Rattle.fde_writer.specs.Places.{PlaceData, place_of_parts};
+ghost use Rattle.fde_writer.specs.Places.{PlaceData};
 ghost use Rattle.fde_writer.specs.Standing.{HasAsMany, StandingData, bare_standing};
 
 use crate::place::Place;
 use crate::places::Places;
 use crate::seen::SeenSection;
 use crate::standing::Standing;
-use reg_model::{Half, NoMemory};
+use reg_model::{Half, Member, NoMemory, Span};
 use std::alloc::Global;
 use std::borrow::Cow;
 use std::marker::Model;
@@ -32,8 +31,7 @@ enum Layers {
         section: SeenSection,
         half: Half,
         payload: u32,
-        first: u64,
-        last: u64,
+        span: Span,
     },
     More {
         all: Box<Vec<Standing>>,
@@ -45,14 +43,12 @@ const _: () = prove!(size_of::<Stack>() == 24);
 
 impl Model for Stack {
     ghost use Rattle.std.specs.Prelude.{List};
-    ghost use Rattle.fde_writer.specs.Layers.{HasSpan, layered};
+    ghost use Rattle.fde_writer.specs.Layers.{layered};
     ghost use Rattle.fde_writer.specs.Standing.{StandingData};
 
     ghost Value = { List StandingData };
 
     ghost view = { λ s. layered s.layers };
-
-    ghost invariant = { λ s. HasSpan s.layers };
 }
 
 impl Stack {
@@ -71,13 +67,13 @@ impl Stack {
     fn bare(section: SeenSection, place: &Place) -> Stack
         ensures { result ≡ bare_standing section.section place.now ∷ [] }
     {
+        let Member { span, payload } = place.member();
         Stack {
             layers: Layers::Bare {
                 section,
                 half: place.half(),
-                payload: place.payload(),
-                first: place.first(),
-                last: place.last(),
+                payload,
+                span,
             },
         }
     }
@@ -133,9 +129,8 @@ impl Stack {
                 section,
                 half,
                 payload,
-                first,
-                last,
-            } => made(section, *half, *payload, *first, *last),
+                span,
+            } => made(section, *half, *payload, *span),
             Layers::More { all } => return add(all, standing),
         };
         match Stack::two(alloc, only, standing) {
@@ -156,9 +151,8 @@ impl Stack {
                 section,
                 half,
                 payload,
-                first,
-                last,
-            } => Some(Cow::Owned(made(section, *half, *payload, *first, *last))),
+                span,
+            } => Some(Cow::Owned(made(section, *half, *payload, *span))),
             Layers::More { all } => match last(all) {
                 Some(standing) => Some(Cow::Borrowed(standing)),
                 None => None,
@@ -202,21 +196,19 @@ impl Stack {
                 section,
                 half,
                 payload,
-                first,
-                last,
-            } => made(&section, half, payload, first, last),
+                span,
+            } => made(&section, half, payload, span),
             Layers::More { all } => only_of(Box::into_inner(all)),
         }
     }
 }
 
 /// A section with one member and no note, of what it is kept by.
-fn made(section: &SeenSection, half: Half, payload: u32, first: u64, last: u64) -> Standing
-    requires { IsSpan (record { first = first; last = last }) }
-    ensures { result
-        ≡ bare_standing section.now.section (place_of_parts first last payload half) }
+fn made(section: &SeenSection, half: Half, payload: u32, span: Span) -> Standing
+    ensures { result ≡ bare_standing section.now.section
+        (record { member = record { span = span; payload = payload }; half = half }) }
 {
-    Standing::bare(section.same(), Place::of_parts(first, last, payload, half))
+    Standing::bare(section.same(), Place::new(&Member { span, payload }, half))
 }
 
 /// Room for so many sections, and none yet.
