@@ -1,6 +1,7 @@
 -- What putting members into a registry and taking them away make of the caller that updates it.
 use Rattle.std.specs.Prelude.{◌≡◌, ◌≢◌, ◌≤◌, ◌⊎◌, ◌+◌, ◌*◌, ℕ, List, [], ◌∷◌, ◌++◌, true, false}
-use Rattle.std.specs.Prelude.{length}
+use Rattle.std.specs.Prelude.{length, ◌<◌}
+use Rattle.std.specs.List.{All}
 use Rattle.reg_model.specs.State.{State}
 use Rattle.reg_model.specs.declared.answer.Half.{Half}
 use Rattle.reg_model.specs.declared.answer.Half.TheVariants.{Loaded, Registered}
@@ -63,6 +64,23 @@ abbrev pub IsPutFault : List Member → ℕ → WriterData → WriterData → Pu
 IsPutFault members calls w w' Overlap = PutsNone members calls w w' × FoundOverlap members w w'
 IsPutFault members calls w w' Full = PutsNone members calls w w' × FoundFull members w w'
 IsPutFault members calls w w' Stuck = StopsPutting members calls w w'
+
+-- the calls are left that putting the members of places may want
+abbrev pub HasCallsFor : List PlaceData → WriterData → Type 0
+HasCallsFor places w = 3 * length places ≤ w.me.left
+
+-- there are the payloads of the members of places
+abbrev pub HasPayloadsOf : List PlaceData → WriterData → Type 0
+HasPayloadsOf places w = All (λ m. m.payload < w.words.terms.payloads) (placed_members places)
+
+-- the members of places were put, each into the half that its place now tells
+abbrev pub PutsAll
+    : List PlaceData → List PlaceData → WriterData → WriterData → Numbers → Type 0
+PutsAll old new w w' numbers = Puts (placed_members old) (2 * length old) new numbers w w'
+
+-- why they couldn't be put
+abbrev pub IsFaultOfAll : List PlaceData → WriterData → WriterData → PutFault → Type 0
+IsFaultOfAll places = IsPutFault (placed_members places) (3 * length places)
 
 -- how a half tells of a removal
 abbrev pub removal_from : Half → ℕ → Removed → Receipt

@@ -1,8 +1,8 @@
 //! A section is entered under its key, and its members are put.
 
-ghost use Rattle.std.specs.Prelude.{◌≡◌, ◌*◌, ◌<◌, ◌≤◌, All, IfOk, IfErr, false, length};
+ghost use Rattle.std.specs.Prelude.{◌≡◌, IfOk, IfErr, false};
 ghost use Rattle.fde_writer.specs.Places.{PlaceData, all_registered, placed_members};
-ghost use Rattle.fde_writer.specs.Puttings.{Enters, IsSectionFault};
+ghost use Rattle.fde_writer.specs.Puttings.{Enters, HasCallsFor, HasPayloadsOf, IsSectionFault};
 
 use crate::book::Book;
 use crate::outcome::Numbers;
@@ -28,9 +28,8 @@ pub fn enter(
     places: Places,
 ) -> Result<Numbers, SectionFault>
     requires free { client.old.stuck ≡ false }
-    requires left { 3 * length standing.places ≤ client.old.me.left }
-    requires payloads { All (λ m. m.payload < client.old.words.terms.payloads)
-        (placed_members standing.places) }
+    requires left { HasCallsFor standing.places client.old }
+    requires payloads { HasPayloadsOf standing.places client.old }
     requires places { places ≡ standing.places }
     requires registered { standing.places ≡ all_registered (placed_members standing.places) }
     ensures enters { IfOk result

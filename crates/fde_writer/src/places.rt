@@ -1,10 +1,9 @@
 //! The places of a section's members.
 
-ghost use Rattle.std.specs.Prelude.{◌≡◌, ◌∷◌, [], ◌*◌, ◌<◌, ◌≤◌, All, IfOk, IfErr, IsTrue, false};
-ghost use Rattle.std.specs.Prelude.{length};
+ghost use Rattle.std.specs.Prelude.{◌≡◌, ◌∷◌, [], IfOk, IfErr, IsTrue, false, length};
 ghost use Rattle.fde_writer.specs.PlaceForms.{places_of};
 ghost use Rattle.fde_writer.specs.Places.{PlaceData, all_registered, placed_members};
-ghost use Rattle.fde_writer.specs.Puttings.{IsPutFault, Puts};
+ghost use Rattle.fde_writer.specs.Puttings.{HasCallsFor, HasPayloadsOf, IsFaultOfAll, PutsAll};
 
 use crate::outcome::Numbers;
 use crate::place::{Place, registered_places};
@@ -80,13 +79,10 @@ impl Places {
     /// Puts their members, and tells in which halves they stand: all of them, or none.
     pub fn put(&mut self, writer: &mut Writer) -> Result<Numbers, PutFault>
         requires free { writer.old.stuck ≡ false }
-        requires left { 3 * length self.old ≤ writer.old.me.left }
-        requires payloads { All (λ m. m.payload < writer.old.words.terms.payloads)
-            (placed_members self.old) }
-        ensures put { IfOk result (λ numbers. Puts (placed_members self.old) (2 * length self.old)
-            self.new numbers writer.old writer.new) }
-        ensures fault { IfErr result (IsPutFault (placed_members self.old) (3 * length self.old)
-            writer.old writer.new) }
+        requires left { HasCallsFor self.old writer.old }
+        requires payloads { HasPayloadsOf self.old writer.old }
+        ensures put { IfOk result (PutsAll self.old self.new writer.old writer.new) }
+        ensures fault { IfErr result (IsFaultOfAll self.old writer.old writer.new) }
     {
         match &mut self.places {
             PlacesForm::One { place } => put_all(writer, slice::from_mut(place)),

@@ -1,9 +1,9 @@
 //! Members are put into the registry, and taken away again.
 
-ghost use Rattle.std.specs.Prelude.{◌≡◌, ◌+◌, ◌*◌, ◌<◌, ◌≤◌, [], ◌∷◌, All, IfOk, IfErr, OnErr};
-ghost use Rattle.std.specs.Prelude.{false, length};
+ghost use Rattle.std.specs.Prelude.{◌≡◌, ◌<◌, ◌≤◌, [], ◌∷◌, IfOk, IfErr, OnErr, false, length};
 ghost use Rattle.sole_writer.specs.Writers.{WriterAnswers, WriterStops};
-ghost use Rattle.fde_writer.specs.Places.{HoldsAtLeast, PlaceData, placed_members};
+ghost use Rattle.fde_writer.specs.Places.{HoldsAtLeast};
+ghost use Rattle.fde_writer.specs.Puttings.{HasCallsFor, HasPayloadsOf, IsFaultOfAll, PutsAll};
 ghost use Rattle.fde_writer.specs.Puttings.{IsLoadingFault, IsPutFault, IsUndone, MayUndo, Puts};
 ghost use Rattle.fde_writer.specs.Puttings.{StopsTaking, TakesAway, UnlessStuck, writer_state};
 ghost use Rattle.fde_writer.specs.Puttings.{removal_from};
@@ -156,13 +156,10 @@ fn undo(writer: &mut Writer, places: &[Place], fault: PutFault) -> PutFault
 /// Puts the members of places, and tells in which halves they stand: all of them, or none.
 pub fn put_all(writer: &mut Writer, places: &mut [Place]) -> Result<Numbers, PutFault>
     requires free { writer.old.stuck ≡ false }
-    requires left { 3 * length places.old ≤ writer.old.me.left }
-    requires payloads { All (λ m. m.payload < writer.old.words.terms.payloads)
-        (placed_members places.old) }
-    ensures put { IfOk result (λ numbers. Puts (placed_members places.old) (2 * length places.old)
-        places.new numbers writer.old writer.new) }
-    ensures fault { IfErr result (IsPutFault (placed_members places.old) (3 * length places.old)
-        writer.old writer.new) }
+    requires left { HasCallsFor places.old writer.old }
+    requires payloads { HasPayloadsOf places.old writer.old }
+    ensures put { IfOk result (PutsAll places.old places.new writer.old writer.new) }
+    ensures fault { IfErr result (IsFaultOfAll places.old writer.old writer.new) }
 {
     let mut numbers = Numbers::none();
     for index in 0..places.len() {
