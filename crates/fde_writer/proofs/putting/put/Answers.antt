@@ -33,9 +33,8 @@ returns-in-Overlap-clause-fault c =
     let m : Member = c.args.member.now in
     let w : WriterData = c.args.writer.now in
     let v : WriterData = c.register.new.self in
-    let u : WriterData = c.load.new.writer in
-    let a = subst (λ (r : Inserted). WriterAnswers (receipt.Register m r) w v) c.in-Overlap.is c.in-Ok.ensures.answers in
-    if_err (IsLoadingFault m v u) (IsPutFault (m ∷ []) 2 w u) (fault_after m _ _ w v u a) c.load.result c.load.ensures.fault
+    if_err (IsLoadingFault m v c.load.new.writer) (IsPutFault (m ∷ []) 2 w c.load.new.writer)
+    (fault_after m _ _ w v c.load.new.writer (subst (λ (r : Inserted). WriterAnswers (receipt.Register m r) w v) c.in-Overlap.is c.in-Ok.ensures.answers)) c.load.result c.load.ensures.fault
 
 pub returns-in-Err-clause-fault : goal.returns-in-Err-clause-fault
 returns-in-Err-clause-fault c = put_stopped (c.args.member.now ∷ []) 2 _ _ _ c.in-Err.ensures.stops
