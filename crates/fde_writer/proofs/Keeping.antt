@@ -5,7 +5,7 @@ use Rattle.std.specs.Map.{values_of}
 use Rattle.std.proofs.lemmas.List.Elements.{All-append, All-contains, All-contains_itself, All-filter, All-map, All-weaker, Contains-append_left, Contains-push, filter_passes}
 use Rattle.std.proofs.lemmas.List.Sums.{sum_by-append, sum_by-cons, sum_by_push}
 use Rattle.frame_parse.specs.Sections.{SectionData}
-use Rattle.fde_members.specs.Members.{AddsOnly, IsFdeMember, fde_member, is_kept, section_members}
+use Rattle.fde_members.specs.Members.{AddsOnly, AreNear, IsFdeMember, fde_member, is_kept, section_members}
 use Rattle.reg_model.specs.declared.answer.Update.{Update}
 use Rattle.reg_model.specs.declared.answer.Update.TheVariants.{Register, Deregister, Replace, Load, Unload}
 use Rattle.reg_model.specs.declared.span.Member.{Member}
@@ -41,6 +41,17 @@ sum_flat g (u ∷ lists) =
 
 pub count_all : (test : PlaceData → Bool) (stands : Standings) → count_by test (all_places stands) ≡ standing_sum (λ x. count_by test x.places) stands
 count_all test stands = count_flat test (λ (x : StandingData). x.places) (all_standing stands) ∙ sum_flat (λ x. count_by test x.places) (values_of stands)
+
+-- and what those of others are, where the sections hold as many, or so many more
+count_same : (test : PlaceData → Bool) (old new : Standings) → ((f : StandingData → ℕ) → standing_sum f new ≡ standing_sum f old) → count_by test (all_places new) ≡ count_by test (all_places old)
+count_same test old new weighs = count_all test new ∙ weighs (λ x. count_by test x.places) ∙ sym (count_all test old)
+
+count_more : (test : PlaceData → Bool) (old new : Standings) (more : StandingData) → ((f : StandingData → ℕ) → standing_sum f new ≡ standing_sum f old + f more) → count_by test (all_places new) ≡ count_by test (all_places old) + count_by test more.places
+count_more test old new more weighs =
+    let a = weighs (λ x. count_by test x.places) in
+    let b = count_all test old in
+    let c = count_all test new in
+    omega (arith, a, b, c)
 
 -- as many members as places
 pub members_long : (ps : List PlaceData) → length (placed_members ps) ≡ length ps
@@ -106,8 +117,14 @@ adds_none low ever (Unload base) among = tt
 
 -- ---- a section was to be registered
 
-module _ (count : ℕ) (u : FdeWriterData) (x : StandingData) (is : IsFdeWriterWith count u) (whole : placed_members x.places ≡ section_members u.low x.section)
-    (enough : members_due u + 3 * length x.places ≤ u.client.me.left) (free : u.client.stuck ≡ false) (w' : WriterData) (stands' : Standings) where
+-- what a section needs to stand
+pub record MayStand (u : FdeWriterData) (x : StandingData) : Type 0 where
+  pub whole : placed_members x.places ≡ section_members u.low x.section
+  pub near : AreNear (section_members u.low x.section)
+  pub enough : members_due u + 3 * length x.places ≤ u.client.me.left
+  pub free : u.client.stuck ≡ false
+
+module _ (count : ℕ) (u : FdeWriterData) (x : StandingData) (is : IsFdeWriterWith count u) (may : MayStand u x) (w' : WriterData) (stands' : Standings) where
   abbrev next : FdeWriterData
   next = record { client = w'; low = u.low; stands = stands'; ever = u.ever ++ x.section ∷ [] }
 
@@ -118,7 +135,7 @@ module _ (count : ℕ) (u : FdeWriterData) (x : StandingData) (is : IsFdeWriterW
             record { given = Contains-append_left u.ever (x.section ∷ []) y.section was.given; whole = was.whole })
         | inr it ↦ record {
           given = subst (Contains (u.ever ++ x.section ∷ [])) (sym it.section) (Contains-push u.ever x.section);
-          whole = it.members ∙ whole ∙ ap (section_members u.low) (sym it.section);
+          whole = it.members ∙ may.whole ∙ ap (section_members u.low) (sym it.section);
         }
       ]) (all_standing stands') (All-contains_itself (all_standing stands'))
 
@@ -126,7 +143,7 @@ module _ (count : ℕ) (u : FdeWriterData) (x : StandingData) (is : IsFdeWriterW
   added_still adds =
       let ever = u.ever ++ x.section ∷ [] in
       let old = All-weaker (AddsOnly u.low u.ever) (AddsOnly u.low ever) (adds_more u.low u.ever (x.section ∷ [])) u.client.me.log.past is.is.added in
-      let more = subst (λ (ms : List Member). All (AddsAmong ms) adds.updates) whole adds.adds in
+      let more = subst (λ (ms : List Member). All (AddsAmong ms) adds.updates) may.whole adds.adds in
       let new = All-weaker (AddsAmong (section_members u.low x.section)) (AddsOnly u.low ever) (adds_these u.low u.ever x.section) adds.updates more in
       subst (All (AddsOnly u.low ever)) (sym adds.past) (All-append (AddsOnly u.low ever) u.client.me.log.past adds.updates old new)
 
@@ -135,12 +152,10 @@ module _ (count : ℕ) (u : FdeWriterData) (x : StandingData) (is : IsFdeWriterW
       let longer : length e.places ≡ length x.places = sym (members_long e.places) ∙ ap length e.puts.whole ∙ members_long x.places in
       let more = e.weighs (λ y. length y.places) in
       let exact : HoldsPlaces (writer_state w') (all_places stands') = λ half test. (
-      let a = is.is.only free half test in
+      let a = is.is.only may.free half test in
       let b = e.puts.gains half test in
-      let c = e.weighs (λ y. count_by (passes half test) y.places) in
-      let d = count_all (passes half test) u.stands in
-      let f = count_all (passes half test) stands' in
-      omega (arith, a, b, c, d, f)) in
+      let c = count_more (passes half test) u.stands stands' (record x { places = e.places }) e.weighs in
+      omega (arith, a, b, c)) in
       record {
         is = record {
           payloads = ap (λ (t : WordsData). t.terms.payloads) e.puts.runs.words ∙ is.is.payloads;
@@ -149,7 +164,7 @@ module _ (count : ℕ) (u : FdeWriterData) (x : StandingData) (is : IsFdeWriterW
           there = λ half test. (let h = exact half test in omega (arith, h));
           only = λ _. exact;
           added = added_still (runs_add (placed_members x.places) (2 * length x.places) u.client w' e.puts.runs);
-          calls = λ _. (let l = e.puts.runs.left in omega (arith, enough, more, longer, l));
+          calls = λ _. (let l = e.puts.runs.left in let n = may.enough in omega (arith, n, more, longer, l));
         };
         due_is = (let d = is.due_is in omega (arith, d, more, longer));
       }
@@ -159,12 +174,10 @@ module _ (count : ℕ) (u : FdeWriterData) (x : StandingData) (is : IsFdeWriterW
   refused_keeps none leaves =
       let same = leaves.weighs (λ y. length y.places) in
       let exact : HoldsPlaces (writer_state w') (all_places stands') = λ half test. (
-      let a = is.is.only free half test in
+      let a = is.is.only may.free half test in
       let b = none.same half test in
-      let c = leaves.weighs (λ y. count_by (passes half test) y.places) in
-      let d = count_all (passes half test) u.stands in
-      let f = count_all (passes half test) stands' in
-      omega (arith, a, b, c, d, f)) in
+      let c = count_same (passes half test) u.stands stands' leaves.weighs in
+      omega (arith, a, b, c)) in
       record {
         is = record {
           payloads = ap (λ (t : WordsData). t.terms.payloads) none.runs.words ∙ is.is.payloads;
@@ -173,7 +186,7 @@ module _ (count : ℕ) (u : FdeWriterData) (x : StandingData) (is : IsFdeWriterW
           there = λ half test. (let h = exact half test in omega (arith, h));
           only = λ _. exact;
           added = added_still (runs_add (placed_members x.places) (3 * length x.places) u.client w' none.runs);
-          calls = λ _. (let l = none.runs.left in omega (arith, enough, same, l));
+          calls = λ _. (let l = none.runs.left in let n = may.enough in omega (arith, n, same, l));
         };
         due_is = (let d = is.due_is in omega (arith, d, same));
       }
@@ -192,10 +205,8 @@ module _ (count : ℕ) (u : FdeWriterData) (x : StandingData) (is : IsFdeWriterW
           there = λ half test. (
               let a = is.is.there half test in
               let b = stops.keeps half test in
-              let c = leaves.weighs (λ y. count_by (passes half test) y.places) in
-              let d = count_all (passes half test) u.stands in
-              let f = count_all (passes half test) stands' in
-              omega (arith, a, b, c, d, f));
+              let c = count_same (passes half test) u.stands stands' leaves.weighs in
+              omega (arith, a, b, c));
           only = λ f. absurd (never f);
           added = added_still adds;
           calls = λ f. absurd (never f);
@@ -245,10 +256,8 @@ module _ (count : ℕ) (u : FdeWriterData) (key : ℕ) (x : StandingData) (rest 
       let exact : HoldsPlaces (writer_state w') (all_places stands') = λ half test. (
       let a = is.is.only free half test in
       let b = takes.loses half test in
-      let c = lighter (λ y. count_by (passes half test) y.places) in
-      let d = count_all (passes half test) u.stands in
-      let f = count_all (passes half test) stands' in
-      omega (arith, a, b, c, d, f)) in
+      let c = count_more (passes half test) stands' u.stands x lighter in
+      omega (arith, a, b, c)) in
       record {
         is = record {
           payloads = ap (λ (t : WordsData). t.terms.payloads) takes.runs.words ∙ is.is.payloads;
@@ -275,10 +284,8 @@ module _ (count : ℕ) (u : FdeWriterData) (key : ℕ) (x : StandingData) (rest 
           there = λ half test. (
               let a = is.is.there half test in
               let b = stops.keeps half test in
-              let c = lighter (λ y. count_by (passes half test) y.places) in
-              let d = count_all (passes half test) u.stands in
-              let f = count_all (passes half test) stands' in
-              omega (arith, a, b, c, d, f));
+              let c = count_more (passes half test) stands' u.stands x lighter in
+              omega (arith, a, b, c));
           only = λ f. absurd (never f);
           added = added_none adds;
           calls = λ f. absurd (never f);

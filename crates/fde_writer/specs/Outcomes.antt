@@ -64,26 +64,26 @@ pub record RegistersSection (key note : ℕ) (s : SectionData) (numbers : Number
   pub low : u'.low ≡ u.low
   pub free : u'.client.stuck ≡ false
 
--- What was put was taken back: the same sections stand under each key, and the same members in
--- each half.
-pub record TakesSectionBack (s : SectionData) (u u' : FdeWriterData) : Type 0 where
+-- The section was given, and the same sections stand under each key.
+pub record LeavesSections (s : SectionData) (u u' : FdeWriterData) : Type 0 where
   pub begins : BeginsSection s u
   pub stands : (key : ℕ) → standing_under key u'.stands ≡ standing_under key u.stands
+  pub ever : u'.ever ≡ u.ever ++ s ∷ []
+  pub low : u'.low ≡ u.low
+
+-- What was put was taken back: the same sections stand, and the same members in each half.
+pub record TakesSectionBack (s : SectionData) (u u' : FdeWriterData) : Type 0 where
+  pub leaves : LeavesSections s u u'
   pub same : HaveSame (members_now u) (members_now u')
   pub runs : Runs (section_members u.low s) (3 * member_count u s) u.client u'.client
-  pub ever : u'.ever ≡ u.ever ++ s ∷ []
-  pub low : u'.low ≡ u.low
   pub free : u'.client.stuck ≡ false
 
--- A lock was found taken, and the writer is stopped: the same sections stand under each key, and
--- their members in both halves; others of the section may be left.
+-- A lock was found taken, and the writer is stopped: the same sections stand, and their members in
+-- both halves; others of the section may be left.
 pub record StopsRegistering (s : SectionData) (u u' : FdeWriterData) : Type 0 where
-  pub begins : BeginsSection s u
-  pub stands : (key : ℕ) → standing_under key u'.stands ≡ standing_under key u.stands
+  pub leaves : LeavesSections s u u'
   pub keeps : LosesAtMost [] (members_now u) (members_now u')
   pub cause : FoundTaken (section_members u.low s) (3 * member_count u s) u.client u'.client
-  pub ever : u'.ever ≡ u.ever ++ s ∷ []
-  pub low : u'.low ≡ u.low
   pub stopped : u'.client.stuck ≡ true
 
 -- the first member whose FDE is too far is so far
