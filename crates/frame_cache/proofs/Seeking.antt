@@ -1,5 +1,5 @@
 -- A search along the order of the slots, and one over all slots.
-use Rattle.std.proofs.Common.{◌≡◌, ℕ, suc, ◌+◌, ◌<◌, ◌≤◌, List, ◌∷◌, length, map, take, set, get_or, sym, ap, ◌∙◌, add-one, arith, true, false, Some, None}
+use Rattle.std.proofs.Common.{◌≡◌, ℕ, suc, ◌+◌, ◌<◌, ◌≤◌, List, ◌∷◌, length, map, take, set, get_or, sym, subst, ap, ◌∙◌, add-one, arith, true, false, Some, None}
 use borrow.Author.Count.{below_more}
 use Rattle.std.proofs.lemmas.List.{get_or_default}
 use Rattle.reg_model.specs.Query.{member_at}
@@ -16,6 +16,20 @@ used_is r is =
     let slots = is.slots.count in
     let used = is.used in
     entry_count r.members r.slots r.used (omega (arith, used, slots))
+
+-- which places have an entry, of recent members that are the same as others
+module _ (r v : RecentData) (place : ℕ) (same : v ≡ r) (is : IsRecent v) where
+  pub entry_place : place < v.used → place < length (cached_entries r)
+  entry_place within = subst (λ (z : RecentData). place < length (cached_entries z)) same (let count = used_is v is in omega (arith, within, count))
+
+  pub place_used : place < length (cached_entries r) → place < v.used
+  place_used within =
+      let there = subst (λ (z : RecentData). place < length (cached_entries z)) (sym same) within in
+      let count = used_is v is in
+      omega (arith, there, count)
+
+  pub place_low : place < length (cached_entries r) → place < 8
+  place_low within = (let there = place_used within in let used = is.used in omega (arith, there, used))
 
 -- the entry at a place is read through its slot
 pub entry_is : (r : RecentData) (place : ℕ) (x : Member) → IsRecent r → place < length (cached_entries r) → get_or r.members (get_or r.slots place 0) x ≡ cached_entry place r

@@ -1,16 +1,11 @@
-use Rattle.std.proofs.Common.{◌<◌, length, ap, sym, subst, ◌∙◌, arith}
+use Rattle.std.proofs.Common.{◌<◌, length, ap, sym, subst, ◌∙◌}
 use Rattle.frame_cache.specs.Recent.{cached_entries, cached_entry}
-use Rattle.frame_cache.specs.RecentData.{IsRecent, RecentData}
-use Rattle.frame_cache.proofs.Seeking.{entry_got, used_is}
+use Rattle.frame_cache.specs.RecentData.{RecentData}
+use Rattle.frame_cache.proofs.Seeking.{entry_got, place_low}
 use Rattle.frame_cache.proofs.recent.Recent.get.Goals as goal
 
 pub at-requires : goal.at-requires
-at-requires c =
-    let is : IsRecent c.args.self.now = subst IsRecent c.self.view_is c.self.invariant in
-    let within = c.requires in
-    let used = is.used in
-    let count = used_is c.args.self.now is in
-    omega (arith, within, count, used)
+at-requires c = place_low _ _ c.args.place c.self.view_is c.self.invariant c.requires
 
 pub returns : goal.returns
 returns c =
