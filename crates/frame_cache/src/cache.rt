@@ -21,10 +21,9 @@ pub struct FrameCache {
 
 impl Model for FrameCache {
     ghost use Rattle.frame_cache.specs.CacheData.{CacheData, HaveOwnSpans};
+    ghost use Rattle.frame_cache.specs.Recent.{cache_of, cached_entries};
 
     ghost Value = { CacheData };
-
-    ghost use Rattle.frame_cache.specs.Recent.{cache_of, cached_entries};
 
     ghost view = { λ c. cache_of c.half c.recent };
 
