@@ -1,5 +1,5 @@
 -- What a reader of FDEs is, and what its lookups make of it.
-use Rattle.std.specs.Prelude.{◌≡◌, ℕ, ◌⊎◌, length, Err}
+use Rattle.std.specs.Prelude.{◌≡◌, ℕ, ◌⊎◌, length, Result, Err}
 use mathlib.Core.List.{IsPrefix}
 use Rattle.array_publish.specs.Lookup.{LooksUp}
 use Rattle.btree_lookup.specs.Tries.{TriesTree}
@@ -24,6 +24,11 @@ pub record FdeReaderData : Type 0 where
   pub words : WordsData
   pub me : CallerData
   pub low : ℕ
+
+-- one half was asked once: the tree, or what the loader published
+abbrev pub AsksHalf : Half → Terms → ℕ → CallerData → CallerData → Result Found Again → Type 0
+AsksHalf Registered = TriesTree
+AsksHalf Loaded = LooksUp
 
 -- A half was asked and answered, as the state is after all that is seen then, which begins with
 -- what was seen before; the answer's stamp is how many updates that are.
@@ -55,6 +60,6 @@ FindsFde t low pc k k' told =
 
 -- A half wasn't answered, for a cause that the loads of the try show; the last one asked.
 abbrev pub FindsAgain : Terms → ℕ → CallerData → CallerData → Again → Type 0
-FindsAgain t pc k k' again = TriesTree t pc k k' (Err again)
+FindsAgain t pc k k' again = AsksHalf Registered t pc k k' (Err again)
     ⊎ ((mid : CallerData) × (at : ℕ)
-    × (AnswersHalf t Registered pc (found.Miss at) k mid × LooksUp t pc mid k' (Err again)))
+    × (AnswersHalf t Registered pc (found.Miss at) k mid × AsksHalf Loaded t pc mid k' (Err again)))

@@ -2,12 +2,9 @@
 
 ghost use Rattle.std.specs.Prelude.{◌≡◌, Err, IfOk, IfErr, List, length};
 ghost use Rattle.std.specs.Arc.{arc_value};
-ghost use Rattle.array_publish.specs.Lookup.{LooksUp};
-ghost use Rattle.btree_lookup.specs.Tries.{TriesTree};
-ghost use Rattle.reg_model.specs.declared.answer.Half.TheVariants as half;
 ghost use Rattle.reg_model.specs.declared.answer.Update.{Update};
 ghost use Rattle.word_rule.specs.Logs.{reader_log, reader_of};
-ghost use Rattle.fde_reader.specs.Readers.{AnswersHalf, FindsAgain, FindsFde, hit_told};
+ghost use Rattle.fde_reader.specs.Readers.{AnswersHalf, AsksHalf, FindsAgain, FindsFde, hit_told};
 
 use fde_members::fde_address;
 use reg_model::{Again, Found, Half, Member, NoMemory, Span};
@@ -118,7 +115,7 @@ impl FdeReader {
         ensures again { IfErr result (FindsAgain self.old.words.terms pc self.old.me self.new.me) }
         ensures same { self.new ≡ record self.old { me = self.new.me } }
     {
-        let registered = match find_registered(&self.registry, &mut self.me, pc) {
+        let registered = match ask(&self.registry, &mut self.me, Half::Registered, pc) {
             Ok(found) => found,
             Err(again) => return Err(again),
         };
@@ -128,7 +125,7 @@ impl FdeReader {
             }
             Found::Miss { stamp } => stamp,
         };
-        let loaded = match find_loaded(&self.registry, &mut self.me, pc) {
+        let loaded = match ask(&self.registry, &mut self.me, Half::Loaded, pc) {
             Ok(found) => found,
             Err(again) => return Err(again),
         };
@@ -144,26 +141,25 @@ impl FdeReader {
     }
 }
 
-/// Asks the registered half once.
-fn find_registered(registry: &Registry, me: &mut Reader, pc: u64) -> Result<Found, Again>
+/// Asks one half once.
+fn try_half(registry: &Registry, me: &mut Reader, half: Half, pc: u64) -> Result<Found, Again>
     requires { me.old.table ≡ registry.now.table }
-    ensures found { IfOk result
-        (λ found. AnswersHalf registry.now.terms half.Registered pc found me.old me.new) }
-    ensures again { IfErr result
-        (λ again. TriesTree registry.now.terms pc me.old me.new (Err again)) }
-    ensures rest { me.new ≡ record me.old { log = me.new.log } }
+    ensures { AsksHalf half registry.now.terms pc me.old me.new result }
 {
-    registry.try_registered(me, pc)
+    match half {
+        Half::Registered => registry.try_registered(me, pc),
+        Half::Loaded => registry.try_loaded(me, pc),
+    }
 }
 
-/// Asks the loader's half once.
-fn find_loaded(registry: &Registry, me: &mut Reader, pc: u64) -> Result<Found, Again>
+/// Asks one half once, and tells what it answered as the state is then.
+fn ask(registry: &Registry, me: &mut Reader, half: Half, pc: u64) -> Result<Found, Again>
     requires { me.old.table ≡ registry.now.table }
     ensures found { IfOk result
-        (λ found. AnswersHalf registry.now.terms half.Loaded pc found me.old me.new) }
+        (λ found. AnswersHalf registry.now.terms half pc found me.old me.new) }
     ensures again { IfErr result
-        (λ again. LooksUp registry.now.terms pc me.old me.new (Err again)) }
+        (λ again. AsksHalf half registry.now.terms pc me.old me.new (Err again)) }
     ensures rest { me.new ≡ record me.old { log = me.new.log } }
 {
-    registry.try_loaded(me, pc)
+    try_half(registry, me, half, pc)
 }
