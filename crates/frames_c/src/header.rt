@@ -11,7 +11,7 @@ ghost use Rattle.frames_c.specs.Loads.{LeadsToLoaded, HasNothingRefused};
 ghost use Rattle.frames_c.specs.HeaderAnswers.{header_refused, IsHeaderTold, LeadsWithHeader};
 
 use crate::handles::SectionHandle;
-use crate::load::shared;
+use crate::reading::shared;
 use crate::share::LoadedSection;
 use c_sections::{FramesRefusal, read_section};
 use eh_hdr::{Header, HeaderFault, SearchTable};
