@@ -1,13 +1,27 @@
-ghost use Rattle.std.specs.Prelude.{◌≡◌, ◌≤◌, ◌<◌, None, IsSomeAnd, false};
+ghost use Rattle.std.specs.Prelude.{◌≡◌, ◌≤◌, ◌<◌, None, IfOk, IsSomeAnd, false};
 ghost use Rattle.word_rule.specs.CallerData.{surplus};
 ghost use Rattle.word_rule.specs.Callers.{IsIdle};
+ghost use Rattle.word_rule.specs.Logs.{first_log};
+ghost use Rattle.word_rule.specs.Places.{ALLOWANCE};
 
 use node_store::{Locking, Once, Trying, Waiting, lock, unlock};
+use reg_model::NoMemory;
+use std::alloc::Global;
 use std::sync::Wait;
 use std::test::Fail;
 use std::thread::{self, Threads, join};
 use word_rule::places::{LOCKED, SLEEPERS};
 use word_rule::{Ask, Caller, LockId, Words};
+
+// The words of four nodes, with room for one loaded member, and their first caller.
+pub(crate) fn four_nodes(alloc: Global) -> Result<(Words, Caller), NoMemory>
+    ensures nodes { IfOk result (λ made. made.0.terms.nodes ≡ 4) }
+    ensures caller { IfOk result
+        (λ made. made.1
+        ≡ record { table = made.0.table; left = ALLOWANCE; log = first_log made.0.terms }) }
+{
+    Words::new(alloc, 4, 1, 1, Vec::new(alloc))
+}
 
 const TURNS: u32 = 100;
 
@@ -53,8 +67,7 @@ fn side_by_side<R: Threads + Wait + Sync>(
 
 #[test]
 fn two_threads_take_the_loaders_lock_in_turn(rt: HostRuntime) -> Result<(), Fail> {
-    let alloc = rt.alloc();
-    let (words, mut a) = Words::new(alloc, 4, 1, 1, Vec::new(alloc))?;
+    let (words, mut a) = four_nodes(rt.alloc())?;
     let b = words.split(&mut a, 1)?;
     let (mut a, b) = side_by_side(&rt, &words, a, b);
     assert!(rt; words.load_version(&mut a, LockId::Loader, Ask::Nothing) == 800);
@@ -179,8 +192,7 @@ fn one_sleeps<R: Threads + Wait + Sync>(rt: &R, words: &Words, a: Caller, b: Cal
 
 #[test]
 fn who_lets_go_wakes_who_waits(rt: HostRuntime) -> Result<(), Fail> {
-    let alloc = rt.alloc();
-    let (words, mut a) = Words::new(alloc, 4, 1, 1, Vec::new(alloc))?;
+    let (words, mut a) = four_nodes(rt.alloc())?;
     let b = words.split(&mut a, 1)?;
     lock(&rt, &words, &mut a, LockId::Loader);
     let slept = one_waits(&rt, &words, a, b);
@@ -190,8 +202,7 @@ fn who_lets_go_wakes_who_waits(rt: HostRuntime) -> Result<(), Fail> {
 
 #[test]
 fn a_sleep_goes_on_until_the_word_changes(rt: HostRuntime) -> Result<(), Fail> {
-    let alloc = rt.alloc();
-    let (words, mut a) = Words::new(alloc, 4, 1, 1, Vec::new(alloc))?;
+    let (words, mut a) = four_nodes(rt.alloc())?;
     let b = words.split(&mut a, 1)?;
     lock(&rt, &words, &mut a, LockId::Loader);
     let (slept, woken) = one_sleeps(&rt, &words, a, b);
@@ -201,8 +212,7 @@ fn a_sleep_goes_on_until_the_word_changes(rt: HostRuntime) -> Result<(), Fail> {
 
 #[test]
 fn a_lock_that_is_taken_is_busy(rt: HostRuntime) -> Result<(), Fail> {
-    let alloc = rt.alloc();
-    let (words, mut a) = Words::new(alloc, 4, 1, 1, Vec::new(alloc))?;
+    let (words, mut a) = four_nodes(rt.alloc())?;
     let mut b = words.split(&mut a, 1)?;
     let id = LockId::Loader;
     assert!(rt; Once.take(&words, &mut a, id));

@@ -3,6 +3,7 @@
 ghost use Rattle.std.specs.Prelude.{◌≡◌, ◌≤◌, IfSome};
 ghost use Rattle.word_rule.specs.Callers.{IsIdle};
 
+use crate::locks::four_nodes;
 use std::test::Fail;
 use word_rule::{Caller, Words};
 
@@ -33,8 +34,7 @@ fn handed_on(words: &Words, mut me: Caller, times: u32) -> Option<Caller>
 
 #[test]
 fn a_chain_of_hand_overs_stays_alone(rt: HostRuntime) -> Result<(), Fail> {
-    let alloc = rt.alloc();
-    let (words, a) = Words::new(alloc, 4, 1, 1, Vec::new(alloc))?;
+    let (words, a) = four_nodes(rt.alloc())?;
     let all = a.left();
     let Some(last) = handed_on(&words, a, 100_000) else {
         panic!(rt; "each can be split off")
@@ -69,8 +69,7 @@ fn depth(words: &Words, me: &mut Caller, most: u32) -> u32
 
 #[test]
 fn makers_stand_thirty_two_deep(rt: HostRuntime) -> Result<(), Fail> {
-    let alloc = rt.alloc();
-    let (words, mut a) = Words::new(alloc, 4, 1, 1, Vec::new(alloc))?;
+    let (words, mut a) = four_nodes(rt.alloc())?;
     assert!(rt; depth(&words, &mut a, 100) == 32);
     let alone = a.alone();
     assert!(rt; alone);

@@ -3,6 +3,7 @@ ghost use Rattle.word_rule.specs.CallerData.{surplus};
 ghost use Rattle.word_rule.specs.VersionLocks.{MayLetGo};
 ghost use Rattle.node_store.specs.Sights.{IsKept};
 
+use crate::locks::four_nodes;
 use node_store::{Sight, check, lock, peek, unlock};
 use reg_model::Again;
 use std::sync::Wait;
@@ -76,8 +77,7 @@ fn side_by_side<R: Threads + Wait + Sync>(
 
 #[test]
 fn a_sight_beside_a_lock_of_another_thread(rt: HostRuntime) -> Result<(), Fail> {
-    let alloc = rt.alloc();
-    let (words, mut a) = Words::new(alloc, 4, 1, 1, Vec::new(alloc))?;
+    let (words, mut a) = four_nodes(rt.alloc())?;
     let mut b = words.split(&mut a, 1)?;
     let Ok(sight) = peek(&words, &mut b, 0) else {
         panic!(rt; "nobody holds it")

@@ -1,12 +1,18 @@
+ghost use Rattle.std.specs.Prelude.{◌≡◌, IsTrue};
+ghost use Rattle.word_rule.specs.CallerData.{surplus};
+ghost use Rattle.word_rule.specs.VersionLocks.{IsHeldClean, IsLock};
+
+use crate::locks::four_nodes;
 use std::test::Fail;
-use word_rule::{Ask, LockId, Words};
+use word_rule::{Ask, Caller, LockId, Words};
 
 const ALLOWANCE: u32 = 67_108_864;
 
+const ROOT: LockId = LockId::Node { node: 0 };
+
 #[test]
 fn callers_come_and_go(rt: HostRuntime) -> Result<(), Fail> {
-    let alloc = rt.alloc();
-    let (words, mut a) = Words::new(alloc, 4, 1, 1, Vec::new(alloc))?;
+    let (words, mut a) = four_nodes(rt.alloc())?;
     assert!(rt; words.nodes() == 4 && words.loads() == 1 && words.fixed().is_empty());
     assert!(rt; a.seen() == 0 && a.left() == ALLOWANCE && a.alone());
     let mut b = words.split(&mut a, 1)?;
@@ -33,8 +39,7 @@ fn callers_come_and_go(rt: HostRuntime) -> Result<(), Fail> {
 
 #[test]
 fn one_with_a_note_out_is_not_alone(rt: HostRuntime) -> Result<(), Fail> {
-    let alloc = rt.alloc();
-    let (words, mut a) = Words::new(alloc, 4, 1, 1, Vec::new(alloc))?;
+    let (words, mut a) = four_nodes(rt.alloc())?;
     let mut b = words.split(&mut a, 2)?;
     let mut c = words.split(&mut b, 1)?;
     let note = words.note(&mut c)?;
@@ -52,22 +57,28 @@ fn one_with_a_note_out_is_not_alone(rt: HostRuntime) -> Result<(), Fail> {
     Ok(())
 }
 
+// Whether a free lock is taken at version 0 and marked, and each only then.
+fn takes_and_marks(words: &Words, me: &mut Caller, lock: LockId) -> bool
+    requires table { me.old.table ≡ words.now.table }
+    requires lock { IsLock words.now.terms lock }
+    ensures table { me.new.table ≡ me.old.table }
+    ensures surplus { surplus me.new ≡ surplus me.old }
+    ensures clean { IsTrue result → IsHeldClean lock me.new.log }
+{
+    words.try_lock(me, lock, 4) == Err(0)
+        && words.mark_sleeping(me, lock, 1) == Err(0)
+        && words.try_lock(me, lock, 0) == Ok(())
+        && words.load_version(me, lock, Ask::Nothing) == 1
+        && words.mark_sleeping(me, lock, 1) == Ok(())
+}
+
 #[test]
 fn each_step_on_the_loaders_lock(rt: HostRuntime) -> Result<(), Fail> {
-    let alloc = rt.alloc();
-    let (words, mut a) = Words::new(alloc, 4, 1, 1, Vec::new(alloc))?;
+    let (words, mut a) = four_nodes(rt.alloc())?;
     let lock = LockId::Loader;
     assert!(rt; words.load_version(&mut a, lock, Ask::Nothing) == 0);
-    assert!(rt; words.try_lock(&mut a, lock, 4) == Err(0));
-    assert!(rt; words.mark_sleeping(&mut a, lock, 1) == Err(0));
-    let Ok(()) = words.try_lock(&mut a, lock, 0) else {
-        panic!(rt; "the lock is free")
-    };
-    assert!(rt; words.load_version(&mut a, lock, Ask::Nothing) == 1);
+    assert!(rt; takes_and_marks(&words, &mut a, lock));
     words.sleep(&rt, lock, 5);
-    let Ok(()) = words.mark_sleeping(&mut a, lock, 1) else {
-        panic!(rt; "nobody else is here")
-    };
     assert!(rt; words.load_version(&mut a, lock, Ask::Nothing) == 3);
     assert!(rt; words.release(&mut a, lock) == 3);
     words.wake(lock);
@@ -94,34 +105,25 @@ fn each_step_on_the_loaders_lock(rt: HostRuntime) -> Result<(), Fail> {
 }
 
 #[test]
-fn each_load_of_a_node(rt: HostRuntime) -> Result<(), Fail> {
-    let alloc = rt.alloc();
-    let (words, mut a) = Words::new(alloc, 4, 1, 1, Vec::new(alloc))?;
-    let root = LockId::Node { node: 0 };
-    assert!(rt; words.load_version(&mut a, root, Ask::Nothing) == 0);
+fn each_load_of_a_node_and_its_release(rt: HostRuntime) -> Result<(), Fail> {
+    let (words, mut a) = four_nodes(rt.alloc())?;
+    assert!(rt; words.load_version(&mut a, ROOT, Ask::Nothing) == 0);
     assert!(rt; words.load_node(&mut a, 0, 1) == 1 && words.load_node(&mut a, 0, 2) == 0);
     assert!(rt; words.load_node(&mut a, 0, 4) == u64::MAX && words.load_node(&mut a, 0, 5) == 0);
     assert!(rt; words.load_node(&mut a, 1, 1) == 2 && words.load_node(&mut a, 1, 6) == 2);
     assert!(rt; words.load_node(&mut a, 3, 6) == 0 && words.load_head(&mut a) == 1);
-    assert!(rt; words.load_version(&mut a, root, Ask::Registered { pc: 5 }) == 0);
+    assert!(rt; words.load_version(&mut a, ROOT, Ask::Registered { pc: 5 }) == 0);
+    assert!(rt; words.take(&mut a, ROOT) == Ok(0) && words.release(&mut a, ROOT) == 1);
+    assert!(rt; words.load_version(&mut a, ROOT, Ask::Nothing) == 4);
     Ok(())
 }
 
 #[test]
 fn each_step_on_a_nodes_lock(rt: HostRuntime) -> Result<(), Fail> {
-    let alloc = rt.alloc();
-    let (words, mut a) = Words::new(alloc, 4, 1, 1, Vec::new(alloc))?;
+    let (words, mut a) = four_nodes(rt.alloc())?;
     let lock = LockId::Node { node: 3 };
-    assert!(rt; words.try_lock(&mut a, lock, 4) == Err(0));
-    assert!(rt; words.mark_sleeping(&mut a, lock, 1) == Err(0));
-    let Ok(()) = words.try_lock(&mut a, lock, 0) else {
-        panic!(rt; "the lock is free")
-    };
-    assert!(rt; words.load_version(&mut a, lock, Ask::Nothing) == 1);
+    assert!(rt; takes_and_marks(&words, &mut a, lock));
     words.sleep(&rt, lock, 5);
-    let Ok(()) = words.mark_sleeping(&mut a, lock, 1) else {
-        panic!(rt; "nobody else is here")
-    };
     assert!(rt; words.load_node(&mut a, 3, 1) == 2 && words.take(&mut a, lock) == Err(3));
     assert!(rt; words.release_same(&mut a, lock) == 3);
     words.wake(lock);
@@ -131,39 +133,25 @@ fn each_step_on_a_nodes_lock(rt: HostRuntime) -> Result<(), Fail> {
 }
 
 #[test]
-fn release_of_the_root(rt: HostRuntime) -> Result<(), Fail> {
-    let alloc = rt.alloc();
-    let (words, mut a) = Words::new(alloc, 4, 1, 1, Vec::new(alloc))?;
-    let root = LockId::Node { node: 0 };
-    assert!(rt; words.take(&mut a, root) == Ok(0));
-    assert!(rt; words.release(&mut a, root) == 1);
-    assert!(rt; words.load_version(&mut a, root, Ask::Nothing) == 4);
-    Ok(())
-}
-
-#[test]
 fn a_sight_begins_anew(rt: HostRuntime) -> Result<(), Fail> {
-    let alloc = rt.alloc();
-    let (words, mut a) = Words::new(alloc, 4, 1, 1, Vec::new(alloc))?;
-    let root = LockId::Node { node: 0 };
+    let (words, mut a) = four_nodes(rt.alloc())?;
     assert!(rt; words.begin_sight(&mut a, 0) == 0 && words.load_node(&mut a, 0, 2) == 0);
-    assert!(rt; words.take(&mut a, root) == Ok(0));
+    assert!(rt; words.take(&mut a, ROOT) == Ok(0));
     assert!(rt; words.begin_sight(&mut a, 0) == 1);
-    assert!(rt; words.release_same(&mut a, root) == 1);
+    assert!(rt; words.release_same(&mut a, ROOT) == 1);
     assert!(rt; words.begin_sight(&mut a, 0) == 0);
     Ok(())
 }
 
 #[test]
 fn a_lock_of_the_root_by_its_sight(rt: HostRuntime) -> Result<(), Fail> {
-    let alloc = rt.alloc();
-    let (words, mut a) = Words::new(alloc, 4, 1, 1, Vec::new(alloc))?;
+    let (words, mut a) = four_nodes(rt.alloc())?;
     let _nodes = words.nodes();
     assert!(rt; words.begin_sight(&mut a, 0) == 0);
     assert!(rt; words.lock_seen(&mut a, 0, 4) == Err(0));
     let Ok(()) = words.lock_seen(&mut a, 0, 0) else {
         panic!(rt; "nobody has the root")
     };
-    assert!(rt; words.release_same(&mut a, LockId::Node { node: 0 }) == 1);
+    assert!(rt; words.release_same(&mut a, ROOT) == 1);
     Ok(())
 }
