@@ -26,20 +26,6 @@ pub(crate) fn taken<R: Wait>(rt: &R, words: &Words, me: &mut Caller) -> Option<u
     }
 }
 
-// Takes a free node, and says whether it is this one; or that there was none.
-fn takes<R: Wait>(rt: &R, words: &Words, me: &mut Caller, wanted: Option<u32>) -> bool
-    requires table { me.old.table ≡ words.now.table }
-    requires holds { HoldsOut me.old.log }
-    requires room { length me.old.log.holdings.out < 4 }
-    ensures table { me.new.table ≡ me.old.table }
-    ensures surplus { surplus me.new ≡ surplus me.old }
-    ensures holds { HoldsOut me.new.log }
-    ensures out { result ≡ true → me.new.log.holdings.out
-        ≡ option_to_list wanted ++ me.old.log.holdings.out }
-{
-    taken(rt, words, me) == wanted
-}
-
 // Puts a node back that is out.
 pub(crate) fn gives<R: Wait>(rt: &R, words: &Words, me: &mut Caller, node: u32)
     requires table { me.old.table ≡ words.now.table }
@@ -68,10 +54,10 @@ fn takes_all<R: Wait>(rt: &R, words: &Words, me: &mut Caller) -> bool
     ensures holds { HoldsOut me.new.log }
     ensures out { result ≡ true → me.new.log.holdings.out ≡ 3 ∷ 2 ∷ 1 ∷ [] }
 {
-    takes(rt, words, me, Some(1))
-        && takes(rt, words, me, Some(2))
-        && takes(rt, words, me, Some(3))
-        && takes(rt, words, me, None)
+    taken(rt, words, me) == Some(1)
+        && taken(rt, words, me) == Some(2)
+        && taken(rt, words, me) == Some(3)
+        && taken(rt, words, me) == None
 }
 
 // Puts node 2 back and takes it again.
@@ -87,7 +73,7 @@ fn takes_again<R: Wait>(rt: &R, words: &Words, me: &mut Caller) -> bool
     ensures out { result ≡ true → me.new.log.holdings.out ≡ 2 ∷ 3 ∷ 1 ∷ [] }
 {
     gives(rt, words, me, 2);
-    takes(rt, words, me, Some(2))
+    taken(rt, words, me) == Some(2)
 }
 
 fn gives_all<R: Wait>(rt: &R, words: &Words, me: &mut Caller)
@@ -108,10 +94,8 @@ fn gives_all<R: Wait>(rt: &R, words: &Words, me: &mut Caller)
 fn free_nodes_are_taken_and_given_back(rt: HostRuntime) -> Result<(), Fail> {
     let alloc = rt.alloc();
     let (words, mut a) = Words::new(alloc, 4, 1, 1, Vec::new(alloc))?;
-    let all = takes_all(&rt, &words, &mut a);
-    assert!(rt; all);
-    let again = takes_again(&rt, &words, &mut a);
-    assert!(rt; again);
+    assert!(rt; takes_all(&rt, &words, &mut a));
+    assert!(rt; takes_again(&rt, &words, &mut a));
     gives_all(&rt, &words, &mut a);
     assert!(rt; words.load_head(&mut a) == 3);
     assert!(rt; words.load_version(&mut a, LockId::Node { node: 2 }, Ask::Nothing) == 8);

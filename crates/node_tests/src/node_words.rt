@@ -2,7 +2,7 @@ ghost use Rattle.std.specs.Prelude.{◌≡◌, ◌-◌, ◌^◌, ◌<◌};
 ghost use Rattle.tree_shape.specs.NodeData.{InOrder, IsInner};
 ghost use Rattle.word_rule.specs.Steps.{MayStore};
 
-use crate::outlines::inner;
+use crate::outlines::{inner, root_held};
 use node_store::{CONTENT_WORDS, check, node_of, peek, read_held, write_held};
 use reg_model::{Again, Member, Span};
 use std::test::Fail;
@@ -80,16 +80,12 @@ fn written(words: &Words, me: &mut Caller, content: &Node) -> [u64; 7]
 }
 
 #[test]
-fn words_of_an_inner_node(rt: HostRuntime) -> Result<(), Fail> {
-    let alloc = rt.alloc();
-    let (words, mut a) = Words::new(alloc, 4, 1, 8, Vec::new(alloc))?;
-    let root = LockId::Node { node: 0 };
-    let Ok(_) = words.take(&mut a, root) else {
+fn words_of_an_inner_node(rt: HostRuntime) {
+    let Some((words, mut a)) = root_held(rt.alloc()) else {
         panic!(rt; "nobody holds it")
     };
     let loaded = written(&words, &mut a, &inner());
     assert!(rt; loaded == [0, 2, 3, 0x140f, 2, 0xffff_ffff_ffff_ffff, 0]);
-    Ok(())
 }
 
 #[test]
@@ -112,10 +108,7 @@ fn a_sight_beside_a_lock(rt: HostRuntime) -> Result<(), Fail> {
         first: 0,
         second: 1,
     };
-    let Err(again) = check(&words, &mut b, &sight) else {
-        panic!(rt; "it is locked")
-    };
-    assert!(rt; again == changed);
+    assert!(rt; check(&words, &mut b, &sight).err() == Some(changed));
     assert!(rt; peek(&words, &mut b, 0) == Err(Again::Locked { word: 4, seen: 1 }));
     Ok(())
 }
@@ -138,11 +131,8 @@ fn a_sight_that_stands(rt: HostRuntime) -> Result<(), Fail> {
 }
 
 #[test]
-fn a_held_node_is_written(rt: HostRuntime) -> Result<(), Fail> {
-    let alloc = rt.alloc();
-    let (words, mut a) = Words::new(alloc, 4, 1, 8, Vec::new(alloc))?;
-    let root = LockId::Node { node: 0 };
-    let Ok(_) = words.take(&mut a, root) else {
+fn a_held_node_is_written(rt: HostRuntime) {
+    let Some((words, mut a)) = root_held(rt.alloc()) else {
         panic!(rt; "nobody holds it")
     };
     let Some(span) = Span::new(0x1000, 0x20) else {
@@ -160,5 +150,4 @@ fn a_held_node_is_written(rt: HostRuntime) -> Result<(), Fail> {
         words.load_node(&mut a, 0, 9),
     ];
     assert!(rt; loaded == [1, 1, 0x1000, 0x20, 7, 0]);
-    Ok(())
 }

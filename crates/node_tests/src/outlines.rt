@@ -1,9 +1,9 @@
-ghost use Rattle.std.specs.Prelude.{◌≡◌, ◌-◌, ◌^◌, ◌<◌};
+ghost use Rattle.std.specs.Prelude.{◌≡◌, ◌-◌, ◌^◌, ◌<◌, IfSome};
 ghost use Rattle.tree_shape.specs.NodeData.{InOrder, IsInFences, IsInner};
 ghost use Rattle.word_rule.specs.Steps.{MayStore};
 
 use node_store::{high_of, outline_of, pair_of, slot_of, write_held};
-use std::test::Fail;
+use std::alloc::Global;
 use tree_shape::{Content, Node, PAIRS, Pair};
 use word_rule::{Caller, LockId, Words};
 
@@ -32,6 +32,18 @@ pub(crate) fn inner() -> Node
         high: 0xffff_ffff_ffff_ffff,
         content: Content::Inner { count: 2, pairs },
     }
+}
+
+// Words of four nodes, and who holds the root.
+pub(crate) fn root_held(alloc: Global) -> Option<(Words, Caller)>
+    ensures table { IfSome result (λ made. made.1.table ≡ made.0.table) }
+    ensures nodes { IfSome result (λ made. made.0.terms.nodes ≡ 4) }
+    ensures payloads { IfSome result (λ made. made.0.terms.payloads ≡ 8) }
+    ensures may { IfSome result (λ made. MayStore 0 made.1.log) }
+{
+    let (words, mut me) = Words::new(alloc, 4, 1, 8, Vec::new(alloc)).ok()?;
+    words.take(&mut me, LockId::Node { node: 0 }).ok()?;
+    Some((words, me))
 }
 
 // What is found of a node that was written into the root for an address.
@@ -69,11 +81,8 @@ fn find_in_root(words: &Words, me: &mut Caller, content: &Node, pc: u64) -> Foun
 }
 
 #[test]
-fn a_held_node_is_outlined(rt: HostRuntime) -> Result<(), Fail> {
-    let alloc = rt.alloc();
-    let (words, mut a) = Words::new(alloc, 4, 1, 8, Vec::new(alloc))?;
-    let root = LockId::Node { node: 0 };
-    let Ok(_) = words.take(&mut a, root) else {
+fn a_held_node_is_outlined(rt: HostRuntime) {
+    let Some((words, mut a)) = root_held(rt.alloc()) else {
         panic!(rt; "nobody holds it")
     };
     let found = find_in_root(&words, &mut a, &inner(), 0x1410);
@@ -86,5 +95,4 @@ fn a_held_node_is_outlined(rt: HostRuntime) -> Result<(), Fail> {
         high: 0xffff_ffff_ffff_ffff,
     };
     assert!(rt; found == wanted);
-    Ok(())
 }
