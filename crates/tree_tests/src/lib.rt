@@ -3,12 +3,10 @@
 #![tactic(auto)]
 
 #[cfg(test)]
-mod by_sight;
-#[cfg(test)]
 mod insertions;
 #[cfg(test)]
 mod replacing;
 #[cfg(test)]
-mod tree_lookups;
+mod tries;
 #[cfg(test)]
 mod writers;

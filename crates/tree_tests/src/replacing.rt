@@ -4,22 +4,15 @@
 ghost use Rattle.std.specs.Prelude.{◌≡◌, ◌<◌, IfSome};
 ghost use Rattle.word_rule.specs.Callers.{IsIdle};
 
-use crate::writers::{find_leftmost, insert_hundred};
+use crate::insertions::{empty_tree, insert_many, member};
+use crate::writers::find_leftmost;
 use btree_change::{replace, replace_by};
 use btree_lookup::try_find;
 use node_store::{Busy, Trying, lock, unlock_same};
-use reg_model::{Found, Member, Replaced, Span};
+use reg_model::{Found, Member, Replaced};
 use std::sync::Wait;
 use std::test::Fail;
 use word_rule::{Ask, Caller, LockId, Words};
-
-// So many addresses from a base on, with payload 1.
-fn other(base: u64, size: u64) -> Option<Member>
-    ensures { IfSome result (λ m. m.payload ≡ 1) }
-{
-    let span = Span::new(base, size)?;
-    Some(Member { span, payload: 1 })
-}
 
 // Whether a replacement is answered so.
 fn replaces<R: Wait>(
@@ -51,15 +44,14 @@ fn hit(found: Found) -> Option<(u32, u32)> {
 
 #[test]
 fn a_payload_is_exchanged_where_the_whole_span_stands(rt: HostRuntime) -> Result<(), Fail> {
-    let alloc = rt.alloc();
-    let (words, mut a) = Words::new(alloc, 64, 1, 2, Vec::new(alloc))?;
-    assert!(rt; insert_hundred(&rt, &words, &mut a));
+    let (words, mut a) = empty_tree(rt.alloc(), 64)?;
+    assert!(rt; insert_many(&rt, &words, &mut a, 100));
     let absent = Replaced::NotFound { stamp: 100 };
-    assert!(rt; replaces(&rt, &words, &mut a, other(0x1300, 0x11), absent));
-    assert!(rt; replaces(&rt, &words, &mut a, other(0x1301, 0xf), absent));
+    assert!(rt; replaces(&rt, &words, &mut a, member(0x1300, 0x11, 1), absent));
+    assert!(rt; replaces(&rt, &words, &mut a, member(0x1301, 0xf, 1), absent));
     let (number, payload) = (101, 0);
     let done = Replaced::Done { number, payload };
-    assert!(rt; replaces(&rt, &words, &mut a, other(0x1300, 0x10), done));
+    assert!(rt; replaces(&rt, &words, &mut a, member(0x1300, 0x10, 1), done));
     assert!(rt; try_find(&words, &mut a, 0x130f).ok().and_then(hit) == Some((1, 101)));
     assert!(rt; try_find(&words, &mut a, 0x1400).ok().and_then(hit) == Some((0, 101)));
     Ok(())
@@ -67,40 +59,35 @@ fn a_payload_is_exchanged_where_the_whole_span_stands(rt: HostRuntime) -> Result
 
 #[test]
 fn the_same_payload_is_an_update_that_stores_nothing(rt: HostRuntime) -> Result<(), Fail> {
-    let alloc = rt.alloc();
-    let (words, mut a) = Words::new(alloc, 64, 1, 2, Vec::new(alloc))?;
-    assert!(rt; insert_hundred(&rt, &words, &mut a));
+    let (words, mut a) = empty_tree(rt.alloc(), 64)?;
+    assert!(rt; insert_many(&rt, &words, &mut a, 100));
     let Some(found) = find_leftmost(&words, &mut a) else {
         panic!(rt; "a tree of three levels")
     };
     let leaf = LockId::Node { node: found.leaf };
     let (number, payload) = (101, 0);
     let done = Replaced::Done { number, payload };
-    assert!(rt; replaces(&rt, &words, &mut a, other(0x1000, 0x10), done));
+    assert!(rt; replaces(&rt, &words, &mut a, member(0x1000, 0x10, 1), done));
     let version = words.load_version(&mut a, leaf, Ask::Nothing);
     let (number, payload) = (102, 1);
     let again = Replaced::Done { number, payload };
-    assert!(rt; replaces(&rt, &words, &mut a, other(0x1000, 0x10), again));
+    assert!(rt; replaces(&rt, &words, &mut a, member(0x1000, 0x10, 1), again));
     assert!(rt; words.load_version(&mut a, leaf, Ask::Nothing) == version);
     Ok(())
 }
 
 #[test]
 fn a_try_to_replace_beside_a_locked_leaf_names_it(rt: HostRuntime) -> Result<(), Fail> {
-    let alloc = rt.alloc();
-    let (words, mut a) = Words::new(alloc, 64, 1, 2, Vec::new(alloc))?;
+    let (words, mut a) = empty_tree(rt.alloc(), 64)?;
     let mut b = words.split(&mut a, 1)?;
-    assert!(rt; insert_hundred(&rt, &words, &mut a));
-    let (Some(found), Some(one)) = (find_leftmost(&words, &mut a), other(0x1000, 0x10)) else {
+    assert!(rt; insert_many(&rt, &words, &mut a, 100));
+    let (Some(found), Some(one)) = (find_leftmost(&words, &mut a), member(0x1000, 0x10, 1)) else {
         panic!(rt; "a tree of three levels")
     };
     let leaf = LockId::Node { node: found.leaf };
     lock(&rt, &words, &mut a, leaf);
-    assert!(rt; b.use_one());
-    let Err(Busy::Taken { lock: taken }) = replace_by(&Trying, &words, &mut b, one) else {
-        panic!(rt; "the leaf is locked")
-    };
-    assert!(rt; taken == leaf);
+    let taken = Err(Busy::Taken { lock: leaf });
+    assert!(rt; b.use_one() && replace_by(&Trying, &words, &mut b, one) == taken);
     unlock_same(&rt, &words, &mut a, leaf);
     Ok(())
 }

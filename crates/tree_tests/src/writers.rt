@@ -3,43 +3,15 @@ ghost use Rattle.std.specs.Prelude.{◌≡◌, ◌<◌, ◌≤◌, IfSome};
 ghost use Rattle.word_rule.specs.Callers.{IsIdle};
 ghost use Rattle.word_rule.specs.VersionLocks.{IsHeldClean};
 
+use crate::insertions::{empty_tree, insert_many, member};
 use btree_change::insert;
 use node_store::{lock, unlock_same};
-use reg_model::{Inserted, Member, Span};
+use reg_model::{Inserted, Member};
 use std::sync::Wait;
 use std::test::Fail;
 use std::thread::{Threads, join};
 use word_rule::places::{FIRST, LEVEL, LOCKED};
 use word_rule::{Ask, Caller, LockId, Words};
-
-// So many loads of a version are made until its bit is as it is waited for.
-const TURNS: u64 = 1_000_000_000;
-
-pub(crate) fn member(base: u64) -> Option<Member>
-    ensures { IfSome result (λ m. m.payload ≡ 0) }
-{
-    let span = Span::new(base, 0x10)?;
-    Some(Member { span, payload: 0 })
-}
-
-// Registers a hundred members, 256 apart; whether they got the numbers from 1 on.
-pub(crate) fn insert_hundred<R: Wait>(rt: &R, words: &Words, me: &mut Caller) -> bool
-    requires table { me.old.table ≡ words.now.table }
-    requires idle { IsIdle me.old.log }
-    requires payloads { 0 < words.now.terms.payloads }
-    ensures table { me.new.table ≡ me.old.table }
-    ensures idle { IsIdle me.new.log }
-{
-    let mut all = true;
-    for at in 0..100u32 {
-        let Some(m) = member(0x1000 + 0x100 * at as u64) else {
-            return false;
-        };
-        let done = Inserted::Done { number: at + 1 };
-        all = all && insert(rt, words, me, m) == done;
-    }
-    all
-}
 
 // The leaf of the lowest addresses, and the node above it.
 #[derive(Clone, Copy)]
@@ -72,6 +44,9 @@ pub(crate) fn find_leftmost(words: &Words, me: &mut Caller) -> Option<Leftmost>
     }
     None
 }
+
+// So many loads of a version are made until its bit is as it is waited for.
+const TURNS: u64 = 1_000_000_000;
 
 // Whether bit 0 of a node's version was seen to be this one.
 fn sees_bit(words: &Words, me: &mut Caller, node: u32, bit: u64) -> bool
@@ -139,11 +114,11 @@ fn watch_and_insert<R: Threads + Wait + Sync>(
 fn a_writer_that_waits_for_a_leaf_holds_the_parent_and_not_the_root(
     rt: HostRuntime,
 ) -> Result<(), Fail> {
-    let alloc = rt.alloc();
-    let (words, mut a) = Words::new(alloc, 64, 1, 1, Vec::new(alloc))?;
+    let (words, mut a) = empty_tree(rt.alloc(), 64)?;
     let b = words.split(&mut a, 1)?;
-    assert!(rt; insert_hundred(&rt, &words, &mut a));
-    let (Some(found), Some(between)) = (find_leftmost(&words, &mut a), member(0x1020)) else {
+    assert!(rt; insert_many(&rt, &words, &mut a, 100));
+    let (Some(found), Some(between)) = (find_leftmost(&words, &mut a), member(0x1020, 0x10, 0))
+    else {
         panic!(rt; "a tree of three levels")
     };
     assert!(rt; found.parent != 0);
