@@ -4,10 +4,11 @@ ghost use Rattle.std.specs.Prelude.{◌≡◌, ◌<◌, ◌≤◌, IfSome, None}
 ghost use Rattle.word_rule.specs.CallerData.{surplus};
 ghost use Rattle.word_rule.specs.Callers.{IsIdle};
 
-use reg_model::{Found, Inserted, Loading, Member, Place, Removed, Span};
+use reg_model::{Found, Inserted, Loading, Member, Place, Removed, Replaced, Span};
 use registry_core::Registry;
 use std::alloc::Global;
 use std::sync::Wait;
+use std::test::Fail;
 use word_rule::Caller;
 
 // So many addresses from a base on, with a payload.
@@ -50,94 +51,94 @@ pub(crate) fn loaded(place: Place) -> Option<(u32, u32, u32)> {
     }
 }
 
-// Whether a caller's load is answered so.
-pub(crate) fn loads<R: Wait>(
+// An update call, and what it is to answer.
+#[derive(Clone, Copy)]
+pub(crate) enum Wanted {
+    Registers(Inserted),
+    Deregisters(Removed),
+    Replaces(Replaced),
+    Loads(Loading),
+    Unloads(Removed),
+}
+
+// Whether a caller's call is answered so, of a member or of the one at its first address.
+pub(crate) fn answers<R: Wait>(
     rt: &R,
     registry: &Registry,
     me: &mut Caller,
-    base: u64,
-    wanted: Loading,
+    told: &Member,
+    wanted: Wanted,
 ) -> bool
     requires table { me.old.table ≡ registry.now.table }
     requires idle { IsIdle me.old.log }
-    requires payload { 0 < registry.now.terms.payloads }
+    requires payload { told.now.payload < registry.now.terms.payloads }
     ensures table { me.new.table ≡ me.old.table }
     ensures idle { IsIdle me.new.log }
 {
-    let Some(member) = range(base) else {
-        return false;
-    };
-    registry.load(rt, me, member) == wanted
+    let base = told.span.first();
+    match wanted {
+        Wanted::Registers(answer) => registry.register(rt, me, *told) == answer,
+        Wanted::Deregisters(answer) => registry.deregister(rt, me, base) == answer,
+        Wanted::Replaces(answer) => registry.replace(rt, me, *told) == answer,
+        Wanted::Loads(answer) => registry.load(rt, me, *told) == answer,
+        Wanted::Unloads(answer) => registry.unload(rt, me, base) == answer,
+    }
 }
 
-// The same of an unload.
-pub(crate) fn unloads<R: Wait>(
-    rt: &R,
-    registry: &Registry,
-    me: &mut Caller,
-    base: u64,
-    wanted: Removed,
-) -> bool
-    requires table { me.old.table ≡ registry.now.table }
-    requires idle { IsIdle me.old.log }
-    ensures table { me.new.table ≡ me.old.table }
-    ensures idle { IsIdle me.new.log }
-{
-    registry.unload(rt, me, base) == wanted
-}
-
-// Whether a registration is answered so.
-pub(crate) fn registers<R: Wait>(
-    rt: &R,
-    registry: &Registry,
-    me: &mut Caller,
-    base: u64,
-    wanted: Inserted,
-) -> bool
-    requires table { me.old.table ≡ registry.now.table }
-    requires idle { IsIdle me.old.log }
-    requires payload { 0 < registry.now.terms.payloads }
-    ensures table { me.new.table ≡ me.old.table }
-    ensures idle { IsIdle me.new.log }
-{
-    let Some(member) = range(base) else {
-        return false;
-    };
-    registry.register(rt, me, member) == wanted
-}
-
-// The same of a deregistration.
-pub(crate) fn deregisters<R: Wait>(
-    rt: &R,
-    registry: &Registry,
-    me: &mut Caller,
-    base: u64,
-    wanted: Removed,
-) -> bool
-    requires table { me.old.table ≡ registry.now.table }
-    requires idle { IsIdle me.old.log }
-    ensures table { me.new.table ≡ me.old.table }
-    ensures idle { IsIdle me.new.log }
-{
-    registry.deregister(rt, me, base) == wanted
-}
-
-// Where a caller finds an address: whether neither half has it.
-pub(crate) fn is_nowhere<R: Wait>(
+// Whether a caller finds this at an address.
+pub(crate) fn is_found<R: Wait>(
     rt: &R,
     registry: &Registry,
     me: &mut Caller,
     pc: u64,
-    stamp: u32,
+    wanted: Place,
 ) -> bool
     requires table { me.old.table ≡ registry.now.table }
     requires idle { IsIdle me.old.log }
     ensures table { me.new.table ≡ me.old.table }
     ensures idle { IsIdle me.new.log }
 {
-    let nowhere = Place {
+    registry.find(rt, me, pc) == wanted
+}
+
+// Neither half has the address.
+pub(crate) fn nowhere(stamp: u32) -> Place {
+    Place {
         registered: Found::Miss { stamp },
         loaded: Some(Found::Miss { stamp }),
+    }
+}
+
+#[test]
+fn a_payload_is_exchanged_in_place(rt: HostRuntime) -> Result<(), Fail> {
+    let alloc = rt.alloc();
+    let (registry, mut a) = Registry::new(alloc, 16, 8, 3, Vec::new(alloc))?;
+    let (Some(old), Some(new)) = (member(0x1000, 0x30, 0), member(0x1000, 0x30, 1)) else {
+        panic!(rt; "spans")
     };
-    registry.find(rt, me, pc) == nowhere
+    let Some(part) = member(0x1000, 0x20, 2) else {
+        panic!(rt; "a span")
+    };
+    let absent = Wanted::Replaces(Replaced::NotFound { stamp: 0 });
+    assert!(rt; answers(&rt, &registry, &mut a, &old, absent));
+    let came = Wanted::Registers(Inserted::Done { number: 1 });
+    assert!(rt; answers(&rt, &registry, &mut a, &old, came));
+    let (number, payload) = (2, 0);
+    let done = Wanted::Replaces(Replaced::Done { number, payload });
+    assert!(rt; answers(&rt, &registry, &mut a, &new, done));
+    let hit = Found::Hit {
+        member: new,
+        stamp: 2,
+    };
+    let found = Place {
+        registered: hit,
+        loaded: None,
+    };
+    assert!(rt; is_found(&rt, &registry, &mut a, 0x1010, found));
+    let shorter = Wanted::Replaces(Replaced::NotFound { stamp: 2 });
+    assert!(rt; answers(&rt, &registry, &mut a, &part, shorter));
+    let (number, member) = (3, new);
+    let went = Wanted::Deregisters(Removed::Done { number, member });
+    assert!(rt; answers(&rt, &registry, &mut a, &new, went));
+    Ok(())
 }

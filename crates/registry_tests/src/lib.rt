@@ -6,8 +6,6 @@ mod callers;
 #[cfg(test)]
 mod refused;
 #[cfg(test)]
-mod replacing;
-#[cfg(test)]
 mod rounds;
 #[cfg(test)]
 mod tries;

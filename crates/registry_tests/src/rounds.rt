@@ -3,36 +3,32 @@
 ghost use Rattle.std.specs.Prelude.{◌≡◌, ◌<◌, None};
 ghost use Rattle.word_rule.specs.Callers.{IsIdle};
 
-use crate::callers::{
-    deregisters, is_nowhere, loaded, loads, member, range, registers, two_callers, unloads,
-};
-use reg_model::{Inserted, Loading, Member, Removed};
+use crate::callers::{Wanted, answers, is_found, loaded, member, nowhere, range, two_callers};
+use reg_model::{Inserted, Loading, Member, Removed, Replaced};
 use registry_core::Registry;
 use std::sync::Wait;
 use std::thread::{Threads, join};
 use word_rule::Caller;
 
 // Loads a range, and tells another caller of it.
-fn loads_and_tells<R: Wait>(
-    rt: &R,
-    registry: &Registry,
-    first: &mut Caller,
-    other: &mut Caller,
-) -> bool
-    requires tables { (first.old.table ≡ registry.now.table)
-        × (other.old.table ≡ registry.now.table) }
-    requires idle { IsIdle first.old.log × IsIdle other.old.log }
+fn loads_and_tells<R: Wait>(rt: &R, registry: &Registry, a: &mut Caller, b: &mut Caller) -> bool
+    requires tables { (a.old.table ≡ registry.now.table) × (b.old.table ≡ registry.now.table) }
+    requires idle { IsIdle a.old.log × IsIdle b.old.log }
     requires payload { 0 < registry.now.terms.payloads }
-    ensures tables { (first.new.table ≡ first.old.table) × (other.new.table ≡ other.old.table) }
-    ensures idle { IsIdle first.new.log × IsIdle other.new.log }
+    ensures tables { (a.new.table ≡ a.old.table) × (b.new.table ≡ b.old.table) }
+    ensures idle { IsIdle a.new.log × IsIdle b.new.log }
 {
-    if !loads(rt, registry, first, 0x1000, Loading::Done { number: 1 }) {
-        return false;
-    }
-    let Ok(note) = registry.words().note(first) else {
+    let Some(member) = range(0x1000) else {
         return false;
     };
-    note.seen() == 1 && registry.words().learn(other, note).is_ok()
+    let came = Wanted::Loads(Loading::Done { number: 1 });
+    if !answers(rt, registry, a, &member, came) {
+        return false;
+    }
+    let Ok(note) = registry.words().note(a) else {
+        return false;
+    };
+    note.seen() == 1 && registry.words().learn(b, note).is_ok()
 }
 
 // It finds what was loaded, and overlaps it; then it has no update call left.
@@ -46,17 +42,12 @@ fn knows_and_is_spent<R: Wait>(rt: &R, registry: &Registry, me: &mut Caller) -> 
     let Some(member) = range(0x1000) else {
         return false;
     };
+    let overlap = Wanted::Loads(Loading::Overlap { member, stamp: 1 });
     is_loaded(rt, registry, me, 0x101f)
-        && is_nowhere(rt, registry, me, 0x1020, 1)
-        && loads(
-            rt,
-            registry,
-            me,
-            0x1000,
-            Loading::Overlap { member, stamp: 1 },
-        )
-        && loads(rt, registry, me, 0x1000, Loading::Spent)
-        && unloads(rt, registry, me, 0x1000, Removed::Spent)
+        && is_found(rt, registry, me, 0x1020, nowhere(1))
+        && answers(rt, registry, me, &member, overlap)
+        && answers(rt, registry, me, &member, Wanted::Loads(Loading::Spent))
+        && answers(rt, registry, me, &member, Wanted::Unloads(Removed::Spent))
 }
 
 // Where a caller finds an address: whether the loader's half has it in the first range.
@@ -75,7 +66,7 @@ fn a_caller_learns_what_another_loaded(rt: HostRuntime) {
     let Some((registry, mut a, mut b)) = two_callers(alloc, 1) else {
         panic!(rt; "no memory")
     };
-    assert!(rt; is_nowhere(&rt, &registry, &mut a, 0x1010, 0));
+    assert!(rt; is_found(&rt, &registry, &mut a, 0x1010, nowhere(0)));
     assert!(rt; loads_and_tells(&rt, &registry, &mut a, &mut b));
     assert!(rt; knows_and_is_spent(&rt, &registry, &mut b));
     let Ok(()) = registry.words().join(&mut a, b) else {
@@ -87,19 +78,33 @@ fn a_caller_learns_what_another_loaded(rt: HostRuntime) {
     assert!(rt; accepted == 1);
 }
 
+// Whether each update is answered so.
+fn is_spent<R: Wait>(rt: &R, registry: &Registry, me: &mut Caller, told: &Member) -> bool
+    requires table { me.old.table ≡ registry.now.table }
+    requires idle { IsIdle me.old.log }
+    requires payload { told.now.payload < registry.now.terms.payloads }
+    ensures table { me.new.table ≡ me.old.table }
+    ensures idle { IsIdle me.new.log }
+{
+    answers(rt, registry, me, told, Wanted::Registers(Inserted::Spent))
+        && answers(rt, registry, me, told, Wanted::Deregisters(Removed::Spent))
+        && answers(rt, registry, me, told, Wanted::Replaces(Replaced::Spent))
+        && answers(rt, registry, me, told, Wanted::Loads(Loading::Spent))
+        && answers(rt, registry, me, told, Wanted::Unloads(Removed::Spent))
+}
+
 #[test]
 fn a_caller_with_nothing_is_spent(rt: HostRuntime) {
     let alloc = rt.alloc();
     let Some((registry, mut a, mut b)) = two_callers(alloc, 0) else {
         panic!(rt; "no memory")
     };
-    assert!(rt; registers(&rt, &registry, &mut a, 0x1000, Inserted::Done { number: 1 }));
-    assert!(rt;
-        registers(&rt, &registry, &mut b, 0x1000, Inserted::Spent)
-            && deregisters(&rt, &registry, &mut b, 0x1000, Removed::Spent)
-            && loads(&rt, &registry, &mut b, 0x2000, Loading::Spent)
-            && unloads(&rt, &registry, &mut b, 0x1000, Removed::Spent)
-    );
+    let Some(member) = range(0x1000) else {
+        panic!(rt; "a span")
+    };
+    let came = Wanted::Registers(Inserted::Done { number: 1 });
+    assert!(rt; answers(&rt, &registry, &mut a, &member, came));
+    assert!(rt; is_spent(&rt, &registry, &mut b, &member));
     let Ok(()) = registry.words().join(&mut a, b) else {
         panic!(rt; "no memory")
     };
@@ -149,18 +154,20 @@ fn a_round_of_callers(rt: HostRuntime) {
 fn side_by_side<R: Threads + Wait + Sync>(
     rt: &R,
     registry: &Registry,
-    a: Caller,
-    b: Caller,
+    callers: (Caller, Caller),
     parts: (Member, Member),
 ) -> ((Caller, bool), (Caller, bool))
-    requires tables { (a.table ≡ registry.now.table) × (b.table ≡ registry.now.table) }
-    requires free { (a.log.loader ≡ None) × (b.log.loader ≡ None) }
+    requires tables { (callers.0.table ≡ registry.now.table)
+        × (callers.1.table ≡ registry.now.table) }
+    requires free { (callers.0.log.loader ≡ None) × (callers.1.log.loader ≡ None) }
     requires payloads { (parts.0.payload < registry.now.terms.payloads)
         × (parts.1.payload < registry.now.terms.payloads) }
-    ensures tables { (result.0.0.table ≡ a.table) × (result.1.0.table ≡ b.table) }
-    ensures loader { result.1.0.log.loader ≡ b.log.loader }
-    ensures holdings { result.1.0.log.holdings ≡ b.log.holdings }
+    ensures tables { (result.0.0.table ≡ callers.0.table)
+        × (result.1.0.table ≡ callers.1.table) }
+    ensures loader { result.1.0.log.loader ≡ callers.1.log.loader }
+    ensures holdings { result.1.0.log.holdings ≡ callers.1.log.holdings }
 {
+    let (a, b) = callers;
     let (low, high) = parts;
     join(
         rt,
@@ -190,7 +197,7 @@ fn two_threads_load_find_and_unload(rt: HostRuntime) {
     let (Some(low), Some(high)) = (member(0x1000, 0x20, 0), member(0x2000, 0x20, 1)) else {
         panic!(rt; "spans")
     };
-    let ((mut a, first), (b, second)) = side_by_side(&rt, &registry, a, b, (low, high));
+    let ((mut a, first), (b, second)) = side_by_side(&rt, &registry, (a, b), (low, high));
     assert!(rt; first && second);
     let Ok(()) = registry.words().join(&mut a, b) else {
         panic!(rt; "no memory")

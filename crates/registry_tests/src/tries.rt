@@ -1,42 +1,41 @@
 //! Tries beside a lock that is taken: each is Busy, and done behind it.
 
-ghost use Rattle.std.specs.Prelude.{◌≡◌, ◌<◌, ◌≤◌, IsTrue, None};
+ghost use Rattle.std.specs.Prelude.{◌≡◌, ◌<◌, ◌≤◌, IsTrue};
 ghost use Rattle.word_rule.specs.Callers.{IsIdle};
 ghost use Rattle.word_rule.specs.CallerData.{due};
-ghost use Rattle.word_rule.specs.VersionLocks.{IsHeldClean};
+ghost use Rattle.word_rule.specs.VersionLocks.{IsHeldClean, IsLock};
 ghost use Rattle.node_store.specs.Sights.{IsKept};
-ghost use Rattle.word_rule.specs.declared.log.LockId.TheVariants as lock;
 
-use crate::callers::{loads, range, registers, two_callers};
+use crate::callers::{range, two_callers};
 use node_store::{Busy, Sight, Trying, check, lock, peek, unlock};
-use reg_model::{Again, Found, Inserted, Loading, Removed};
+use reg_model::{Again, Found, Inserted, Loading, Removed, Replaced};
 use registry_core::Registry;
 use word_rule::{Caller, LockId};
 
 const ROOT: LockId = LockId::Node { node: 0 };
 
-// Whether a caller takes the root's lock, at a version.
-fn takes_root(registry: &Registry, me: &mut Caller, version: u64) -> bool
-    requires table { me.old.table ≡ registry.now.table }
-    requires idle { IsIdle me.old.log }
-    requires nodes { 4 ≤ registry.now.terms.nodes }
-    ensures table { me.new.table ≡ me.old.table }
-    ensures clean { IsTrue result → IsHeldClean (lock.Node 0) me.new.log }
-{
-    matches!(registry.words().take(me, ROOT), Ok(taken) if taken == version)
+// An update call.
+#[derive(Clone, Copy)]
+enum Change {
+    Register,
+    Deregister,
+    Replace,
+    Load,
+    Unload,
 }
 
-// Whether it takes the loader's.
-fn takes_loader(registry: &Registry, me: &mut Caller, version: u64) -> bool
+// Whether a caller takes a lock, at a version.
+fn takes(registry: &Registry, me: &mut Caller, lock: LockId, version: u64) -> bool
     requires table { me.old.table ≡ registry.now.table }
+    requires lock { IsLock registry.now.terms lock }
     ensures table { me.new.table ≡ me.old.table }
-    ensures clean { IsTrue result → IsHeldClean lock.Loader me.new.log }
+    ensures clean { IsTrue result → IsHeldClean lock me.new.log }
 {
-    matches!(registry.words().take(me, LockId::Loader), Ok(taken) if taken == version)
+    matches!(registry.words().take(me, lock), Ok(taken) if taken == version)
 }
 
-// Whether a registration finds the root's lock taken.
-fn waits_to_register(registry: &Registry, me: &mut Caller) -> bool
+// Whether a try of a call that was begun finds its half's lock taken.
+fn is_busy(registry: &Registry, me: &mut Caller, change: Change) -> bool
     requires table { me.old.table ≡ registry.now.table }
     requires idle { IsIdle me.old.log }
     requires begun { 0 < due me.old }
@@ -48,59 +47,44 @@ fn waits_to_register(registry: &Registry, me: &mut Caller) -> bool
     let Some(member) = range(0x1000) else {
         return false;
     };
-    match registry.register_by(&Trying, me, member) {
-        Err(Busy::Taken { lock }) => lock == ROOT,
-        _ => false,
+    let root = Busy::Taken { lock: ROOT };
+    let lock = LockId::Loader;
+    let loader = Busy::Taken { lock };
+    match change {
+        Change::Register => registry.register_by(&Trying, me, member) == Err(root),
+        Change::Deregister => registry.deregister_by(&Trying, me, 0x1000) == Err(root),
+        Change::Replace => registry.replace_by(&Trying, me, member) == Err(root),
+        Change::Load => registry.load_by(&Trying, me, member) == Err(loader),
+        Change::Unload => registry.unload_by(&Trying, me, 0x1000) == Err(loader),
     }
 }
 
-// Whether a deregistration does.
-fn waits_to_deregister(registry: &Registry, me: &mut Caller) -> bool
-    requires table { me.old.table ≡ registry.now.table }
+// Whether a call that one begins is Busy while another holds its half's lock, from this version on.
+fn waits(
+    registry: &Registry,
+    holder: &mut Caller,
+    me: &mut Caller,
+    change: Change,
+    version: u64,
+) -> bool
+    requires tables { (holder.old.table ≡ registry.now.table)
+        × (me.old.table ≡ registry.now.table) }
+    requires nodes { 0 < registry.now.terms.nodes }
     requires idle { IsIdle me.old.log }
-    requires begun { 0 < due me.old }
-    ensures table { me.new.table ≡ me.old.table }
+    requires payload { 0 < registry.now.terms.payloads }
+    requires version { version ≤ 4 }
+    ensures tables { (holder.new.table ≡ holder.old.table) × (me.new.table ≡ me.old.table) }
     ensures idle { IsTrue result → IsIdle me.new.log }
     ensures begun { IsTrue result → (0 < due me.new) }
 {
-    match registry.deregister_by(&Trying, me, 0x1000) {
-        Err(Busy::Taken { lock }) => lock == ROOT,
-        _ => false,
-    }
-}
-
-// Whether a load finds the loader's lock taken.
-fn waits_to_load(registry: &Registry, me: &mut Caller) -> bool
-    requires table { me.old.table ≡ registry.now.table }
-    requires idle { IsIdle me.old.log }
-    requires begun { 0 < due me.old }
-    requires payload { 0 < registry.now.terms.payloads }
-    ensures table { me.new.table ≡ me.old.table }
-    ensures free { IsTrue result → (me.new.log.loader ≡ None) }
-    ensures begun { IsTrue result → (0 < due me.new) }
-{
-    let Some(member) = range(0x1000) else {
-        return false;
+    let lock = match change {
+        Change::Load | Change::Unload => LockId::Loader,
+        _ => ROOT,
     };
-    match registry.load_by(&Trying, me, member) {
-        Err(Busy::Taken { lock }) => lock == LockId::Loader,
-        _ => false,
-    }
-}
-
-// Whether an unload does.
-fn waits_to_unload(registry: &Registry, me: &mut Caller) -> bool
-    requires table { me.old.table ≡ registry.now.table }
-    requires idle { IsIdle me.old.log }
-    requires begun { 0 < due me.old }
-    ensures table { me.new.table ≡ me.old.table }
-    ensures free { IsTrue result → (me.new.log.loader ≡ None) }
-    ensures begun { IsTrue result → (0 < due me.new) }
-{
-    match registry.unload_by(&Trying, me, 0x1000) {
-        Err(Busy::Taken { lock }) => lock == LockId::Loader,
-        _ => false,
-    }
+    takes(registry, holder, lock, version)
+        && me.use_one()
+        && is_busy(registry, me, change)
+        && registry.words().release_same(holder, lock) == version + 1
 }
 
 // Whether a try of a lookup is answered so.
@@ -146,65 +130,34 @@ fn a_try_beside_a_locked_root(rt: HostRuntime) {
 }
 
 #[test]
-fn a_try_to_register_beside_a_locked_root(rt: HostRuntime) {
-    let Some((registry, mut a, mut b)) = two_callers(rt.alloc(), 1) else {
+fn each_try_to_update_beside_a_lock(rt: HostRuntime) {
+    let Some((registry, mut a, mut b)) = two_callers(rt.alloc(), 5) else {
         panic!(rt; "no memory")
     };
-    assert!(rt; takes_root(&registry, &mut a, 0) && b.use_one());
-    assert!(rt; waits_to_register(&registry, &mut b));
-    assert!(rt; registry.words().release_same(&mut a, ROOT) == 1);
-    let Some(member) = range(0x1000) else {
+    let Some(one) = range(0x1000) else {
         panic!(rt; "a span")
     };
-    let done = Inserted::Done { number: 1 };
-    assert!(rt; registry.register_by(&Trying, &mut b, member) == Ok(done));
-}
-
-#[test]
-fn a_try_to_deregister_beside_a_locked_root(rt: HostRuntime) {
-    let Some((registry, mut a, mut b)) = two_callers(rt.alloc(), 1) else {
-        panic!(rt; "no memory")
+    let told = &one;
+    let removed = |number: u32| -> Removed {
+        Removed::Done {
+            number,
+            member: *told,
+        }
     };
+    assert!(rt; waits(&registry, &mut a, &mut b, Change::Register, 0));
     let came = Inserted::Done { number: 1 };
-    assert!(rt; registers(&rt, &registry, &mut a, 0x1000, came));
-    assert!(rt; takes_root(&registry, &mut a, 4) && b.use_one());
-    assert!(rt; waits_to_deregister(&registry, &mut b));
-    assert!(rt; registry.words().release_same(&mut a, ROOT) == 5);
-    let Some(member) = range(0x1000) else {
-        panic!(rt; "a span")
-    };
-    let done = Removed::Done { number: 2, member };
-    assert!(rt; registry.deregister_by(&Trying, &mut b, 0x1000) == Ok(done));
-}
-
-#[test]
-fn a_try_to_load_beside_the_loaders_lock(rt: HostRuntime) {
-    let Some((registry, mut a, mut b)) = two_callers(rt.alloc(), 1) else {
-        panic!(rt; "no memory")
-    };
-    assert!(rt; takes_loader(&registry, &mut a, 0) && b.use_one());
-    assert!(rt; waits_to_load(&registry, &mut b));
-    assert!(rt; registry.words().release_same(&mut a, LockId::Loader) == 1);
-    let Some(member) = range(0x1000) else {
-        panic!(rt; "a span")
-    };
-    let done = Loading::Done { number: 1 };
-    assert!(rt; registry.load_by(&Trying, &mut b, member) == Ok(done));
-}
-
-#[test]
-fn a_try_to_unload_beside_the_loaders_lock(rt: HostRuntime) {
-    let Some((registry, mut a, mut b)) = two_callers(rt.alloc(), 1) else {
-        panic!(rt; "no memory")
-    };
-    let came = Loading::Done { number: 1 };
-    assert!(rt; loads(&rt, &registry, &mut a, 0x1000, came));
-    assert!(rt; takes_loader(&registry, &mut a, 4) && b.use_one());
-    assert!(rt; waits_to_unload(&registry, &mut b));
-    assert!(rt; registry.words().release_same(&mut a, LockId::Loader) == 5);
-    let Some(member) = range(0x1000) else {
-        panic!(rt; "a span")
-    };
-    let done = Removed::Done { number: 2, member };
-    assert!(rt; registry.unload_by(&Trying, &mut b, 0x1000) == Ok(done));
+    assert!(rt; registry.register_by(&Trying, &mut b, *told) == Ok(came));
+    assert!(rt; waits(&registry, &mut a, &mut b, Change::Replace, 4));
+    let (number, payload) = (2, 0);
+    let same = Replaced::Done { number, payload };
+    assert!(rt; registry.replace_by(&Trying, &mut b, *told) == Ok(same));
+    assert!(rt; waits(&registry, &mut a, &mut b, Change::Deregister, 4));
+    let went = removed(3);
+    assert!(rt; registry.deregister_by(&Trying, &mut b, 0x1000) == Ok(went));
+    assert!(rt; waits(&registry, &mut a, &mut b, Change::Load, 0));
+    let loaded = Loading::Done { number: 4 };
+    assert!(rt; registry.load_by(&Trying, &mut b, *told) == Ok(loaded));
+    assert!(rt; waits(&registry, &mut a, &mut b, Change::Unload, 4));
+    let unloaded = removed(5);
+    assert!(rt; registry.unload_by(&Trying, &mut b, 0x1000) == Ok(unloaded));
 }
