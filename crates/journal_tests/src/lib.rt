@@ -6,8 +6,6 @@ mod departing_texts;
 #[cfg(test)]
 mod judged_fulls;
 #[cfg(test)]
-mod judged_replacements;
-#[cfg(test)]
 mod judged_texts;
 #[cfg(test)]
 mod told_journals;

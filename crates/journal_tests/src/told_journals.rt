@@ -104,13 +104,10 @@ fn each_kind_of_answer_is_read(rt: HostRuntime) -> Result<(), Fail> {
         }
         _ => return Err("a removal".into()),
     }
+    let (number, payload) = (4, 0);
+    let replaced = Replaced::Done { number, payload };
     match second.get(3) {
-        Some(
-            Answer::Replace {
-                image: 1,
-                answer: Replaced::Done { number: 4, payload },
-            },
-        ) => assert_eq!(rt; *payload, 0),
+        Some(Answer::Replace { image: 1, answer }) => assert!(rt; *answer == replaced),
         _ => return Err("a replacement".into()),
     }
     Ok(())
@@ -124,26 +121,16 @@ fn lines_that_end_too_early_or_too_late(rt: HostRuntime) -> Result<(), Fail> {
     assert_eq!(rt; bad_line(alloc, &script, "\n")?, 1);
     assert_eq!(rt; bad_line(alloc, &script, "1.1.1 register 0 done 1")?, 1);
     assert_eq!(rt; bad_line(alloc, &script, "1.1.1 register 0 done 1\n")?, 2);
-    assert_eq!(rt;
-        bad_line_with(alloc, &script, "updates 4294967295\n", "")?,
-        13
-    );
-    assert_eq!(rt;
-        bad_line_with(alloc, &script, "updates 4294967295\n", "updates 0")?,
-        13
-    );
-    assert_eq!(rt;
-        bad_line_with(alloc, &script, "updates 4294967295\n", "updates 0\n")?,
-        0
-    );
-    assert_eq!(rt;
-        bad_line_with(alloc, &script, "updates 4294967295\n", "updates 0\n\n")?,
-        14
-    );
-    assert_eq!(rt;
-        bad_line_with(alloc, &script, "updates 4294967295\n", "updates 0\nx")?,
-        14
-    );
+    for (last, line) in [
+        ("", 13),
+        ("updates 0", 13),
+        ("updates 0\n", 0),
+        ("updates 0\n\n", 14),
+        ("updates 0\nx", 14),
+    ] {
+        let found = bad_line_with(alloc, &script, "updates 4294967295\n", last)?;
+        assert_eq!(rt; found, line, "with {last}");
+    }
     Ok(())
 }
 
@@ -151,35 +138,19 @@ fn lines_that_end_too_early_or_too_late(rt: HostRuntime) -> Result<(), Fail> {
 fn numbers_that_a_text_may_say(rt: HostRuntime) -> Result<(), Fail> {
     let alloc = rt.alloc();
     let script = read(alloc, SCRIPT.as_bytes())?;
-    assert_eq!(rt;
-        bad_line_with(alloc, &script, "at 4294967295", "at 4294967296")?,
-        10
-    );
-    assert_eq!(rt;
-        bad_line_with(alloc, &script, "nobytes f", "nobytes 1f")?,
-        7
-    );
-    assert_eq!(rt;
-        bad_line_with(alloc, &script, "overlap 1001", "overlap fffffffffffffffe")?,
-        0
-    );
-    assert_eq!(rt;
-        bad_line_with(alloc, &script, "overlap 1001", "overlap ffffffffffffffff")?,
-        2
-    );
-    assert_eq!(rt;
-        bad_line_with(alloc, &script, "overlap 1001 0", "overlap 1001 2")?,
-        2
-    );
-    assert_eq!(rt; bad_line_with(alloc, &script, "image 1", "image 2")?, 9);
-    assert_eq!(rt;
-        bad_line_with(alloc, &script, "loaded 1 at", "loaded 2 at")?,
-        6
-    );
-    assert_eq!(rt; bad_line_with(alloc, &script, "done 3", "done 03")?, 9);
-    assert_eq!(rt;
-        bad_line_with(alloc, &script, "done 4 image 0", "done 4 image 2")?,
-        11
-    );
+    for (old, new, line) in [
+        ("at 4294967295", "at 4294967296", 10),
+        ("nobytes f", "nobytes 1f", 7),
+        ("overlap 1001", "overlap fffffffffffffffe", 0),
+        ("overlap 1001", "overlap ffffffffffffffff", 2),
+        ("overlap 1001 0", "overlap 1001 2", 2),
+        ("image 1", "image 2", 9),
+        ("loaded 1 at", "loaded 2 at", 6),
+        ("done 3", "done 03", 9),
+        ("done 4 image 0", "done 4 image 2", 11),
+    ] {
+        let found = bad_line_with(alloc, &script, old, new)?;
+        assert_eq!(rt; found, line, "with {new}");
+    }
     Ok(())
 }
