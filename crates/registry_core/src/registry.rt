@@ -96,6 +96,7 @@ impl Registry {
 
     /// Registers a member. Spent where the caller may begin no more update calls. It waits for the
     /// locks of nodes.
+    #[tactic(auto, using(crate::proofs::Updating::inserted_spent))]
     pub fn register<R: Wait>(&self, rt: &R, me: &mut Caller, member: Member) -> Inserted
         requires table { me.old.table ≡ self.now.table }
         requires idle { IsIdle me.old.log }
@@ -111,6 +112,7 @@ impl Registry {
 
     /// Removes the registered member that begins at an address, and names it. Spent where the
     /// caller may begin no more update calls. It waits for the locks of nodes.
+    #[tactic(auto, using(crate::proofs::Updating::removed_spent))]
     pub fn deregister<R: Wait>(&self, rt: &R, me: &mut Caller, base: u64) -> Removed
         requires table { me.old.table ≡ self.now.table }
         requires idle { IsIdle me.old.log }
@@ -126,6 +128,7 @@ impl Registry {
     /// Gives a member the place of the registered one that has its whole span, whose payload it
     /// names. Spent where the caller may begin no more update calls. It waits for the locks of
     /// nodes.
+    #[tactic(auto, using(crate::proofs::Updating::replaced_spent))]
     pub fn replace<R: Wait>(&self, rt: &R, me: &mut Caller, member: Member) -> Replaced
         requires table { me.old.table ≡ self.now.table }
         requires idle { IsIdle me.old.log }

@@ -1,12 +1,9 @@
 use Rattle.registry_core.proofs.Rounding.{idle_still}
-use Rattle.registry_core.proofs.Updating.{removed_answered, removed_spent}
+use Rattle.registry_core.proofs.Updating.{removed_answered}
 use Rattle.registry_core.proofs.registry.Registry.deregister.Goals as goal
 
 pub returns-clause-answered : goal.returns-clause-answered
 returns-clause-answered g c = removed_answered _ _ _ _ _ c.requires.idle c.remove.ensures.answer
-
-pub returns-clause-spent : goal.returns-clause-spent
-returns-clause-spent g c = removed_spent _ _ _ _ _ c.remove.ensures.answer
 
 pub returns-clause-idle : goal.returns-clause-idle
 returns-clause-idle g c = idle_still _ _ _ (removed_answered _ _ _ _ _ c.requires.idle c.remove.ensures.answer) c.requires.idle

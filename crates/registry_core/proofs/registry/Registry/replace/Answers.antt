@@ -1,12 +1,9 @@
 use Rattle.registry_core.proofs.Rounding.{idle_still}
-use Rattle.registry_core.proofs.Updating.{replaced_answered, replaced_spent}
+use Rattle.registry_core.proofs.Updating.{replaced_answered}
 use Rattle.registry_core.proofs.registry.Registry.replace.Goals as goal
 
 pub returns-clause-answered : goal.returns-clause-answered
 returns-clause-answered g c = replaced_answered _ _ _ _ _ c.requires.idle c.replace.ensures.answer
-
-pub returns-clause-spent : goal.returns-clause-spent
-returns-clause-spent g c = replaced_spent _ _ _ _ _ c.replace.ensures.answer
 
 pub returns-clause-idle : goal.returns-clause-idle
 returns-clause-idle g c = idle_still _ _ _ (replaced_answered _ _ _ _ _ c.requires.idle c.replace.ensures.answer) c.requires.idle
