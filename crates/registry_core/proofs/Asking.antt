@@ -77,30 +77,8 @@ stamped_after loads more rs h = all_map (IsStamped more) (IsStamped (loads ++ mo
 -- ---- one after another
 
 -- the receipts that were there hold on
-module _ (stay : (start : State) (history more : List Update) (nodes callers later since : ℕ) (r : Receipt) → callers ≤ later → Holds start history nodes callers since r → Holds start (history ++ more) nodes later since r) where
-  pub always_later : (start : State) (past past' : List Update) → IsPrefix past past' → (rs : List Receipt) → AllByRecursion (HoldsAlways start past) rs → AllByRecursion (HoldsAlways start past') rs
-  always_later start past past' p rs h =
-      all_map (HoldsAlways start past) (HoldsAlways start past') (λ r a. record { always = λ nodes callers since. subst (λ z. Holds start z nodes callers since r) p.1 (stay start past p.0 nodes callers callers since r (omega arith) (a.always nodes callers since)) }) rs h
-
-  pub queries_both : (t : Terms) (rs ss : List Receipt) (a b c : CallerData) → Queries t rs a b → Queries t ss b c → Queries t (rs ++ ss) a c
-  queries_both t rs ss a b c p q =
-      let seen : b.log.past ≡ p.past = ap (λ (k : CallerData). k.log.past) p.log in
-      let begins : IsPrefix p.past q.past = subst (λ z. IsPrefix z q.past) seen q.begins in
-      record {
-        past = q.past;
-        loads = p.loads ++ q.loads;
-        sights = q.sights;
-        begins = prefix_both a.log.past p.past q.past p.begins begins;
-        hold = all_append (HoldsAlways (start t) q.past) rs ss (always_later (start t) p.past q.past begins rs p.hold) q.hold;
-        stamped = all_append (IsStamped (p.loads ++ q.loads)) rs ss (stamped_before p.loads q.loads rs p.stamped) (stamped_after p.loads q.loads ss q.stamped);
-        order = order_both (length a.log.past) (length p.past) rs ss (longer_length a.log.past p.past p.begins) (all_within (start t) p.past rs p.hold) p.order (subst (λ z. AreInOrder (length z) ss) seen q.order);
-        log = q.log ∙ (ap (λ (k : CallerData). record k { log = after_lookup q.loads q.past q.sights ss k.log }) p.log
-            ∙ (λ i. record a { log = looked (append_assoc a.log.trace.loads p.loads q.loads i) q.past q.sights (append_assoc a.log.receipts.own rs ss i) a.log }));
-      }
-
--- the same where none was answered before
-pub queries_then : (t : Terms) (ss : List Receipt) (a b c : CallerData) → Queries t [] a b → Queries t ss b c → Queries t ss a c
-queries_then t ss a b c p q =
+queries_along : (t : Terms) (rs ss : List Receipt) (a b c : CallerData) (p : Queries t rs a b) (q : Queries t ss b c) → AllByRecursion (HoldsAlways (start t) q.past) rs → Queries t (rs ++ ss) a c
+queries_along t rs ss a b c p q still =
     let seen : b.log.past ≡ p.past = ap (λ (k : CallerData). k.log.past) p.log in
     let begins : IsPrefix p.past q.past = subst (λ z. IsPrefix z q.past) seen q.begins in
     record {
@@ -108,12 +86,25 @@ queries_then t ss a b c p q =
       loads = p.loads ++ q.loads;
       sights = q.sights;
       begins = prefix_both a.log.past p.past q.past p.begins begins;
-      hold = q.hold;
-      stamped = stamped_after p.loads q.loads ss q.stamped;
-      order = order_later (length a.log.past) (length p.past) ss (longer_length a.log.past p.past p.begins) (subst (λ z. AreInOrder (length z) ss) seen q.order);
+      hold = all_append (HoldsAlways (start t) q.past) rs ss still q.hold;
+      stamped = all_append (IsStamped (p.loads ++ q.loads)) rs ss (stamped_before p.loads q.loads rs p.stamped) (stamped_after p.loads q.loads ss q.stamped);
+      order = order_both (length a.log.past) (length p.past) rs ss (longer_length a.log.past p.past p.begins) (all_within (start t) p.past rs p.hold) p.order (subst (λ z. AreInOrder (length z) ss) seen q.order);
       log = q.log ∙ (ap (λ (k : CallerData). record k { log = after_lookup q.loads q.past q.sights ss k.log }) p.log
-          ∙ (λ i. record a { log = looked (append_assoc a.log.trace.loads p.loads q.loads i) q.past q.sights (append_assoc a.log.receipts.own [] ss i) a.log }));
+          ∙ (λ i. record a { log = looked (append_assoc a.log.trace.loads p.loads q.loads i) q.past q.sights (append_assoc a.log.receipts.own rs ss i) a.log }));
     }
+
+-- and they do, as receipts stay
+module _ (stay : (start : State) (history more : List Update) (nodes callers later since : ℕ) (r : Receipt) → callers ≤ later → Holds start history nodes callers since r → Holds start (history ++ more) nodes later since r) where
+  pub always_later : (start : State) (past past' : List Update) → IsPrefix past past' → (rs : List Receipt) → AllByRecursion (HoldsAlways start past) rs → AllByRecursion (HoldsAlways start past') rs
+  always_later start past past' p rs h =
+      all_map (HoldsAlways start past) (HoldsAlways start past') (λ r a. record { always = λ nodes callers since. subst (λ z. Holds start z nodes callers since r) p.1 (stay start past p.0 nodes callers callers since r (omega arith) (a.always nodes callers since)) }) rs h
+
+  pub queries_both : (t : Terms) (rs ss : List Receipt) (a b c : CallerData) → Queries t rs a b → Queries t ss b c → Queries t (rs ++ ss) a c
+  queries_both t rs ss a b c p q = queries_along t rs ss a b c p q (always_later (start t) p.past q.past (subst (λ z. IsPrefix z q.past) (ap (λ (k : CallerData). k.log.past) p.log) q.begins) rs p.hold)
+
+-- the same where none was answered before
+pub queries_then : (t : Terms) (ss : List Receipt) (a b c : CallerData) → Queries t [] a b → Queries t ss b c → Queries t ss a c
+queries_then t ss a b c p q = queries_along t [] ss a b c p q tt
 
 -- a try that isn't answered
 pub queries_again : (t : Terms) (pc : ℕ) (again : Again) (b c : CallerData) → LooksUp t pc b c (Err again) → Queries t [] b c
