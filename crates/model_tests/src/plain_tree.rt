@@ -109,6 +109,15 @@ fn leaf(rt: &impl Abort, low: u64, high: u64, bases: &[u64]) -> Node {
     node
 }
 
+/// The bases of a leaf that is next to one with the bases `FOUR`: nine, or five.
+const NINE: [u64; 9] = [
+    0x1000, 0x1100, 0x1200, 0x1300, 0x1400, 0x1500, 0x1600, 0x1700, 0x1800,
+];
+
+const FIVE: [u64; 5] = [0x1000, 0x1100, 0x1200, 0x1300, 0x1400];
+
+const FOUR: [u64; 4] = [0x100, 0x200, 0x300, 0x400];
+
 #[test]
 fn a_full_leaf_splits_into_five_and_five(rt: HostRuntime) {
     let bases = [
@@ -123,15 +132,8 @@ fn a_full_leaf_splits_into_five_and_five(rt: HostRuntime) {
 
 #[test]
 fn four_and_nine_become_six_and_seven(rt: HostRuntime) {
-    let left = leaf(&rt, 0, 0xfff, &[0x100, 0x200, 0x300, 0x400]);
-    let right = leaf(
-        &rt,
-        0x1000,
-        0x2000,
-        &[
-            0x1000, 0x1100, 0x1200, 0x1300, 0x1400, 0x1500, 0x1600, 0x1700, 0x1800,
-        ],
-    );
+    let left = leaf(&rt, 0, 0xfff, &FOUR);
+    let right = leaf(&rt, 0x1000, 0x2000, &NINE);
     assert!(rt; left.level == right.level && left.high < right.low && left.high + 1 == right.low);
     assert!(rt; overfill(&left, &right) && in_order(&left) && in_order(&right));
     let (left, right) = even_pair(&left, &right);
@@ -141,13 +143,8 @@ fn four_and_nine_become_six_and_seven(rt: HostRuntime) {
 
 #[test]
 fn four_and_five_are_joined_to_nine(rt: HostRuntime) {
-    let left = leaf(&rt, 0, 0xfff, &[0x100, 0x200, 0x300, 0x400]);
-    let right = leaf(
-        &rt,
-        0x1000,
-        0x2000,
-        &[0x1000, 0x1100, 0x1200, 0x1300, 0x1400],
-    );
+    let left = leaf(&rt, 0, 0xfff, &FOUR);
+    let right = leaf(&rt, 0x1000, 0x2000, &FIVE);
     assert!(rt; fit(&left, &right));
     let node = join_pair(&left, &right);
     assert!(rt; node.entries().len() == 9 && node.low == 0 && node.high == 0x2000);
