@@ -16,6 +16,12 @@ pub(crate) fn member(base: u64, size: u64, payload: u32) -> Option<Member>
     Some(Member { span, payload })
 }
 
+fn range(base: u64) -> Option<Member>
+    ensures { IfSome result (λ m. m.payload ≡ 0) }
+{
+    member(base, 0x20, 0)
+}
+
 // The payload and the stamp of a hit.
 fn hit(answer: Result<Found, Again>) -> Option<(u32, u32)> {
     match answer {
@@ -72,11 +78,7 @@ fn a_member_that_another_loaded_is_found_and_overlaps(rt: HostRuntime) -> Result
     let alloc = rt.alloc();
     let (words, mut a) = Words::new(alloc, 4, 1, 1, Vec::new(alloc))?;
     let mut b = words.split(&mut a, 1)?;
-    let (Some(one), Some(same), Some(last)) = (
-        member(0x1000, 0x20, 0),
-        member(0x1000, 0x20, 0),
-        member(0x1000, 0x20, 0),
-    ) else {
+    let (Some(one), Some(same), Some(last)) = (range(0x1000), range(0x1000), range(0x1000)) else {
         panic!(rt; "spans")
     };
     assert!(rt; number(load(&rt, &words, &mut a, one)) == Some(1));
@@ -96,8 +98,7 @@ fn a_member_that_another_loaded_is_found_and_overlaps(rt: HostRuntime) -> Result
     };
     let alone = a.alone();
     assert!(rt; alone);
-    let accepted = words.close(a);
-    assert!(rt; accepted == 1);
+    assert!(rt; words.close(a) == 1);
     Ok(())
 }
 
@@ -147,8 +148,7 @@ fn a_member_is_unloaded_by_its_first_address_alone(rt: HostRuntime) -> Result<()
     assert!(rt; not_found(unload(&rt, &words, &mut a, 0x2000)) == Some(4));
     let alone = a.alone();
     assert!(rt; alone);
-    let accepted = words.close(a);
-    assert!(rt; accepted == 4);
+    assert!(rt; words.close(a) == 4);
     Ok(())
 }
 

@@ -257,11 +257,10 @@ fn replay(model: &mut PlainRegistry, a: &[Event], b: &[Event], last: u32) -> Opt
 #[test]
 fn two_threads_answer_as_one_that_makes_the_updates_in_order(rt: HostRuntime) -> Result<(), Fail> {
     let alloc = rt.alloc();
-    let mut fixed = Vec::new(alloc);
     let Some(program) = member(0x1100, 0x10, 0) else {
         panic!(rt; "span")
     };
-    fixed.push(program)?;
+    let fixed = Vec::from_array(alloc, [program])?;
     let (words, mut a) = Words::new(alloc, 4, LOADS, PLACES, fixed)?;
     let b = words.split(&mut a, 1000)?;
     let (one, other) = both(&rt, alloc, &words, a, b);
@@ -278,8 +277,7 @@ fn two_threads_answer_as_one_that_makes_the_updates_in_order(rt: HostRuntime) ->
     assert!(rt; alone);
     let last = words.close(a);
     assert!(rt; last > 20 && in_order(&ours, last) && in_order(&theirs, last));
-    let mut again = Vec::new(alloc);
-    again.push(program)?;
+    let again = Vec::from_array(alloc, [program])?;
     let mut model = PlainRegistry::new(alloc, again, LOADS);
     assert!(rt; replay(&mut model, &ours, &theirs, last) == Some(true));
     assert!(rt; model.updates() == last);
