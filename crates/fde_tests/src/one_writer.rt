@@ -19,53 +19,29 @@ fn code() -> Option<Member>
     Some(Member { span, payload })
 }
 
-fn register(writer: &mut Writer, member: &Member) -> Option<Inserted>
-    requires { member.now.payload < writer.old.words.terms.payloads }
-    ensures { writer.new.words ≡ writer.old.words }
-{
-    if writer.stuck() || writer.left() == 0 {
-        return None;
-    }
-    match writer.register(*member) {
-        Ok(answer) => Some(answer),
-        Err(_) => None,
-    }
+// A call, and what it is to answer.
+#[derive(Clone, Copy)]
+enum Wanted {
+    Registers(Inserted),
+    Deregisters(Removed),
+    Loads(Loading),
+    Unloads(Removed),
 }
 
-fn load(writer: &mut Writer, member: &Member) -> Option<Loading>
-    requires { member.now.payload < writer.old.words.terms.payloads }
+// Whether a call is answered so, of a member or of the one at its first address.
+fn answers(writer: &mut Writer, told: &Member, wanted: Wanted) -> bool
+    requires { told.now.payload < writer.old.words.terms.payloads }
     ensures { writer.new.words ≡ writer.old.words }
 {
     if writer.stuck() || writer.left() == 0 {
-        return None;
+        return false;
     }
-    match writer.load(*member) {
-        Ok(answer) => Some(answer),
-        Err(_) => None,
-    }
-}
-
-fn deregister(writer: &mut Writer, base: u64) -> Option<Removed>
-    ensures { writer.new.words ≡ writer.old.words }
-{
-    if writer.stuck() || writer.left() == 0 {
-        return None;
-    }
-    match writer.deregister(base) {
-        Ok(answer) => Some(answer),
-        Err(_) => None,
-    }
-}
-
-fn unload(writer: &mut Writer, base: u64) -> Option<Removed>
-    ensures { writer.new.words ≡ writer.old.words }
-{
-    if writer.stuck() || writer.left() == 0 {
-        return None;
-    }
-    match writer.unload(base) {
-        Ok(answer) => Some(answer),
-        Err(_) => None,
+    let base = told.span.first();
+    match wanted {
+        Wanted::Registers(answer) => writer.register(*told) == Ok(answer),
+        Wanted::Deregisters(answer) => writer.deregister(base) == Ok(answer),
+        Wanted::Loads(answer) => writer.load(*told) == Ok(answer),
+        Wanted::Unloads(answer) => writer.unload(base) == Ok(answer),
     }
 }
 
@@ -89,31 +65,40 @@ fn comes(writer: &mut Writer, reader: &mut FdeReader, code: &Member) -> bool
     requires { code.now.payload < writer.old.words.terms.payloads }
     ensures { writer.new.words ≡ writer.old.words }
 {
-    let registered = register(writer, code) == Some(Inserted::Done { number: 1 });
+    let registered = answers(
+        writer,
+        code,
+        Wanted::Registers(Inserted::Done { number: 1 }),
+    );
     let overlap = Inserted::Overlap {
         member: *code,
         stamp: 1,
     };
-    let twice = register(writer, code) == Some(overlap);
-    let loaded = load(writer, code) == Some(Loading::Done { number: 2 });
+    let twice = answers(writer, code, Wanted::Registers(overlap));
+    let loaded = answers(writer, code, Wanted::Loads(Loading::Done { number: 2 }));
     let found = reader.find(0x101f).ok() == hit(Half::Registered, 2, code);
     registered && twice && loaded && found
 }
 
 // It goes from each half.
 fn goes(writer: &mut Writer, reader: &mut FdeReader, code: &Member) -> bool
+    requires { code.now.payload < writer.old.words.terms.payloads }
     ensures { writer.new.words ≡ writer.old.words }
 {
-    let done = |number: u32| -> Option<Removed> {
-        Some(Removed::Done {
+    let done = |number: u32| -> Removed {
+        Removed::Done {
             number,
             member: *code,
-        })
+        }
     };
-    let deregistered = deregister(writer, 0x1000) == done(3);
-    let absent = deregister(writer, 0x1000) == Some(Removed::NotFound { stamp: 3 });
+    let deregistered = answers(writer, code, Wanted::Deregisters(done(3)));
+    let absent = answers(
+        writer,
+        code,
+        Wanted::Deregisters(Removed::NotFound { stamp: 3 }),
+    );
     let loaded = reader.find(0x1000).ok() == hit(Half::Loaded, 3, code);
-    let unloaded = unload(writer, 0x1000) == done(4);
+    let unloaded = answers(writer, code, Wanted::Unloads(done(4)));
     let nowhere = reader.find(0x1000).ok() == miss(4, 4);
     deregistered && absent && loaded && unloaded && nowhere
 }
@@ -138,11 +123,14 @@ fn readers_that_have_seen_it(rt: HostRuntime) -> Result<(), Fail> {
     let Some(code) = code() else {
         return Err(Fail::from("no span"));
     };
-    assert!(rt; register(&mut writer, &code) == Some(Inserted::Done { number: 1 }));
+    let came = Wanted::Registers(Inserted::Done { number: 1 });
+    assert!(rt; answers(&mut writer, &code, came));
     let me = writer.reader();
     let mut first = FdeReader::of(writer.share()?, me, NEAR);
     assert!(rt; first.seen() == 1);
-    assert!(rt; deregister(&mut writer, 0x1000).is_some());
+    let (number, member) = (2, code);
+    let went = Wanted::Deregisters(Removed::Done { number, member });
+    assert!(rt; answers(&mut writer, &code, went));
     assert!(rt; first.find(0x1000).ok() == miss(2, 2));
     let second = first.another()?;
     assert!(rt; second.seen() == 2);
