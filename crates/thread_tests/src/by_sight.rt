@@ -82,25 +82,23 @@ fn two_write<R: Threads + Wait + Sync>(
 fn write_and_read<R: Threads + Wait + Sync>(
     rt: &R,
     registry: &Registry,
-    writer: Caller,
-    reader: Reader,
+    mut writer: Caller,
     numbers: (u32, u32),
 ) -> (bool, bool)
-    requires tables { (writer.table ≡ registry.now.table) × (reader.table ≡ registry.now.table) }
+    requires table { writer.table ≡ registry.now.table }
     requires idle { IsIdle writer.log }
     requires payload { numbers.0 < registry.now.terms.payloads }
 {
-    let (mut a, mut b) = (writer, reader);
-    let (low, high) = numbers;
+    let mut reader = registry.reader();
     join(
         rt,
         || -> bool
-            requires { (a.table ≡ registry.now.table) × IsIdle a.log
-                × (low < registry.now.terms.payloads) }
-        { write_on(rt, registry, &mut a, low) },
+            requires { (writer.table ≡ registry.now.table) × IsIdle writer.log
+                × (numbers.0 < registry.now.terms.payloads) }
+        { write_on(rt, registry, &mut writer, numbers.0) },
         || -> bool
-            requires { b.table ≡ registry.now.table }
-        { read_on(registry, &mut b, high) },
+            requires { reader.table ≡ registry.now.table }
+        { read_on(registry, &mut reader, numbers.1) },
     )
 }
 
@@ -138,7 +136,6 @@ fn two_writers_begin_by_sight_or_at_the_root(rt: HostRuntime) {
 fn each_try_of_a_reader_is_answered_beside_a_writer_of_another_leaf(rt: HostRuntime) {
     let (registry, mut a) = registry_of(&rt, rt.alloc(), 64, 100);
     let all = register_all(&rt, &registry, &mut a, 100);
-    let reader = registry.reader();
-    let (wrote, read) = write_and_read(&rt, &registry, a, reader, (2, 90));
+    let (wrote, read) = write_and_read(&rt, &registry, a, (2, 90));
     assert!(rt; all && wrote && read);
 }
