@@ -1,6 +1,6 @@
 -- What is handed out and gained, one piece after another, and counts that rise.
-use Rattle.std.proofs.Common.{◌≡◌, ℕ, ◌<◌, ◌≤◌, List, [], ◌++◌, Option, Some, None, IfSome, length, take, take_all, length-append, subst, append_assoc, refl, sym, ◌∙◌, ap, inl, inr, arith}
-use Rattle.std.proofs.lemmas.List.{append-nil}
+use Rattle.std.proofs.Common.{◌≡◌, ℕ, ◌<◌, ◌≤◌, List, [], ◌++◌, Option, Some, None, IfSome, Result, Ok, Err, OnErr, length, take, drop, take-append-drop, take_all, length-append, subst, append_assoc, refl, sym, ◌∙◌, ap, inl, inr, arith}
+use Rattle.std.proofs.lemmas.List.{append-nil, append_cancel_right}
 use Rattle.run_ports.specs.Ports.{Rose, Hands, Gains, GainsPart, with_bytes}
 
 pub Hands-none : (old : Option (List ℕ)) → Hands old old []
@@ -63,6 +63,19 @@ pub with_bytes-moved : (old new : Option (List ℕ)) (front rest : List ℕ) →
 with_bytes-moved None new front rest gains = rw gains refl
 with_bytes-moved (Some held) new front rest gains = rw gains (ap Some (append_assoc held front rest))
 
+-- and one that has as much gained the front
+gains_front : (old new : Option (List ℕ)) (front rest : List ℕ) → with_bytes new rest ≡ with_bytes old (front ++ rest) → Gains old new front
+gains_front None None front rest is = refl
+gains_front None (Some got) front rest is = cc
+gains_front (Some held) None front rest is = cc
+gains_front (Some held) (Some got) front rest is =
+    let same : got ++ rest ≡ held ++ (front ++ rest) = cc in
+    ap Some (append_cancel_right got (held ++ front) rest (same ∙ sym (append_assoc held front rest)))
+
+pub gains_up_to : (old new : Option (List ℕ)) (at : ℕ) (bytes : List ℕ) → with_bytes new (drop at bytes) ≡ with_bytes old bytes → Gains old new (take at bytes)
+gains_up_to old new at bytes kept =
+    gains_front old new (take at bytes) (drop at bytes) (kept ∙ ap (with_bytes old) (sym (take-append-drop at bytes)))
+
 pub with_bytes-none : (held : Option (List ℕ)) → with_bytes held [] ≡ held
 with_bytes-none None = refl
 with_bytes-none (Some bytes) = ap Some (append-nil bytes)
@@ -77,3 +90,8 @@ pub held_gains : (old mid : Option (List ℕ)) (xs ys piece : List ℕ) → with
 held_gains old mid xs ys piece kept held =
     subst (λ (had : Option (List ℕ)). Gains had (with_bytes mid ys) (take (length piece) piece)) kept
     (rw (held, take_all (length piece) piece (omega arith)) (with_bytes-gains mid xs piece))
+
+-- what holds anyway holds on an error
+pub on_err_anyway : {X E P : Type 0} (r : Result X E) → P → OnErr r P
+on_err_anyway (Ok x) holds = tt
+on_err_anyway (Err e) holds = holds

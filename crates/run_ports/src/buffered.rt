@@ -1,10 +1,12 @@
 //! A sink that gathers pieces for another one, to which each call is dear.
 
-ghost use Rattle.std.specs.Prelude.{◌≡◌, ◌≢◌, ◌≤◌, [], ◌++◌, length, drop, OnOk, OnErr, Err};
+ghost use Rattle.std.specs.Prelude.{◌≡◌, ◌≢◌, ◌≤◌, [], ◌++◌, OnOk, OnErr};
+ghost use Rattle.run_ports.specs.Devices.{IsHandedOn};
 ghost use Rattle.run_ports.specs.Ports.{Rose, with_bytes};
 
 use crate::ports::{Sink, SinkFault};
 use crate::status::{Ending, ProgramStatus};
+use crate::writing::hand_on;
 use std::alloc::{AllocError, Global};
 use std::marker::Model;
 
@@ -31,29 +33,6 @@ impl<K: Sink> Model for BufferedSink<K> {
     ghost invariant = { λ s. s.at ≤ vec_len s.held };
 }
 
-/// Offers the bytes from a place on until the sink has taken them. The place goes on with what it
-/// took.
-fn hand_on<K: Sink>(sink: &mut K, bytes: &[u8], at: &mut usize) -> Result<(), SinkFault>
-    requires within { at.old ≤ length bytes.now }
-    requires sink { K.can_write sink.old }
-    ensures within { at.new ≤ length bytes.now }
-    ensures all { OnOk result (at.new ≡ length bytes.now) }
-    ensures goes_on { OnOk result (K.can_write sink.new) }
-    ensures kept { with_bytes (K.written sink.new) (drop at.new bytes.now)
-        ≡ with_bytes (K.written sink.old) (drop at.old bytes.now) }
-    ensures failed { result ≡ Err SinkFault.Failed → Rose (K.faults sink.old) (K.faults sink.new) }
-    ensures sound { result ≢ Err SinkFault.Failed → K.faults sink.new ≡ K.faults sink.old }
-    ensures counted { K.faults sink.old ≤ K.faults sink.new }
-{
-    while *at < bytes.len() {
-        match sink.write(&bytes[*at..]) {
-            Ok(count) => *at += count,
-            Err(fault) => return Err(fault),
-        }
-    }
-    Ok(())
-}
-
 impl<K: Sink> BufferedSink<K> {
     /// Nothing yet. It takes no memory.
     pub fn new(alloc: Global, sink: K) -> Self
@@ -78,13 +57,8 @@ impl<K: Sink> BufferedSink<K> {
         requires { K.can_write self.old.sink }
         ensures all { OnOk result (self.new.held ≡ []) }
         ensures goes_on { OnOk result (K.can_write self.new.sink) }
-        ensures kept { with_bytes (K.written self.new.sink) self.new.held
-            ≡ with_bytes (K.written self.old.sink) self.old.held }
-        ensures failed { result ≡ Err SinkFault.Failed
-            → Rose (K.faults self.old.sink) (K.faults self.new.sink) }
-        ensures sound { result ≢ Err SinkFault.Failed
-            → K.faults self.new.sink ≡ K.faults self.old.sink }
-        ensures counted { K.faults self.old.sink ≤ K.faults self.new.sink }
+        ensures handed { IsHandedOn K.faults K.written result self.old.sink self.old.held
+            self.new.sink self.new.held }
     {
         match hand_on(&mut self.sink, &self.held, &mut self.at) {
             Ok(()) => {
@@ -100,13 +74,8 @@ impl<K: Sink> BufferedSink<K> {
     fn make_room(&mut self) -> Result<(), SinkFault>
         requires { K.can_write self.old.sink }
         ensures goes_on { OnOk result (K.can_write self.new.sink) }
-        ensures kept { with_bytes (K.written self.new.sink) self.new.held
-            ≡ with_bytes (K.written self.old.sink) self.old.held }
-        ensures failed { result ≡ Err SinkFault.Failed
-            → Rose (K.faults self.old.sink) (K.faults self.new.sink) }
-        ensures sound { result ≢ Err SinkFault.Failed
-            → K.faults self.new.sink ≡ K.faults self.old.sink }
-        ensures counted { K.faults self.old.sink ≤ K.faults self.new.sink }
+        ensures handed { IsHandedOn K.faults K.written result self.old.sink self.old.held
+            self.new.sink self.new.held }
     {
         if self.held.len() < ENOUGH {
             return Ok(());

@@ -12,6 +12,7 @@ mod memory;
 mod ports;
 mod reading;
 mod standard;
+mod starting;
 mod status;
 mod writing;
 
@@ -21,5 +22,6 @@ pub use memory::{MemorySink, MemorySource, SureSink, SureSource};
 pub use ports::{Failed, Sink, SinkFault, Source};
 pub use reading::{SCRIPT_LIMIT, TakeFault, take_up_to};
 pub use standard::{StandardInput, StandardOutput};
+pub use starting::start;
 pub use status::{Ending, ProgramStatus};
 pub use writing::{write_lines, write_piece};

@@ -1,13 +1,33 @@
 //! Writes pieces to a sink.
 
-ghost use Rattle.std.specs.Prelude.{◌≡◌, ◌≢◌, map, OnOk, OnErr, Err};
+ghost use Rattle.std.specs.Prelude.{◌≡◌, ◌≢◌, ◌≤◌, length, drop, map, OnOk, OnErr, Err};
 ghost use Rattle.std.specs.List.{flat_map};
+ghost use Rattle.run_ports.specs.Devices.{IsHandedOn};
 ghost use Rattle.run_ports.specs.Ports.{Rose, Gains, GainsPart};
 
 use crate::ports::{Sink, SinkFault};
 
-/// Writes a piece: what the sink leaves of it is offered again. A sink that failed is not asked
-/// again.
+/// Offers the bytes from a place on until the sink has taken them. The place goes on with what it
+/// took. A sink that failed is not asked again.
+pub fn hand_on<K: Sink>(sink: &mut K, bytes: &[u8], at: &mut usize) -> Result<(), SinkFault>
+    requires within { at.old ≤ length bytes.now }
+    requires sink { K.can_write sink.old }
+    ensures within { at.new ≤ length bytes.now }
+    ensures all { OnOk result (at.new ≡ length bytes.now) }
+    ensures goes_on { OnOk result (K.can_write sink.new) }
+    ensures handed { IsHandedOn K.faults K.written result sink.old (drop at.old bytes.now) sink.new
+        (drop at.new bytes.now) }
+{
+    while *at < bytes.len() {
+        match sink.write(&bytes[*at..]) {
+            Ok(count) => *at += count,
+            Err(fault) => return Err(fault),
+        }
+    }
+    Ok(())
+}
+
+/// Writes a piece: what the sink leaves of it is offered again.
 pub fn write_piece<K: Sink>(sink: &mut K, piece: &[u8]) -> Result<(), SinkFault>
     requires { K.can_write sink.old }
     ensures goes_on { OnOk result (K.can_write sink.new) }
@@ -17,13 +37,7 @@ pub fn write_piece<K: Sink>(sink: &mut K, piece: &[u8]) -> Result<(), SinkFault>
     ensures sound { result ≢ Err SinkFault.Failed → K.faults sink.new ≡ K.faults sink.old }
 {
     let mut at = 0;
-    while at < piece.len() {
-        match sink.write(&piece[at..]) {
-            Ok(count) => at += count,
-            Err(fault) => return Err(fault),
-        }
-    }
-    Ok(())
+    hand_on(sink, piece, &mut at)
 }
 
 /// Writes lines, a piece for each.

@@ -1,27 +1,19 @@
-use Rattle.std.proofs.Common.{◌≡◌, ◌-◌, length, take, drop, take-append-drop, length-drop, sym, ◌∙◌, arith}
-use Rattle.std.proofs.lemmas.List.{take_rest}
-use Rattle.std.proofs.Math.Seq.{take-add}
-use Rattle.run_ports.proofs.Pieces.{Gains-more}
+use Rattle.std.proofs.Common.{◌≡◌, ℕ, drop, length, subst, sym, take, take-append-drop, take_all, arith}
+use Rattle.std.proofs.lemmas.Result.{on_ok_weaker}
+use Rattle.run_ports.specs.Ports.{Gains}
+use Rattle.run_ports.proofs.Pieces.{gains_up_to, on_err_anyway}
 use Rattle.run_ports.proofs.writing.write_piece.Goals as goal
 
-pub loop-at-preserved : goal.loop-at-preserved
-loop-at-preserved g c =
+pub returns-clause-ok : goal.returns-clause-ok
+returns-clause-ok g c =
     let piece = c.args.piece.now in
-    let at = c.loop-at.at in
-    let before = c.loop-at.invariant in
-    let rest : take (length piece - at) (drop at piece) ≡ drop at piece = take_rest piece at in
-    let taken = rw rest at c.in-Ok.ensures.bytes in
-    let within = rw (rest, length-drop) at c.in-Ok.ensures.count in
-    let here = c.loop-at-test.true in
-    record {
-      within = omega arith;
-      gained = rw (take-add at c.in-Ok.count piece) (Gains-more (g.K.Sink.written c.args.sink.now) (g.K.Sink.written c.loop-at.sink) (g.K.Sink.written c.write.new.self) (take at piece) (take c.in-Ok.count (drop at piece)) before.gained taken);
-      writable = c.in-Ok.ensures.goes_on;
-      sound = c.in-Ok.ensures.sound (λ is. cc) ∙ before.sound;
-    }
+    let at = c.hand_on.new.at in
+    let P : ℕ → Type 0 = λ n. Gains (g.K.Sink.written c.args.sink.now) (g.K.Sink.written c.hand_on.new.sink) (take n piece) in
+    let front : P at = gains_up_to _ _ at piece c.hand_on.ensures.handed.kept in
+    on_ok_weaker c.hand_on.result (λ (all : at ≡ length piece). let whole : P (length piece) = subst P all front in rw (take_all (length piece) piece (omega arith)) at whole) c.hand_on.ensures.all
 
-pub returns-in-Err-clause-err : goal.returns-in-Err-clause-err
-returns-in-Err-clause-err g c =
+pub returns-clause-err : goal.returns-clause-err
+returns-clause-err g c =
     let piece = c.args.piece.now in
-    let at = c.loop-at.at in
-    (take at piece, drop at piece, sym (take-append-drop at piece), rw c.in-Err.ensures.err c.loop-at.invariant.gained)
+    let at = c.hand_on.new.at in
+    on_err_anyway c.hand_on.result (take at piece, drop at piece, sym (take-append-drop at piece), gains_up_to _ _ at piece c.hand_on.ensures.handed.kept)

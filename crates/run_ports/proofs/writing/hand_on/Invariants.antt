@@ -1,6 +1,6 @@
 use Rattle.std.proofs.Common.{◌≡◌, ◌≤◌, ◌-◌, length, drop}
 use Rattle.run_ports.specs.Ports.{with_bytes}
-use Rattle.run_ports.proofs.buffered.hand_on.Given as goal
+use Rattle.run_ports.proofs.writing.hand_on.Given as goal
 
 -- what the sink has, and what is left for it, is what it had and all that was to come
 abbrev pub invariant-loop-at : goal.invariant-loop-at

@@ -1,9 +1,10 @@
-use Rattle.std.proofs.Common.{◌≡◌, ◌+◌, ◌-◌, List, ℕ, Option, length, take, drop, length-drop, ap, sym, ◌∙◌, arith}
+use Rattle.std.proofs.Common.{◌≡◌, ◌+◌, ◌-◌, List, ℕ, Option, Err, length, take, drop, length-drop, ap, subst, sym, ◌∙◌, arith}
 use Rattle.std.proofs.lemmas.List.{take_rest}
-use Rattle.run_ports.specs.Ports.{with_bytes}
+use Rattle.run_ports.specs.Ports.{Rose, with_bytes}
+use Rattle.run_ports.specs.declared.ports.SinkFault.TheVariants.{Failed}
 use Rattle.run_ports.proofs.Bytes.{drop-more}
 use Rattle.run_ports.proofs.Pieces.{with_bytes-moved}
-use Rattle.run_ports.proofs.buffered.hand_on.Goals as goal
+use Rattle.run_ports.proofs.writing.hand_on.Goals as goal
 
 pub loop-at-preserved : goal.loop-at-preserved
 loop-at-preserved g c =
@@ -23,6 +24,12 @@ loop-at-preserved g c =
       sound = c.in-Ok.ensures.sound (λ is. cc) ∙ before.sound;
     }
 
-pub returns-in-Err-clause-kept : goal.returns-in-Err-clause-kept
-returns-in-Err-clause-kept g c =
-    ap (λ (had : Option (List ℕ)). with_bytes had (drop c.loop-at.at c.args.bytes.now)) c.in-Err.ensures.err ∙ c.loop-at.invariant.kept
+pub returns-in-Err-clause-handed : goal.returns-in-Err-clause-handed
+returns-in-Err-clause-handed g c =
+    let before = c.loop-at.invariant in
+    record {
+      kept = ap (λ (had : Option (List ℕ)). with_bytes had (drop c.loop-at.at c.args.bytes.now)) c.in-Err.ensures.err ∙ before.kept;
+      failed = λ is. subst (λ (n : ℕ). Rose n (g.K.Sink.faults c.write.new.self)) before.sound (c.in-Err.ensures.failed (let same : c.in-Err.fault ≡ Failed = cc in ap Err same));
+      sound = λ other. c.in-Err.ensures.sound (λ is. other (let same : c.in-Err.fault ≡ Failed = cc in ap Err same)) ∙ before.sound;
+      counted = omega (arith, c.in-Err.ensures.counted, before.sound);
+    }
