@@ -201,6 +201,15 @@ module _ (distinct states : List PlacedRow) (base here : ℕ) (kept : List ℕ) 
         numbered = then.numbered;
       }
 
+  -- where a row has its number, the numbers that are told anew
+  pub numbered_course : (new : List PlacedRow) (row : PlacedRow) (number : ℕ) (more : List (Option ℕ)) → IsNumbered distinct row number new
+      → (HaveRowNumbers new states numbers → HaveRowNumbers new states more) → IsCourse (course new states base here kept) more met
+  numbered_course new row number more numbered noted = record {
+    states = record { base = is.states.base; here = is.states.here; kept = is.states.kept };
+    transitions = is.transitions;
+    numbered = noted (more_distinct distinct new states numbers row number numbered is.numbered);
+  }
+
   -- what an instruction makes of the row here is a state
   module _ (new : List PlacedRow) (i : PlacedInstruction) (to : ℕ) (base_row row next : PlacedRow) (longer : IsLonger states new) (base_is : base_row ≡ state_in states base) (row_is : row ≡ state_in states here) (next_is : next ≡ applied base_row row i) (number : IsNumberOf new to next) where
     then : IsCourse (course distinct new base here kept) numbers met
@@ -209,7 +218,7 @@ module _ (distinct states : List PlacedRow) (base here : ℕ) (kept : List ℕ) 
     still : standing (course distinct new base here kept) ≡ standing (course distinct states base here kept)
     still = stands_still (course distinct states base here kept) new is.states longer
 
-    pub worked_out : IsTransition new (record { base = base; from = here; instruction = i; to = to })
+    worked_out : IsTransition new (record { base = base; from = here; instruction = i; to = to })
     worked_out =
         let made : next ≡ applied (state_in new base) (state_in new here) i =
         next_is
@@ -221,13 +230,16 @@ module _ (distinct states : List PlacedRow) (base here : ℕ) (kept : List ℕ) 
           to = subst (λ (k : PlacedRow). IsNumberOf new to k) made number;
         }
 
-    pub stayed_course : (more : List Transition) → All (IsTransition new) more → IsCourse (course distinct new base here kept) numbers more
-    stayed_course more all = record { states = then.states; transitions = all; numbered = then.numbered }
+    abbrev Keeps : List Transition → Type 0
+    Keeps more = All (IsTransition new) met → IsTransition new (record { base = base; from = here; instruction = i; to = to }) → All (IsTransition new) more
 
-    pub went_course : (more : List Transition) → All (IsTransition new) more → IsCourse (course distinct new base to kept) numbers more
-    went_course more all = record {
+    pub stayed_course : (more : List Transition) → Keeps more → IsCourse (course distinct new base here kept) numbers more
+    stayed_course more keeps = record { states = then.states; transitions = keeps then.transitions worked_out; numbered = then.numbered }
+
+    pub went_course : (more : List Transition) → Keeps more → IsCourse (course distinct new base to kept) numbers more
+    went_course more keeps = record {
       states = record { base = then.states.base; here = number.0; kept = then.states.kept };
-      transitions = all;
+      transitions = keeps then.transitions worked_out;
       numbered = then.numbered;
     }
 

@@ -1,6 +1,6 @@
 use Rattle.std.proofs.Common.{ap, ◌∙◌}
 use Rattle.row_table.specs.Courses.{standing}
-use Rattle.row_table.proofs.CourseLaws.{course, longer_course, worked_out, stayed_course, went_course, went}
+use Rattle.row_table.proofs.CourseLaws.{course, longer_course, stayed_course, went_course, went}
 use Rattle.row_table.proofs.course.Course.work_out.Goals as goal
 
 pub invariant_of-self : goal.invariant_of-self
@@ -12,21 +12,15 @@ pub invariant_of-self-in_err-keep : goal.invariant_of-self-in_err-keep
 invariant_of-self-in_err-keep c =
     let was = c.self.inside in
     let new = c.number_of.new.self in
-    let longer = longer_course (course was.distinct was.states was.base was.here was.kept) was.numbers.items was.transitions new c.self.invariant c.number_of.ensures.longer in
-    let step =
-    worked_out was.distinct was.states was.base was.here was.kept was.numbers.items was.transitions c.self.invariant new c.args.instruction c.in_ok-to.to c.row-2.result.now c.row.result.now c.apply.new.self c.number_of.ensures.longer c.row-2.ensures c.row.ensures c.apply.ensures c.in_ok-to.ensures.number in
     stayed_course was.distinct was.states was.base was.here was.kept was.numbers.items was.transitions c.self.invariant new c.args.instruction c.in_ok-to.to c.row-2.result.now c.row.result.now c.apply.new.self c.number_of.ensures.longer c.row-2.ensures c.row.ensures c.apply.ensures c.in_ok-to.ensures.number c.keep.new.self
-    (c.keep.ensures new longer.transitions step)
+    (c.keep.ensures new)
 
 pub invariant_of-self-2 : goal.invariant_of-self-2
 invariant_of-self-2 c =
     let was = c.self.inside in
     let new = c.number_of.new.self in
-    let longer = longer_course (course was.distinct was.states was.base was.here was.kept) was.numbers.items was.transitions new c.self.invariant c.number_of.ensures.longer in
-    let step =
-    worked_out was.distinct was.states was.base was.here was.kept was.numbers.items was.transitions c.self.invariant new c.args.instruction c.in_ok-to.to c.row-2.result.now c.row.result.now c.apply.new.self c.number_of.ensures.longer c.row-2.ensures c.row.ensures c.apply.ensures c.in_ok-to.ensures.number in
     went_course was.distinct was.states was.base was.here was.kept was.numbers.items was.transitions c.self.invariant new c.args.instruction c.in_ok-to.to c.row-2.result.now c.row.result.now c.apply.new.self c.number_of.ensures.longer c.row-2.ensures c.row.ensures c.apply.ensures c.in_ok-to.ensures.number c.keep.new.self
-    (c.keep.ensures new longer.transitions step)
+    (c.keep.ensures new)
 
 pub returns-clause-standing : goal.returns-clause-standing
 returns-clause-standing c =
