@@ -41,7 +41,7 @@ pub record IsThere (pc : ℕ) (f : FdeData) (r : RowsData) (from end : ℕ) : Ty
   pub even : length r.numbers ≡ length r.starts
   pub are : AreRowsOf f r from end
 
-pub there : (t : TableData) (pc i from end : ℕ) (f : FdeData) → HasRowsFrom t i f pc → from ≡ get_or t.begins i from → end ≡ get_or t.begins (i + 1) end → IsThere pc f t.rows from end
+there : (t : TableData) (pc i from end : ℕ) (f : FdeData) → HasRowsFrom t i f pc → from ≡ get_or t.begins i from → end ≡ get_or t.begins (i + 1) end → IsThere pc f t.rows from end
 there t pc i from end f has from_is end_is =
     let within = has.begins in
     let from_at : get_or t.begins i 0 ≡ from = sym (get_or_default_zero t.begins i from (omega arith)) ∙ sym from_is in
@@ -52,6 +52,10 @@ there t pc i from end f has from_is end_is =
       even = has.even;
       are = subst (λ (k : ℕ). AreRowsOf f t.rows from k) end_at are;
     }
+
+-- the same of a table as contracts see it
+pub seen_there : (t : TableData) (pc i from end : ℕ) (f : FdeData) (seen : TableData) → t ≡ seen → HasRowsFrom seen i f pc → from ≡ get_or t.begins i from → end ≡ get_or t.begins (i + 1) end → IsThere pc f t.rows from end
+seen_there t pc i from end f seen is has from_is end_is = there t pc i from end f (subst (λ (k : TableData). HasRowsFrom k i f pc) (sym is) has) from_is end_is
 
 pub first_reached : (pc from end : ℕ) (f : FdeData) (r : RowsData) (starts : List ℕ) → IsThere pc f r from end → starts ≡ r.starts → get_or starts from 0 ≤ pc
 first_reached pc from end f r starts is same = rw same (omega (arith, is.are.first, is.reached))
