@@ -80,26 +80,8 @@ impl CieRows {
         }
     }
 
-    /// Makes the row of an FDE's CIE: its number.
-    fn add(&mut self, fde: &Fde<'_>) -> Result<usize, TableFault>
-        ensures within { IfOk result (λ number. number < length self.new) }
-        ensures cie { IfOk result
-            (λ number. (get_or self.new number no_cie_row).cie ≡ fde.now.entry.cie) }
-        ensures memory { IfErr result (λ fault. fault ≡ TableFault.NoMemory) }
-        ensures rows { (s : SectionData) → IsFdeIn s fde.now → All (IsCieRow s) self.old
-            → All (IsCieRow s) self.new }
-    {
-        initial_rows_are_the_cies();
-        let number = self.rows.len();
-        let cie = *fde.cie();
-        let row = initial_row(fde);
-        self.last = number;
-        self.numbers.insert(cie.start, number)?;
-        self.rows.push(CieRow { cie, row })?;
-        Ok(number)
-    }
-
-    /// The number of the row that an FDE's initial instructions leave.
+    /// The number of the row that an FDE's initial instructions leave. It is made where none of its
+    /// CIE's was before.
     pub(crate) fn number_of(&mut self, fde: &Fde<'_>) -> Result<usize, TableFault>
         ensures within { IfOk result (λ number. number < length self.new) }
         ensures cie { IfOk result
@@ -112,7 +94,14 @@ impl CieRows {
             self.last = number;
             return Ok(number);
         }
-        self.add(fde)
+        initial_rows_are_the_cies();
+        let number = self.rows.len();
+        let cie = *fde.cie();
+        let row = initial_row(fde);
+        self.last = number;
+        self.numbers.insert(cie.start, number)?;
+        self.rows.push(CieRow { cie, row })?;
+        Ok(number)
     }
 
     /// The row of a number.

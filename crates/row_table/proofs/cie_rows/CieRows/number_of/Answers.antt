@@ -3,7 +3,7 @@ use Rattle.std.specs.Prelude.{All}
 use Rattle.row_table.specs.declared.cie_rows.CieRow.{CieRow}
 use Rattle.row_table.specs.Initials.{IsCieRow}
 use Rattle.row_table.proofs.Initials.{one_more_cie}
-use Rattle.row_table.proofs.cie_rows.CieRows.add.Goals as goal
+use Rattle.row_table.proofs.cie_rows.CieRows.number_of.Goals as goal
 
 pub returns-clause-rows : goal.returns-clause-rows
 returns-clause-rows c = λ s inside all.
