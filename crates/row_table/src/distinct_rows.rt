@@ -8,7 +8,7 @@ ghost use Rattle.row_table.specs.Tables.{IsNumbered, IsOneTooMany};
 
 use crate::fault::TableFault;
 use crate::row_words::row_words;
-use crate::same_rows::{PLACES, are_equal, place_of, same_cfa};
+use crate::same_rows::{PLACES, are_equal, place_of, recent_number, same_cfa};
 use frame_rows::PlacedRow;
 use std::alloc::{AllocError, Global};
 use std::collections::BTreeMap;
@@ -60,21 +60,6 @@ impl DistinctRows {
             index: BTreeMap::new(alloc),
             recent: vec![in alloc; 0u16; PLACES]?,
         })
-    }
-
-    /// The number of a row, where it is the one that was given last at its place.
-    #[inline(always)]
-    fn recent(&self, place: usize, row: &PlacedRow) -> Option<u16>
-        ensures within { IfSome result (λ number. number < length self.now) }
-        ensures equal { IfSome result (λ number. get_or self.now number unset ≡ row.now) }
-    {
-        let number = *self.recent.get(place)?;
-        let index = number as usize;
-        if index < self.rows.len() && are_equal(&self.rows[index], row) {
-            Some(number)
-        } else {
-            None
-        }
     }
 
     fn remember(&mut self, place: usize, number: u16)
@@ -166,7 +151,7 @@ impl DistinctRows {
         ensures kept { IfErr result (λ _. self.new ≡ self.old) }
     {
         let place = place_of(row);
-        if let Some(number) = self.recent(place, row) {
+        if let Some(number) = recent_number(&self.recent, place, &self.rows, row) {
             return Ok(number);
         }
         let number = self.looked_up(row)?;

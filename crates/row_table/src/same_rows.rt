@@ -1,6 +1,8 @@
 //! Whether two rows are the same.
 
-ghost use Rattle.std.specs.Prelude.{◌≡◌, ◌≢◌, ◌+◌, ◌<◌, ◌≤◌, ℕ, get_or, true, false};
+ghost use Rattle.std.specs.Prelude.{◌≡◌, ◌≢◌, ◌+◌, ◌<◌, ◌≤◌, ℕ, IfSome, get_or, length, true};
+ghost use Rattle.std.specs.Prelude.{false};
+ghost use Rattle.frame_rows.specs.Rows.{unset};
 ghost use Rattle.frame_rows.specs.declared.rule.RuleWith.TheVariants.{Unset};
 
 use frame_rows::{PlacedCfaRule, PlacedRow, PlacedRule};
@@ -50,6 +52,27 @@ pub(crate) fn place_of(row: &PlacedRow) -> usize {
         ^ saved.wrapping_mul(0xc2b2_ae3d_27d4_eb4f)
         ^ offset_mark(&columns[6]).wrapping_mul(0x1656_67b1_9e37_79f9);
     ((hash >> 40) % PLACES as u64) as usize
+}
+
+/// The number that came last at a place, where it is that of a row. The numbers of places need not
+/// be those of rows.
+#[inline(always)]
+pub(crate) fn recent_number(
+    recent: &[u16],
+    place: usize,
+    rows: &[PlacedRow],
+    row: &PlacedRow,
+) -> Option<u16>
+    ensures within { IfSome result (λ number. number < length rows.now) }
+    ensures equal { IfSome result (λ number. get_or rows.now number unset ≡ row.now) }
+{
+    let number = *recent.get(place)?;
+    let index = number as usize;
+    if index < rows.len() && are_equal(&rows[index], row) {
+        Some(number)
+    } else {
+        None
+    }
 }
 
 fn same_rare(a: &PlacedRule, b: &PlacedRule) -> bool

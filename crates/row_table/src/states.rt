@@ -1,10 +1,10 @@
 //! States: rows that instructions have left, also between two advances.
 
-ghost use Rattle.std.specs.Prelude.{◌≡◌, ◌<◌, [], IfOk, IfSome, length, get_or, false};
+ghost use Rattle.std.specs.Prelude.{◌≡◌, ◌<◌, [], IfOk, length, get_or, false};
 ghost use Rattle.frame_rows.specs.Rows.{unset};
 ghost use Rattle.row_table.specs.Transitions.{IsNumberOf, IsLonger};
 
-use crate::same_rows::{PLACES, are_equal, place_of};
+use crate::same_rows::{PLACES, place_of, recent_number};
 use frame_rows::PlacedRow;
 use std::alloc::{AllocError, Global};
 use std::marker::Model;
@@ -60,19 +60,6 @@ impl States {
         &self.rows[number as usize]
     }
 
-    /// The state that has a row, where it came last at its place.
-    fn recent(&self, place: usize, row: &PlacedRow) -> Option<u16>
-        ensures { IfSome result (λ number. IsNumberOf self.now number row.now) }
-    {
-        let number = *self.recent.get(place)?;
-        let index = number as usize;
-        if index < self.rows.len() && are_equal(&self.rows[index], row) {
-            Some(number)
-        } else {
-            None
-        }
-    }
-
     /// A state that has a row: a new one where none came last at its place.
     pub(crate) fn number_of(&mut self, row: &PlacedRow) -> Result<u16, AllocError>
         requires { length self.old < 65536 }
@@ -80,7 +67,7 @@ impl States {
         ensures longer { IsLonger self.old self.new }
     {
         let place = place_of(row);
-        if let Some(number) = self.recent(place, row) {
+        if let Some(number) = recent_number(&self.recent, place, &self.rows, row) {
             return Ok(number);
         }
         let number = self.rows.len();
