@@ -48,24 +48,27 @@ fn site_verdict(
     }
 }
 
-/// The verdict, part by part.
-#[tactic(auto, unfolding(crate::specs::Verdicts::call_site_table))]
-fn verdict_by_parts(
+/// The bytes of a table at an address, of the function that starts at `first`.
+#[derive(Clone, Copy)]
+struct TableBytes<'a> {
     first: u64,
     address: u64,
-    bytes: &[u8],
-    look: u64,
-    kind: u64,
-) -> Result<Verdict, LsdaFault>
-    requires { first ≤ look }
-    ensures { result ≡ verdict_of first address bytes.now look kind }
+    bytes: &'a [u8],
+}
+
+/// The verdict, part by part.
+#[tactic(auto, unfolding(crate::specs::Verdicts::call_site_table))]
+fn verdict_by_parts(table: &TableBytes<'_>, look: u64, kind: u64) -> Result<Verdict, LsdaFault>
+    requires { table.now.first ≤ look }
+    ensures { result
+        ≡ verdict_of table.now.first table.now.address table.now.bytes.now look kind }
 {
-    let mut cursor = cursor_from(bytes, 0);
-    let header = table_header(&mut cursor, first, address)?;
-    let site = sized_sites(&mut cursor, look - first, &header)?;
+    let mut cursor = cursor_from(table.bytes, 0);
+    let header = table_header(&mut cursor, table.first, table.address)?;
+    let site = sized_sites(&mut cursor, look - table.first, &header)?;
     let table = Actions {
-        address,
-        bytes,
+        address: table.address,
+        bytes: table.bytes,
         types: header.types,
         kind,
     };
@@ -86,5 +89,10 @@ pub fn verdict(
     ensures given { IfOk result (IsVerdict first address bytes.now look kind) }
     ensures refused { IfErr result (IsRefusedTable first address bytes.now look kind) }
 {
-    verdict_by_parts(first, address, bytes, look, kind)
+    let table = TableBytes {
+        first,
+        address,
+        bytes,
+    };
+    verdict_by_parts(&table, look, kind)
 }
