@@ -27,6 +27,18 @@ begun_count false = 0
 abbrev pub empty_cache : Half → CacheData
 empty_cache half = record { half = half; stamp = 0; entries = [] }
 
+-- A client that has called nothing yet.
+abbrev pub fresh_client : WordsData → CallerData → ℕ → ClientData
+fresh_client words me name = record {
+  words = words;
+  me = me;
+  registered = empty_cache Registered;
+  loaded = empty_cache Loaded;
+  begun = false;
+  lost = false;
+  name = name;
+}
+
 -- A cache is of this half, and its caller had each of its entries answered.
 abbrev pub IsCacheOf : Half → CacheData → Log → Type 0
 IsCacheOf half cache v = (cache.half ≡ half) × FitsCaller cache v

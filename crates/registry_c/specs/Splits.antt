@@ -1,10 +1,9 @@
 -- Clients that come and go.
-use Rattle.std.specs.Prelude.{◌≡◌, ◌≢◌, ◌<◌, ◌≤◌, ℕ, ◌⊎◌, ◌||◌, false, Option, Some, None}
+use Rattle.std.specs.Prelude.{◌≡◌, ◌≢◌, ◌<◌, ◌≤◌, ℕ, ◌⊎◌, ◌||◌, Option, Some, None}
 use Rattle.std.specs.Prelude.{Result, Ok, Err}
 use Rattle.registry_core.specs.Rounds.{IsWholeWhereAlone, after_one_join, after_one_split}
 use Rattle.registry_core.specs.Rounds.{one_split_off}
-use Rattle.reg_model.specs.declared.answer.Half.TheVariants.{Loaded, Registered}
-use Rattle.registry_c.specs.Clients.{ClientData, empty_cache, opened}
+use Rattle.registry_c.specs.Clients.{ClientData, fresh_client, opened}
 use Rattle.registry_c.specs.declared.splits.JoinAnswer.{JoinAnswer}
 use Rattle.registry_c.specs.declared.splits.JoinAnswer.TheVariants.{Joined, NoMemoryToJoin}
 use Rattle.registry_c.specs.declared.splits.JoinAnswer.TheVariants.{OtherRegistry}
@@ -13,15 +12,7 @@ use Rattle.registry_c.specs.declared.splits.SplitFault.TheVariants.{Few, NoMemor
 
 -- the client that is split off with so many update calls, and what is left of the other one
 abbrev pub split_client : ℕ → ClientData → ClientData
-split_client give c = record {
-  words = c.words;
-  me = one_split_off give c.me;
-  registered = empty_cache Registered;
-  loaded = empty_cache Loaded;
-  begun = false;
-  lost = false;
-  name = c.name;
-}
+split_client give c = fresh_client c.words (one_split_off give c.me) c.name
 
 abbrev pub client_kept : ℕ → ClientData → ClientData
 client_kept give c = record c { me = after_one_split give c.me }

@@ -1,7 +1,9 @@
 //! What the handle of a client leads to: the registry that all clients share, and a caller.
 
-ghost use Rattle.std.specs.Prelude.{◌≡◌, ◌↔◌, MatchResult, Ok, Err, length, true};
+ghost use Rattle.std.specs.Prelude.{◌≡◌, ◌↔◌, IfOk, MatchResult, Ok, Err, length, true};
+ghost use Rattle.std.specs.Arc.{arc_value};
 ghost use Rattle.word_rule.specs.Callers.{IsAlone};
+ghost use Rattle.registry_c.specs.Clients.{IsClient, fresh_client};
 ghost use Rattle.registry_c.specs.Limits.{IsNew};
 ghost use Rattle.registry_core.specs.Rounds.{IsWholeWhereAlone};
 
@@ -10,7 +12,7 @@ use crate::member::RegistryMember;
 use frame_cache::FrameCache;
 use reg_model::Half;
 use registry_core::Registry;
-use std::alloc::Global;
+use std::alloc::{AllocError, Global};
 use std::marker::Model;
 use std::sync::Arc;
 use word_rule::Caller;
@@ -81,6 +83,25 @@ impl Client {
         let Ok(registry) = Arc::new(alloc, registry) else {
             return Err(LimitFault::NoMemory);
         };
+        match Client::fresh(alloc, registry, me, limits.payloads, limits.name) {
+            Ok(client) => Ok(client),
+            Err(_) => Err(LimitFault::NoMemory),
+        }
+    }
+
+    /// A client that has called nothing yet, with empty caches.
+    pub(crate) fn fresh(
+        alloc: Global,
+        registry: Arc<Registry, Global>,
+        me: Caller,
+        payloads: u32,
+        name: u64,
+    ) -> Result<Box<Client, Global>, AllocError>
+        requires idle { IsClient (fresh_client (arc_value registry) me name) }
+        requires payloads { payloads ≡ (arc_value registry).terms.payloads }
+        ensures { IfOk result
+            (λ client. client.value ≡ fresh_client (arc_value registry) me name) }
+    {
         let client = Client {
             registry,
             me,
@@ -88,12 +109,12 @@ impl Client {
             loaded: FrameCache::new(Half::Loaded),
             begun: false,
             lost: false,
-            payloads: limits.payloads,
-            name: limits.name,
+            payloads,
+            name,
         };
         match Box::new(alloc, client) {
             Ok(client) => Ok(client),
-            Err(_) => Err(LimitFault::NoMemory),
+            Err(_) => Err(AllocError),
         }
     }
 

@@ -4,9 +4,7 @@ ghost use Rattle.std.specs.Prelude.{◌≡◌, MatchResult, IfErr, IfSome, OnErr
 ghost use Rattle.registry_c.specs.Splits.{JoinsClient, SplitsOff, join_told};
 
 use crate::client::Client;
-use frame_cache::FrameCache;
 use frame_cache::laws::caches_go_on_to_fit;
-use reg_model::Half;
 use std::alloc::Global;
 use std::sync::Arc;
 
@@ -58,17 +56,7 @@ impl Client {
         let Ok(me) = self.registry.words().split(&mut self.me, give) else {
             return Err(SplitFault::NoMemory);
         };
-        let other = Client {
-            registry,
-            me,
-            registered: FrameCache::new(Half::Registered),
-            loaded: FrameCache::new(Half::Loaded),
-            begun: false,
-            lost: false,
-            payloads: self.payloads,
-            name: self.name,
-        };
-        match Box::new(alloc, other) {
+        match Client::fresh(alloc, registry, me, self.payloads, self.name) {
             Ok(other) => Ok(other),
             Err(_) => Err(SplitFault::NoMemory),
         }
