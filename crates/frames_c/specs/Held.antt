@@ -2,9 +2,10 @@
 use Rattle.std.specs.Prelude.{ℕ, List, Option, Some, None, []}
 use Rattle.std.specs.Option.{unwrap_or}
 use Rattle.eh_hdr.specs.declared.table.TableEntry.{TableEntry}
-use Rattle.frame_parse.specs.Sections.{SectionData}
+use Rattle.frame_parse.specs.Sections.{FdeData, SectionData}
 use Rattle.sound_records.specs.declared.refused.RefusedRecord.{RefusedRecord}
 use Rattle.sound_records.specs.Sections.{claim_among}
+use Rattle.unwind_step.specs.Backtrace.{fde_in}
 
 -- a section of sound records, those that were refused in order of bytes, and what its header has
 -- for a table, where it was read with a header that was accepted
@@ -36,3 +37,7 @@ claim_in pc l = claim_among pc l.section.fdes l.refused
 abbrev pub unless_claimed : {A B : Type 0} → Option A → Option B → Option B
 unless_claimed None x = x
 unless_claimed (Some c) x = None
+
+-- the FDE of an address, unless a refused record answers
+abbrev pub unclaimed_fde : ℕ → LoadedData → Option FdeData
+unclaimed_fde pc l = unless_claimed (claim_in pc l) (fde_in pc l.section)

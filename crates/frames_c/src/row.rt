@@ -3,8 +3,7 @@
 ghost use Rattle.std.specs.Prelude.{◌≡◌, length, true, false};
 ghost use Rattle.c_handle.specs.Handles.{LeadsNowhere, LeadsSomewhere};
 ghost use Rattle.unwind_step.specs.Backtrace.{fde_in};
-ghost use Rattle.frames_c.specs.Held.{claim_in, held_loaded, held_section};
-ghost use Rattle.frames_c.specs.Held.{unless_claimed};
+ghost use Rattle.frames_c.specs.Held.{held_loaded, unclaimed_fde};
 ghost use Rattle.frames_c.specs.Rows.{rule_kind, rule_number, cfa_rule_kind, cfa_rule_column};
 ghost use Rattle.frames_c.specs.Rows.{cfa_rule_offset};
 ghost use Rattle.frames_c.specs.Rows.{AreToldRules, IsToldRow, IsRowOf, AnswersRow};
@@ -107,8 +106,7 @@ pub(crate) fn row_by_fde(section: &LoadedSection, pc: u64, out: &mut FramesRow) 
 
 /// The same, unless a refused record answers.
 fn row_in(section: &LoadedSection, pc: u64, out: &mut FramesRow) -> bool
-    ensures { AnswersRow (unless_claimed (claim_in pc section.now) (fde_in pc section.now.section))
-        pc result out.old out.new }
+    ensures { AnswersRow (unclaimed_fde pc section.now) pc result out.old out.new }
 {
     match section.claim_at(pc) {
         Some(_) => false,
@@ -129,8 +127,8 @@ pub extern "C" fn frames_c_row(
     requires held { LeadsSomewhere section.held }
     requires back { LeadsNowhere back.old.held }
     ensures back { back.new.held ≡ section.held }
-    ensures row { AnswersRow (unless_claimed (claim_in pc (held_loaded section.held))
-        (fde_in pc (held_section section.held))) pc result out.old out.new }
+    ensures row { AnswersRow (unclaimed_fde pc (held_loaded section.held))
+        pc result out.old out.new }
 {
     let share = section.open(alloc);
     let found = row_in(share.get(), pc, out);
@@ -150,8 +148,7 @@ pub extern "C" fn frames_c_row_table_row(
     requires held { LeadsSomewhere table.held }
     requires back { LeadsNowhere back.old.held }
     ensures back { back.new.held ≡ table.held }
-    ensures row { AnswersRow (unless_claimed (claim_in pc (held_loaded table.held))
-        (fde_in pc (held_section table.held))) pc result out.old out.new }
+    ensures row { AnswersRow (unclaimed_fde pc (held_loaded table.held)) pc result out.old out.new }
 {
     let share = table.open(alloc);
     let found = share.get().row_in(pc, out);

@@ -4,7 +4,7 @@ ghost use Rattle.std.specs.Prelude.{◌≡◌, ◌⊎◌, IfOk, IfErr};
 ghost use Rattle.std.specs.List.{AllZip};
 ghost use Rattle.row_table.specs.Tables.{IsRowTableOf, HasTooManyRows};
 ghost use Rattle.unwind_step.specs.Backtrace.{fde_in};
-ghost use Rattle.frames_c.specs.Held.{claim_in, unless_claimed};
+ghost use Rattle.frames_c.specs.Held.{unclaimed_fde};
 ghost use Rattle.frames_c.specs.Rows.{IsToldPlaced, AnswersRow};
 
 use crate::row::FramesRow;
@@ -62,8 +62,7 @@ impl RowsOfSection {
 
     /// Writes the row of an address, where an FDE answers.
     pub(crate) fn row_in(&self, pc: u64, out: &mut FramesRow) -> bool
-        ensures { AnswersRow (unless_claimed (claim_in pc self.now) (fde_in pc self.now.section))
-            pc result out.old out.new }
+        ensures { AnswersRow (unclaimed_fde pc self.now) pc result out.old out.new }
     {
         let loaded = self.share.get();
         match loaded.claim_at(pc) {
