@@ -22,10 +22,7 @@ pub fn decimal_first(bytes: &[u8]) -> Option<(u32, &[u8])>
         (λ found. decimal_first bytes.now ≡ Some (found.0, found.1.now)) }
 {
     let (field, rest) = split_at_space(bytes);
-    match decimal_in(field) {
-        Some(number) => Some((number, rest)),
-        None => None,
-    }
+    Some((decimal_in(field)?, rest))
 }
 
 #[tactic(auto, unfolding(crate::specs::FirstNumbers::hex_first))]
@@ -35,10 +32,7 @@ pub fn hex_first(bytes: &[u8]) -> Option<(u64, &[u8])>
         (λ found. hex_first bytes.now ≡ Some (found.0, found.1.now)) }
 {
     let (field, rest) = split_at_space(bytes);
-    match hex_in(field) {
-        Some(number) => Some((number, rest)),
-        None => None,
-    }
+    Some((hex_in(field)?, rest))
 }
 
 /// What follows a word with which the text begins.
