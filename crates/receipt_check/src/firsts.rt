@@ -21,26 +21,19 @@ pub fn lower(first: Option<u64>, line: u64, is_so: bool) -> Option<u64>
     }
 }
 
-/// The first line with a stamp or number below those before it on its thread.
-pub fn first_out_of_order(told: &[Told]) -> Option<u64>
-    ensures { IsSought ComesInOrder told.now result }
+/// The first line with a stamp or number below those before it on its thread, and the first with
+/// one that isn't one of its round.
+pub fn first_misplaced(told: &[Told]) -> (Option<u64>, Option<u64>)
+    ensures order { IsSought ComesInOrder told.now result.0 }
+    ensures round { IsSought ComesInRound told.now result.1 }
 {
-    let mut first = None;
+    let mut order = None;
+    let mut round = None;
     for row in told {
-        first = lower(first, row.line, comes_in_order(row));
+        order = lower(order, row.line, comes_in_order(row));
+        round = lower(round, row.line, comes_in_round(row));
     }
-    first
-}
-
-/// The first line with a stamp or number that isn't one of its round.
-pub fn first_out_of_round(told: &[Told]) -> Option<u64>
-    ensures { IsSought ComesInRound told.now result }
-{
-    let mut first = None;
-    for row in told {
-        first = lower(first, row.line, comes_in_round(row));
-    }
-    first
+    (order, round)
 }
 
 /// How many updates were accepted.

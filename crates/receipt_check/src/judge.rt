@@ -5,7 +5,7 @@ ghost use Rattle.receipt_check.specs.Flaws.{IsFlawless, IsFreeBefore, CountsFirs
 
 use crate::account::{Account, Departure, ReceiptFlaw};
 use crate::answers::first_wrong;
-use crate::firsts::{accepted_in, first_out_of_order, first_out_of_round};
+use crate::firsts::{accepted_in, first_misplaced};
 use crate::history::{first_misfit, history_in};
 use crate::numbers::first_misnumbered;
 use crate::turns::in_turn;
@@ -69,10 +69,11 @@ fn flaw_of_places(account: &Account) -> Option<Departure>
     ensures { MatchOption result (IsFlawless account.now)
         (λ d. CountsFirst account.now d.line d.flaw) }
 {
-    if let Some(line) = first_out_of_order(&account.told) {
+    let (order, round) = first_misplaced(&account.told);
+    if let Some(line) = order {
         return departure(line, ReceiptFlaw::Order);
     }
-    if let Some(line) = first_out_of_round(&account.told) {
+    if let Some(line) = round {
         return departure(line, ReceiptFlaw::Round);
     }
     None

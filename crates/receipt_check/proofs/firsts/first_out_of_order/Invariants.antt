@@ -1,8 +1,0 @@
-use Rattle.std.proofs.Common.{take}
-use Rattle.receipt_check.specs.Flaws.{ComesInOrder}
-use Rattle.receipt_check.specs.Search.{IsSought}
-use Rattle.receipt_check.proofs.firsts.first_out_of_order.Given as goal
-
--- the first line of those that were passed
-abbrev pub invariant-loop-row : goal.invariant-loop-row
-invariant-loop-row l = IsSought (ComesInOrder) (take l.row-index l.told) l.first
