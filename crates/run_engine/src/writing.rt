@@ -161,10 +161,7 @@ fn write_thread<K: Sink>(
             event: *event,
             kept: &part.kept[index],
         };
-        match write_event(room, sink, number, event) {
-            Ok(()) => {}
-            Err(fault) => return Err(fault),
-        }
+        write_event(room, sink, number, event)?;
     }
     Ok(())
 }
@@ -208,10 +205,7 @@ fn write_round<K: Sink>(
             events: &thread.events,
             kept: &kept.answers,
         };
-        match write_thread(room, sink, events) {
-            Ok(()) => {}
-            Err(fault) => return Err(fault),
-        }
+        write_thread(room, sink, events)?;
     }
     Ok(())
 }
@@ -244,10 +238,7 @@ fn write_rounds<'a, K: Sink>(
             threads: &round.threads,
             kept: &kept_round.threads,
         };
-        match write_round(room, sink, threads) {
-            Ok(()) => {}
-            Err(fault) => return Err(fault),
-        }
+        write_round(room, sink, threads)?;
     }
     Ok(())
 }
