@@ -5,6 +5,11 @@ use Rattle.std.proofs.lemmas.Bool.{cond-true, cond-false, and_from}
 use Rattle.std.proofs.lemmas.List.Folds.{list_all-append}
 use Rattle.event_script.specs.Fields.{with_first, pieces, is_printable}
 use Rattle.event_script.specs.Spelling.{Line, spelling_of}
+use Rattle.event_script.specs.EventLines.{event_spelling}
+use Rattle.event_script.specs.Statements.{statement_line}
+use Rattle.event_script.specs.declared.script.Event.{Event}
+use Rattle.event_script.specs.declared.script.Event.TheVariants as event
+use Rattle.event_script.specs.declared.reader.statement.Statement.TheVariants as statement
 use Rattle.event_script.proofs.Pieces.{some_pieces}
 
 abbrev pub join : ℕ → List (List ℕ) → List ℕ
@@ -35,6 +40,16 @@ pub spelled_line : (field : List ℕ) (fields : Line) → spelling_of (field ∷
 spelled_line field [] = refl
 spelled_line field (next ∷ fields) =
     ap (λ (x : List ℕ). field ++ 32 ∷ x) (spelled_line next fields) ∙ sym (append_assoc field (32 ∷ join 32 (next ∷ fields)) (10 ∷ []))
+
+-- an event's line, of its fields
+pub event_joined : (e : Event) → event_spelling e ≡ join 32 (statement_line (statement.Event e))
+event_joined (event.Register image) = refl
+event_joined (event.Deregister base) = refl
+event_joined (event.Replace image) = refl
+event_joined (event.Load image) = refl
+event_joined (event.Unload base) = refl
+event_joined (event.Find pc) = refl
+event_joined (event.Unwind snapshot) = refl
 
 pub spelled_pieces : (line : List ℕ) → spelling_of (pieces 32 line) ≡ line ++ 10 ∷ []
 spelled_pieces line =

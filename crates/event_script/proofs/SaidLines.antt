@@ -1,5 +1,5 @@
 -- Lines that are read at once: of events, and of images.
-use Rattle.std.proofs.Common.{◌≡◌, ℕ, ◌^◌, ◌<◌, true, false, cond, List, [], ◌∷◌, ◌++◌, Option, Some, Result, Err, codes, decimal, refl, sym, ap, ap₂, subst, ◌∙◌}
+use Rattle.std.proofs.Common.{◌≡◌, ℕ, ◌^◌, ◌<◌, true, false, cond, List, [], ◌∷◌, ◌++◌, Option, Some, Result, Err, codes, decimal, sym, ap, ap₂, subst, ◌∙◌}
 use Rattle.std.specs.Option.{ok_or}
 use Rattle.std.proofs.lemmas.Bool.{cond-true, cond-false}
 use Rattle.event_script.specs.Digits.{hex}
@@ -10,7 +10,6 @@ use Rattle.event_script.specs.ScriptData.{ImageData}
 use Rattle.event_script.specs.Draft.{DraftData, may_come, is_ended}
 use Rattle.event_script.specs.Reading.{◌>=>◌, statement_of, image_added, added, by_word, after_line}
 use Rattle.event_script.specs.declared.script.Event.{Event}
-use Rattle.event_script.specs.declared.script.Event.TheVariants as event
 use Rattle.event_script.specs.declared.reader.fault.Reason.{Reason}
 use Rattle.event_script.specs.declared.reader.fault.Reason.TheVariants as reason
 use Rattle.event_script.specs.declared.reader.kinds.Stage.{Stage}
@@ -20,7 +19,7 @@ use Rattle.event_script.specs.declared.reader.kinds.Kind.TheVariants as kind
 use Rattle.event_script.specs.declared.reader.statement.Statement.{Statement}
 use Rattle.event_script.specs.declared.reader.statement.Statement.TheVariants as statement
 use Rattle.event_script.proofs.Added.{open_still, visible}
-use Rattle.event_script.proofs.Joined.{join, join_pieces, IsVisible, fields_again, printable_again}
+use Rattle.event_script.proofs.Joined.{event_joined, join, join_pieces, IsVisible, fields_again, printable_again}
 use Rattle.event_script.proofs.Words.{word_again}
 use Rattle.event_script.proofs.Spoken.{said_again}
 use Rattle.event_script.proofs.Sections.{section_visible}
@@ -51,16 +50,7 @@ module _ (known : DraftData) (s : Statement) (may : may_come known.script.versio
 -- the line of an event, in a thread
 pub event_said : (known : DraftData) (e : Event) (line : List ℕ) → known.stage ≡ stage.Thread → may_come known.script.version stage.Thread (kind_of_event e) ≡ true → HasEventForm e → line ≡ event_spelling e → after_line known line ≡ added known (statement.Event e)
 event_said known e line at may form is =
-    ap (after_line known) (is ∙ joined e) ∙ line_said known (statement.Event e) (ap (λ (s : Stage). may_come known.script.version s (kind_of_event e)) at ∙ may) form
-  where
-    joined : (e : Event) → event_spelling e ≡ join 32 (statement_line (statement.Event e))
-    joined (event.Register image) = refl
-    joined (event.Deregister base) = refl
-    joined (event.Replace image) = refl
-    joined (event.Load image) = refl
-    joined (event.Unload base) = refl
-    joined (event.Find pc) = refl
-    joined (event.Unwind snapshot) = refl
+    ap (after_line known) (is ∙ event_joined e) ∙ line_said known (statement.Event e) (ap (λ (s : Stage). may_come known.script.version s (kind_of_event e)) at ∙ may) form
 
 -- the line of an image, where images come
 pub image_said : (known : DraftData) (image : ImageData) (line : List ℕ) → known.stage ≡ stage.Images → HasForm (statement.Image image) → pieces 32 line ≡ statement_line (statement.Image image) → after_line known line ≡ image_added known image

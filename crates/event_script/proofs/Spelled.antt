@@ -7,6 +7,8 @@ use Rattle.std.proofs.lemmas.List.{take_more, length-take-le}
 use Rattle.std.proofs.lemmas.Option.{slice_get_within, get_or_from_slice_get}
 use Rattle.frame_parse.specs.Sections.{SectionData}
 use Rattle.reg_model.specs.SpanData.{SpanData}
+use Rattle.event_script.specs.EventLines.{event_spelling}
+use Rattle.event_script.specs.Statements.{kind_of_event, statement_fields, word_of}
 use Rattle.event_script.specs.declared.script.Event.{Event}
 use Rattle.event_script.specs.declared.reader.statement.Statement.{Statement}
 use Rattle.event_script.specs.declared.reader.statement.Statement.TheVariants as statement
@@ -18,6 +20,7 @@ use Rattle.frame_expr.specs.declared.regs.Regs.{Regs}
 use Rattle.event_script.specs.Digits.{hex}
 use Rattle.event_script.specs.ScriptData.{ScriptData, SnapshotData}
 use Rattle.event_script.specs.Spelling.{spelling_of, statement_text, statements_text, image_data, image_statements, snapshot_lines, snapshot_statements, thread_statements, round_statements, first_statements, body_statements, script_text}
+use Rattle.event_script.proofs.Joined.{event_joined, spelled_line}
 use Rattle.event_script.proofs.LineLists.{images_push, snapshots_push, map_push}
 
 lines_more : (old text new : List ℕ) (lines more : List Statement) → text ≡ old ++ statements_text lines → new ≡ text ++ statements_text more → new ≡ old ++ statements_text (lines ++ more)
@@ -38,9 +41,15 @@ made_more make old text new xs i d lt p q =
     line_more old text new (map make (take i xs)) (make x) p q
     ∙ ap (λ (lines : List Statement). old ++ statements_text lines) (sym (ap (map make) (take_more xs i d lt) ∙ map_push make (take i xs) x))
 
-pub event_more : (old text new : List ℕ) (events : List Event) (i : ℕ) (d : Event) → i < length events → text ≡ old ++ statements_text (map statement.Event (take i events)) → new ≡ text ++ statement_text (statement.Event (get_or events i d))
+event_line : (e : Event) → event_spelling e ++ codes "\n" ≡ statement_text (statement.Event e)
+event_line e = ap (λ (x : List ℕ). x ++ codes "\n") (event_joined e) ∙ sym (spelled_line (word_of (kind_of_event e)) (statement_fields (statement.Event e)))
+
+pub event_more : (old text spelled new : List ℕ) (events : List Event) (i : ℕ) (d : Event) → i < length events → text ≡ old ++ statements_text (map statement.Event (take i events))
+    → spelled ≡ text ++ event_spelling (get_or events i d) → new ≡ spelled ++ codes "\n"
     → new ≡ old ++ statements_text (map statement.Event (take (i + 1) events))
-event_more old text new events i d lt p q = made_more statement.Event old text new events i d lt p q
+event_more old text spelled new events i d lt p e q =
+    let asked = get_or events i d in
+    made_more statement.Event old text new events i d lt p (q ∙ ap (λ (x : List ℕ). x ++ codes "\n") e ∙ append_assoc text (event_spelling asked) (codes "\n") ∙ ap (λ (x : List ℕ). text ++ x) (event_line asked))
 
 pub fixed_more : (old text new : List ℕ) (fixed : List ℕ) (i : ℕ) → i < length fixed → text ≡ old ++ statements_text (map statement.Fixed (take i fixed)) → new ≡ text ++ spelling_of (codes "fixed" ∷ decimal (get_or fixed i 0) ∷ [])
     → new ≡ old ++ statements_text (map statement.Fixed (take (i + 1) fixed))

@@ -24,8 +24,9 @@ pub use print::journal::{
     put_frame, spell_event_line, spell_registered,
 };
 pub use print::line::LineEnd;
-pub use print::script::print_script;
+pub use print::script::{print_script, put_event};
 pub use reader::fault::Reason;
+pub use reader::fields::place_of;
 pub use reader::numbers::{decimal_in, hex_in};
 pub use reader::{ScriptFault, read};
 pub use script::{Event, Round, Script, Snapshot, Thread};

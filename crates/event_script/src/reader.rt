@@ -10,7 +10,7 @@ ghost use Rattle.event_script.specs.Fault.{Tells, IsOfScript, GivesDraft, Leaves
 mod draft;
 mod events;
 pub mod fault;
-mod fields;
+pub mod fields;
 mod images;
 mod kinds;
 pub mod numbers;

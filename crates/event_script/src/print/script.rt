@@ -2,13 +2,14 @@
 
 ghost use Rattle.std.specs.Prelude.{◌≡◌, ◌++◌, [], ◌∷◌, length, map, codes, decimal, IfOk, OnOk};
 ghost use Rattle.std.specs.String.{string_bytes};
+ghost use Rattle.std.specs.List.{flat_map};
 ghost use Rattle.event_script.specs.Statements.{section_digits};
 ghost use Rattle.event_script.specs.Spelling.{spelling_of, statement_text, statements_text};
 ghost use Rattle.event_script.specs.Spelling.{image_data, image_statements, thread_statements};
 ghost use Rattle.event_script.specs.Spelling.{snapshot_lines, snapshot_statements};
 ghost use Rattle.event_script.specs.Spelling.{round_statements, script_text};
 ghost use Rattle.event_script.specs.Digits.{hex};
-ghost use Rattle.std.specs.List.{flat_map};
+ghost use Rattle.event_script.specs.EventLines.{event_spelling};
 ghost use Rattle.event_script.specs.declared.reader.statement.Statement.TheVariants as statement;
 
 use crate::script::{Event, Round, Script, Snapshot, Thread};
@@ -182,19 +183,19 @@ fn put_snapshots(alloc: Global, text: &mut String, snapshots: &[Snapshot]) -> Re
     Ok(())
 }
 
-/// Adds the line of an event.
-fn put_event(text: &mut String, event: &Event) -> Result<(), AllocError>
+/// Adds an event, as its line has it before the line feed.
+pub fn put_event(text: &mut String, event: &Event) -> Result<(), AllocError>
     ensures { OnOk result (string_bytes text.new
-        ≡ string_bytes text.old ++ statement_text (statement.Event event.now)) }
+        ≡ string_bytes text.old ++ event_spelling event.now) }
 {
     match event {
-        Event::Register { image } => write!(text, "register {image}\n"),
-        Event::Deregister { base } => write!(text, "deregister {base:x}\n"),
-        Event::Replace { image } => write!(text, "replace {image}\n"),
-        Event::Load { image } => write!(text, "load {image}\n"),
-        Event::Unload { base } => write!(text, "unload {base:x}\n"),
-        Event::Find { pc } => write!(text, "find {pc:x}\n"),
-        Event::Unwind { snapshot } => write!(text, "unwind {snapshot}\n"),
+        Event::Register { image } => write!(text, "register {image}"),
+        Event::Deregister { base } => write!(text, "deregister {base:x}"),
+        Event::Replace { image } => write!(text, "replace {image}"),
+        Event::Load { image } => write!(text, "load {image}"),
+        Event::Unload { base } => write!(text, "unload {base:x}"),
+        Event::Find { pc } => write!(text, "find {pc:x}"),
+        Event::Unwind { snapshot } => write!(text, "unwind {snapshot}"),
     }
 }
 
@@ -205,6 +206,7 @@ fn put_events(text: &mut String, events: &[Event]) -> Result<(), AllocError>
 {
     for event in events {
         put_event(text, event)?;
+        text.push_str("\n")?;
     }
     Ok(())
 }
