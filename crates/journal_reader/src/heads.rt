@@ -2,11 +2,10 @@
 
 ghost use Rattle.std.specs.Prelude.{◌≡◌, ◌++◌, codes, decimal, IfOk, OnOk};
 ghost use Rattle.std.specs.String.{string_bytes};
-ghost use Rattle.event_script.specs.EventLines.{event_spelling};
 ghost use Rattle.event_script.specs.Text.{event_number};
 ghost use Rattle.journal_reader.specs.Reading.{head_of, frame_head, end_head};
 
-use event_script::{Event, EventNumber};
+use event_script::{Event, EventNumber, put_event};
 use std::alloc::{AllocError, Global};
 use std::fmt::Write;
 
@@ -21,22 +20,6 @@ fn put_number(text: &mut String, number: EventNumber) -> Result<(), AllocError>
         event,
     } = number;
     write!(text, "{round}.{thread}.{event} ")
-}
-
-/// Adds an event, as its line in a script has it.
-fn put_event(text: &mut String, event: &Event) -> Result<(), AllocError>
-    ensures { OnOk result (string_bytes text.new
-        ≡ string_bytes text.old ++ event_spelling event.now) }
-{
-    match event {
-        Event::Register { image } => write!(text, "register {image}"),
-        Event::Deregister { base } => write!(text, "deregister {base:x}"),
-        Event::Replace { image } => write!(text, "replace {image}"),
-        Event::Load { image } => write!(text, "load {image}"),
-        Event::Unload { base } => write!(text, "unload {base:x}"),
-        Event::Find { pc } => write!(text, "find {pc:x}"),
-        Event::Unwind { snapshot } => write!(text, "unwind {snapshot}"),
-    }
 }
 
 /// Adds what the line of a frame says before its first address.

@@ -1,20 +1,9 @@
 //! Lines, as parts of a text.
 
-ghost use Rattle.std.specs.Prelude.{◌≡◌, ◌≢◌, ℕ, ◌+◌, ◌<◌, ◌≤◌, [], ◌∷◌, length, slice_index};
-ghost use Rattle.std.specs.Prelude.{◌==◌, MatchOption, IfSome, count_by};
+ghost use Rattle.std.specs.Prelude.{◌≡◌, ◌<◌, [], ◌∷◌, length, ◌==◌, MatchOption, IfSome, count_by};
 ghost use Rattle.event_script.specs.Fields.{pieces};
 
-/// Where the byte stands first, or the length of the bytes where it doesn't stand in them.
-pub fn place_of(bytes: &[u8], byte: u8) -> usize
-    ensures within { result ≤ length bytes.now }
-    ensures before { (k : ℕ) → k < result → slice_index bytes.now k ≢ byte }
-    ensures found { result < length bytes.now → slice_index bytes.now result ≡ byte }
-{
-    match memchr::memchr(byte, bytes) {
-        Some(place) => place,
-        None => bytes.len(),
-    }
-}
+use event_script::place_of;
 
 /// The first line without its line feed, and what follows it. None where no line feed comes.
 pub fn next_line(text: &[u8]) -> Option<(&[u8], &[u8])>
