@@ -10,6 +10,10 @@ pub record RecentData : Type 0 where
   pub slots : List ℕ
   pub used : ℕ
 
+abbrev pub recent : ℕ → List Member → List ℕ → ℕ → RecentData
+recent stamp members slots used =
+    record { stamp = stamp; members = members; slots = slots; used = used }
+
 -- each slot has a member, and stands in the order once
 pub record IsRecent (r : RecentData) : Type 0 where
   pub slots : AreSlots r.slots

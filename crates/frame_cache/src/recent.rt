@@ -23,23 +23,13 @@ pub(crate) struct Recent {
 }
 
 impl Model for Recent {
-    ghost use Rattle.frame_cache.specs.RecentData.{IsRecent, RecentData};
+    ghost use Rattle.frame_cache.specs.RecentData.{IsRecent, RecentData, recent};
 
     ghost Value = { RecentData };
 
-    ghost view = { λ r. record {
-      stamp = r.stamp;
-      members = r.members;
-      slots = r.order;
-      used = r.used;
-    } };
+    ghost view = { λ r. recent r.stamp r.members r.order r.used };
 
-    ghost invariant = { λ r. IsRecent record {
-      stamp = r.stamp;
-      members = r.members;
-      slots = r.order;
-      used = r.used;
-    } };
+    ghost invariant = { λ r. IsRecent (recent r.stamp r.members r.order r.used) };
 }
 
 impl Recent {
