@@ -19,6 +19,10 @@ pub record FdeWriterData : Type 0 where
   pub stands : Standings
   pub ever : List SectionData
 
+abbrev pub fde_writer : WriterData → ℕ → Standings → List SectionData → FdeWriterData
+fde_writer client low stands ever =
+    record { client = client; low = low; stands = stands; ever = ever }
+
 -- the registry's members now
 abbrev pub members_now : FdeWriterData → State
 members_now u = (plain_registry u.client).state

@@ -6,8 +6,7 @@ ghost use Rattle.std.specs.Prelude.{drop, take};
 ghost use Rattle.std.specs.Cow.{cow_value};
 ghost use Rattle.std.specs.Map.{keys_of, lookup};
 ghost use Rattle.fde_writer.specs.Places.{PlaceData};
-ghost use Rattle.fde_writer.specs.Standing.{HasAsMany, Rewrites, StandingData, Standings};
-ghost use Rattle.fde_writer.specs.Standing.{standing_under};
+ghost use Rattle.fde_writer.specs.Standing.{HasAsMany, Rewrites, StandingData, standing_under};
 
 use crate::places::Places;
 use crate::stack::Stack;

@@ -1,16 +1,14 @@
 //! The writer of sections.
 
-ghost use Rattle.std.specs.Prelude.{◌≡◌, ◌≢◌, ◌+◌, ◌-◌, ◌*◌, ◌^◌, ◌<◌, ◌≤◌, [], ◌∷◌, All, IfOk};
-ghost use Rattle.std.specs.Prelude.{false};
+ghost use Rattle.std.specs.Prelude.{◌≡◌, ◌≢◌, ◌+◌, ◌-◌, ◌*◌, ◌^◌, ◌<◌, ◌≤◌, [], ◌∷◌, IfOk, false};
 ghost use Rattle.std.specs.Prelude.{IsTrue, ◌↔◌, ◌++◌, length, vec_len, vec_capacity};
 ghost use Rattle.std.specs.Arc.{arc_value};
 ghost use Rattle.fde_members.specs.Members.{AreNear, section_members};
 ghost use Rattle.sole_writer.specs.Writers.{plain_registry};
 ghost use Rattle.word_rule.specs.Logs.{reader_of};
 ghost use Rattle.word_rule.specs.Places.{ALLOWANCE};
-ghost use Rattle.fde_writer.specs.Outcomes.{IsDeregistration, IsGivenAway, IsMoving};
-ghost use Rattle.fde_writer.specs.Outcomes.{IsRegistration};
-ghost use Rattle.fde_writer.specs.Outcomes.{not_put, refused};
+ghost use Rattle.fde_writer.specs.Outcomes.{IsDeregistration, IsRegistration, not_put, refused};
+ghost use Rattle.fde_writer.specs.Outcomes.{IsGivenAway, IsMoving};
 ghost use Rattle.fde_writer.specs.Places.{all_registered, placed_members};
 ghost use Rattle.fde_writer.specs.Sections.{IsFdeWriter, members_due};
 ghost use Rattle.fde_writer.specs.Standing.{standing_under};
@@ -52,23 +50,15 @@ pub struct FdeWriter {
 
 impl Model for FdeWriter {
     ghost use Rattle.std.specs.Prelude.{map};
-    ghost use Rattle.fde_writer.specs.Sections.{FdeWriterData, IsFdeWriterWith};
+    ghost use Rattle.fde_writer.specs.Sections.{FdeWriterData, IsFdeWriterWith, fde_writer};
 
     ghost Value = { FdeWriterData };
 
-    ghost view = { λ w. record {
-      client = w.client;
-      low = w.low;
-      stands = w.book;
-      ever = map (λ s. s.value.section) w.given.items;
-    } };
+    ghost view = { λ w.
+        fde_writer w.client w.low w.book (map (λ s. s.value.section) w.given.items) };
 
-    ghost invariant = { λ w. IsFdeWriterWith w.due record {
-      client = w.client;
-      low = w.low;
-      stands = w.book;
-      ever = map (λ s. s.value.section) w.given.items;
-    } };
+    ghost invariant = { λ w. IsFdeWriterWith w.due
+        (fde_writer w.client w.low w.book (map (λ s. s.value.section) w.given.items)) };
 }
 
 impl FdeWriter {
