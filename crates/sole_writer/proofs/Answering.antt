@@ -15,10 +15,9 @@ use Rattle.node_store.specs.Locking.{IsBusyAt}
 use Rattle.node_store.specs.declared.locking.Busy.{Busy}
 use Rattle.node_store.specs.declared.locking.Busy.TheVariants as busy
 use Rattle.registry_core.specs.Begun.{TriesLoad, TriesUnload}
-use Rattle.reg_model.specs.History.{IsHistory, after, state_after}
+use Rattle.reg_model.specs.History.{IsHistory, state_after}
 use Rattle.reg_model.specs.Receipt.{IsRight, accepted, moment}
 use Rattle.reg_model.specs.SpanData.{IsSpan}
-use Rattle.reg_model.specs.State.{State}
 use Rattle.reg_model.specs.declared.answer.Inserted.{Inserted}
 use Rattle.reg_model.specs.declared.answer.Inserted.TheVariants as inserted
 use Rattle.reg_model.specs.declared.answer.Loading.{Loading}
@@ -28,27 +27,19 @@ use Rattle.reg_model.specs.declared.answer.Receipt.TheVariants as receipt
 use Rattle.reg_model.specs.declared.answer.Removed.{Removed}
 use Rattle.reg_model.specs.declared.answer.Removed.TheVariants as removed
 use Rattle.reg_model.specs.declared.answer.Update.{Update}
-use Rattle.reg_model.specs.declared.answer.Update.TheVariants.{Register, Deregister, Replace, Load, Unload}
+use Rattle.reg_model.specs.declared.answer.Update.TheVariants.{Register, Deregister, Load, Unload}
 use Rattle.reg_model.specs.declared.span.Member.{Member}
 use Rattle.word_rule.specs.CallerData.{CallerData, WordsData, due, surplus}
 use Rattle.word_rule.specs.Callers.{IsAlone, IsIdle, IsWhole, start}
 use Rattle.word_rule.specs.Logs.{load_of}
 use Rattle.word_rule.specs.Places.{ALLOWANCE, CALL_CREDIT}
 use Rattle.word_rule.specs.VersionLocks.{lock_place}
+use Rattle.word_rule.proofs.Listings.{state_fixed}
 use Rattle.word_rule.specs.declared.log.LockId.TheVariants as lock
 use Rattle.word_rule.specs.declared.log.Receipts.{Receipts}
 use Rattle.word_rule.specs.declared.log.Terms.{Terms}
 use Rattle.sole_writer.specs.Writers.{AddsSpan, IsWriter, WriterAnswers, WriterData, WriterStops, begun_call}
 use Rattle.sole_writer.proofs.Seeing.{Told, answered, still_writer}
-
--- how many may be loaded stays
-loads_stay : (s : State) (us : List Update) → (state_after s us).loads ≡ s.loads
-loads_stay s [] = refl
-loads_stay s (Register m ∷ us) = loads_stay (after (Register m) s) us
-loads_stay s (Deregister base ∷ us) = loads_stay (after (Deregister base) s) us
-loads_stay s (Replace m ∷ us) = loads_stay (after (Replace m) s) us
-loads_stay s (Load m ∷ us) = loads_stay (after (Load m) s) us
-loads_stay s (Unload base ∷ us) = loads_stay (after (Unload base) s) us
 
 one_at_most : (taken : Bool) → one_if taken ≤ 1
 one_at_most true = omega arith
@@ -122,7 +113,7 @@ module _ (t : Terms) (b k : CallerData) (idle : IsIdle b.log) (enough : CALL_CRE
       refuses t b k (receipt.Load m (loading.Overlap other stamp)) refl a.1 a.0.0 a.0.1 a.0.2
   loaded m span (loading.LoadFull stamp) (spare, s) =
       let a = loads m (loading.LoadFull stamp) s in
-      refuses t b k (receipt.Load m (loading.LoadFull stamp)) refl a.1 a.0.0 a.0.1 (a.0.2, a.0.3 ∙ sym (loads_stay (start t) k.log.past))
+      refuses t b k (receipt.Load m (loading.LoadFull stamp)) refl a.1 a.0.0 a.0.1 (a.0.2, a.0.3 ∙ sym (state_fixed (start t) k.log.past).1)
   loaded m span loading.Spent (few, same) = absurd (omega (arith, few, enough))
 
   pub unloaded : (base : ℕ) (answer : Removed) → TriesUnload t base b k answer → Told (receipt.Unload base answer) t b k
