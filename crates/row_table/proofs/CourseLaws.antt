@@ -8,7 +8,7 @@ use Rattle.frame_parse.specs.Instructions.{PlacedInstruction}
 use Rattle.frame_rows.specs.declared.placed_row.PlacedRow.{PlacedRow}
 use Rattle.frame_rows.specs.Rows.{applied, unset}
 use Rattle.row_table.specs.declared.transitions.Transition.{Transition}
-use Rattle.row_table.specs.Courses.{CourseData, Standing, state_in, standing, AreStates, HaveRowNumbers, IsCourse}
+use Rattle.row_table.specs.Courses.{CourseData, Standing, course, state_in, standing, AreStates, HaveRowNumbers, IsCourse}
 use Rattle.row_table.specs.Tables.{IsNumbered}
 use Rattle.row_table.specs.Transitions.{IsNumberOf, IsLonger, IsTransition}
 
@@ -174,9 +174,6 @@ copied_next old rows new states kept copied made left place number row was some 
     subst (λ (l : List ℕ). HasCopied old new states kept l m) (sym new_copied) at_new
 
 -- ---- a course
-
-abbrev pub course : List PlacedRow → List PlacedRow → ℕ → ℕ → List ℕ → CourseData
-course distinct states base here kept = record { distinct = distinct; states = states; base = base; here = here; kept = kept }
 
 module _ (distinct states : List PlacedRow) (base here : ℕ) (kept : List ℕ) (numbers : List (Option ℕ)) (met : List Transition) (is : IsCourse (course distinct states base here kept) numbers met) where
   -- back at the state that was remembered last

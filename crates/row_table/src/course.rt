@@ -37,25 +37,14 @@ pub(crate) struct Course {
 }
 
 impl Model for Course {
-    ghost use Rattle.row_table.specs.Courses.{CourseData, IsCourse};
+    ghost use Rattle.row_table.specs.Courses.{CourseData, IsCourse, course};
 
     ghost Value = { CourseData };
 
-    ghost view = { λ c. record {
-      distinct = c.distinct;
-      states = c.states;
-      base = c.base;
-      here = c.here;
-      kept = c.kept;
-    } };
+    ghost view = { λ c. course c.distinct c.states c.base c.here c.kept };
 
-    ghost invariant = { λ c. IsCourse (record {
-      distinct = c.distinct;
-      states = c.states;
-      base = c.base;
-      here = c.here;
-      kept = c.kept;
-    }) c.numbers.items c.transitions };
+    ghost invariant = { λ c. IsCourse (course c.distinct c.states c.base c.here c.kept)
+        c.numbers.items c.transitions };
 }
 
 /// Copies the rows of remembered states behind others: their states among these.

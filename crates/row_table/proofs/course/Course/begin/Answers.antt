@@ -1,5 +1,5 @@
-use Rattle.row_table.specs.Courses.{CourseData}
-use Rattle.row_table.proofs.CourseLaws.{course, longer_course, begun_course, begun}
+use Rattle.row_table.specs.Courses.{CourseData, course}
+use Rattle.row_table.proofs.CourseLaws.{longer_course, begun_course, begun}
 use Rattle.row_table.proofs.course.Course.begin.Goals as goal
 
 pub invariant_of-self-in_err-state : goal.invariant_of-self-in_err-state

@@ -1,6 +1,6 @@
 use Rattle.std.proofs.Common.{ap, ◌∙◌}
-use Rattle.row_table.specs.Courses.{standing}
-use Rattle.row_table.proofs.CourseLaws.{course, longer_course, stayed_course, went_course, went}
+use Rattle.row_table.specs.Courses.{course, standing}
+use Rattle.row_table.proofs.CourseLaws.{longer_course, stayed_course, went_course, went}
 use Rattle.row_table.proofs.course.Course.work_out.Goals as goal
 
 pub invariant_of-self : goal.invariant_of-self
