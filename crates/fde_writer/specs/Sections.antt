@@ -19,6 +19,7 @@ pub record FdeWriterData : Type 0 where
   pub stands : Standings
   pub ever : List SectionData
 
+-- a writer of FDEs by its parts
 abbrev pub fde_writer : WriterData → ℕ → Standings → List SectionData → FdeWriterData
 fde_writer client low stands ever =
     record { client = client; low = low; stands = stands; ever = ever }

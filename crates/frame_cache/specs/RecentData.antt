@@ -10,6 +10,7 @@ pub record RecentData : Type 0 where
   pub slots : List ℕ
   pub used : ℕ
 
+-- the most recent entries by their parts
 abbrev pub recent : ℕ → List Member → List ℕ → ℕ → RecentData
 recent stamp members slots used =
     record { stamp = stamp; members = members; slots = slots; used = used }

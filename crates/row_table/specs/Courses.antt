@@ -15,6 +15,7 @@ pub record CourseData : Type 0 where
   pub here : ℕ
   pub kept : List ℕ
 
+-- a course by its parts
 abbrev pub course : List PlacedRow → List PlacedRow → ℕ → ℕ → List ℕ → CourseData
 course distinct states base here kept =
     record { distinct = distinct; states = states; base = base; here = here; kept = kept }
