@@ -1,1 +1,3 @@
 pub mod Handles
+pub mod Kinds
+pub mod Limits
