@@ -27,17 +27,23 @@ begun_count false = 0
 abbrev pub empty_cache : Half → CacheData
 empty_cache half = record { half = half; stamp = 0; entries = [] }
 
--- A client that has called nothing yet.
-abbrev pub fresh_client : WordsData → CallerData → ℕ → ClientData
-fresh_client words me name = record {
+-- A client of these parts.
+abbrev pub client_data : WordsData → CallerData → CacheData → CacheData → Bool → Bool → ℕ
+    → ClientData
+client_data words me registered loaded begun lost name = record {
   words = words;
   me = me;
-  registered = empty_cache Registered;
-  loaded = empty_cache Loaded;
-  begun = false;
-  lost = false;
+  registered = registered;
+  loaded = loaded;
+  begun = begun;
+  lost = lost;
   name = name;
 }
+
+-- A client that has called nothing yet.
+abbrev pub fresh_client : WordsData → CallerData → ℕ → ClientData
+fresh_client words me name =
+    client_data words me (empty_cache Registered) (empty_cache Loaded) false false name
 
 -- A cache is of this half, and its caller had each of its entries answered.
 abbrev pub IsCacheOf : Half → CacheData → Log → Type 0

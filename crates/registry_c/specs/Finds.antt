@@ -2,6 +2,7 @@
 use Rattle.std.specs.Prelude.{◌≡◌, ℕ, ◌⊎◌, Option, Some, None, Result, Ok, Err, IfOk, IsOk}
 use Rattle.array_publish.specs.Lookup.{LooksUp}
 use Rattle.btree_lookup.specs.Tries.{TriesTree}
+use Rattle.c_handle.specs.Kinds.{NOWHERE, REGISTERED, LOADED, FIND_AGAIN}
 use Rattle.reg_model.specs.Receipt.{IsPlace}
 use Rattle.reg_model.specs.declared.answer.Again.{Again}
 use Rattle.frame_cache.specs.CacheData.{CacheData}
@@ -15,7 +16,7 @@ use Rattle.word_rule.specs.CallerData.{CallerData}
 use Rattle.word_rule.specs.Callers.{IsAlone}
 use Rattle.word_rule.specs.declared.log.Terms.{Terms}
 use Rattle.registry_c.specs.Clients.{ClientData}
-use Rattle.registry_c.specs.Kinds.{MISS, HIT, AGAIN, NOWHERE, REGISTERED, LOADED, FIND_AGAIN}
+use Rattle.registry_c.specs.Kinds.{MISS, HIT, AGAIN}
 use Rattle.registry_c.specs.Members.{member_told, no_member}
 use Rattle.registry_c.specs.declared.find.LookupBy.{LookupBy}
 use Rattle.registry_c.specs.declared.find.LookupBy.TheVariants as by

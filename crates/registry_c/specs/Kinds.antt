@@ -1,4 +1,4 @@
--- The kinds of answers, as C is told them.
+-- The kinds of answers, as C is told them; c_handle has those of a lookup in both halves.
 use Rattle.std.specs.Prelude.{ℕ}
 
 -- of an update
@@ -26,7 +26,7 @@ NO_MEMBER = 6
 abbrev pub NO_PAYLOAD : ℕ
 NO_PAYLOAD = 7
 
--- of one half
+-- of a lookup in one half
 abbrev pub MISS : ℕ
 MISS = 0
 
@@ -35,16 +35,3 @@ HIT = 1
 
 abbrev pub AGAIN : ℕ
 AGAIN = 2
-
--- of both
-abbrev pub NOWHERE : ℕ
-NOWHERE = 0
-
-abbrev pub REGISTERED : ℕ
-REGISTERED = 1
-
-abbrev pub LOADED : ℕ
-LOADED = 2
-
-abbrev pub FIND_AGAIN : ℕ
-FIND_AGAIN = 3

@@ -1,31 +1,19 @@
 -- A registry that is made for C, or why it isn't.
-use Rattle.std.specs.Prelude.{◌≡◌, ℕ, ◌≤◌, false, List, map, Option, Result, Ok, Err}
+use Rattle.std.specs.Prelude.{◌≡◌, ℕ, false, List, map, Option, Result, Ok, Err}
+use Rattle.c_handle.specs.Limits.{MayHaveSize, IsTooFewOrMany, size_told}
 use Rattle.word_rule.specs.Logs.{first_log}
 use Rattle.word_rule.specs.Places.{ALLOWANCE}
 use Rattle.reg_model.specs.declared.answer.Half.TheVariants.{Loaded, Registered}
 use Rattle.registry_c.specs.Clients.{ClientData, empty_cache, opened}
 use Rattle.registry_c.specs.Members.{AreGivenMembers, given_member}
 use Rattle.registry_c.specs.declared.limits.LimitFault.{LimitFault}
-use Rattle.registry_c.specs.declared.limits.LimitFault.TheVariants.{Fixed, Loads, NoMemory, Nodes}
+use Rattle.registry_c.specs.declared.limits.LimitFault.TheVariants.{Fixed, NoMemory, Size}
 use Rattle.registry_c.specs.declared.limits.RegistryLimits.{RegistryLimits}
 use Rattle.registry_c.specs.declared.member.RegistryMember.{RegistryMember}
-
--- so many nodes, and so many loads, there may be
-abbrev pub HasNodes : RegistryLimits → Type 0
-HasNodes l = (4 ≤ l.nodes) × (l.nodes ≤ 16384)
-
-abbrev pub HasLoads : RegistryLimits → Type 0
-HasLoads l = (1 ≤ l.loads) × (l.loads ≤ 1024)
 
 -- the fixed members are members, each above the one before
 abbrev pub AreFixedMembers : RegistryLimits → List RegistryMember → Type 0
 AreFixedMembers l fixed = AreGivenMembers l.payloads 0 fixed
-
--- why so many nodes, or loads, may not be
-abbrev pub IsPastLimits : RegistryLimits → LimitFault → Type 0
-IsPastLimits l Nodes = ¬ HasNodes l
-IsPastLimits l Loads = HasNodes l × (¬ HasLoads l)
-IsPastLimits l _ = ⊥
 
 -- why the fixed members aren't kept
 abbrev pub IsUnfixed : ℕ → List RegistryMember → LimitFault → Type 0
@@ -56,18 +44,16 @@ pub record IsFirst (l : RegistryLimits) (fixed : List RegistryMember) (c : Clien
 -- The registry was made; or the first thing that stands against it is this one. That memory ran out
 -- says nothing.
 abbrev pub IsNew : RegistryLimits → List RegistryMember → Result ClientData LimitFault → Type 0
-IsNew l fixed (Ok c) = HasNodes l × HasLoads l × AreFixedMembers l fixed × IsFirst l fixed c
+IsNew l fixed (Ok c) = MayHaveSize l.nodes l.loads × AreFixedMembers l fixed × IsFirst l fixed c
 IsNew l fixed (Err NoMemory) = Unit {0}
-IsNew l fixed (Err Nodes) = ¬ HasNodes l
-IsNew l fixed (Err Loads) = HasNodes l × (¬ HasLoads l)
-IsNew l fixed (Err Fixed) = HasNodes l × HasLoads l × (¬ AreFixedMembers l fixed)
+IsNew l fixed (Err (Size fault)) = IsTooFewOrMany l.nodes l.loads fault
+IsNew l fixed (Err Fixed) = MayHaveSize l.nodes l.loads × (¬ AreFixedMembers l fixed)
 
 -- what C is told of it
 abbrev pub made_told : Result ClientData LimitFault → ℕ
 made_told (Ok c) = 0
 made_told (Err NoMemory) = 1
-made_told (Err Nodes) = 2
-made_told (Err Loads) = 3
+made_told (Err (Size fault)) = size_told fault
 made_told (Err Fixed) = 4
 
 -- C has the handle, or why there is none.

@@ -15,12 +15,14 @@ pub record ReaderData : Type 0 where
   pub words : WordsData
   pub me : CallerData
 
+-- a reader of these words
+abbrev pub reader_data : WordsData → CallerData → ReaderData
+reader_data words me = record { words = words; me = me }
+
 -- a reader that has seen what a caller or a reader has
 abbrev pub reader_beside : WordsData → CallerData → ReaderData
-reader_beside words me = record {
-  words = words;
-  me = record { table = me.table; left = 0; log = reader_of me.log };
-}
+reader_beside words me =
+    reader_data words (record { table = me.table; left = 0; log = reader_of me.log })
 
 -- the handle of a reader that was made, or nothing
 abbrev pub HoldsReader : Bool → ReaderData → Option ReaderData → Type 0

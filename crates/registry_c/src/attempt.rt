@@ -1,8 +1,9 @@
 //! What came of a try of an update, and what C is told of it.
 
 ghost use Rattle.std.specs.Prelude.{◌≡◌};
-ghost use Rattle.registry_c.specs.Answers.{done_told, fault_kind, insertion_told, loading_told};
-ghost use Rattle.registry_c.specs.Answers.{overlap_told, removal_told, removed_told};
+ghost use Rattle.registry_c.specs.Answers.{answer_or_told, done_told, fault_kind};
+ghost use Rattle.registry_c.specs.Answers.{insertion_told, loading_told, overlap_told};
+ghost use Rattle.registry_c.specs.Answers.{removal_told, removed_told};
 ghost use Rattle.registry_c.specs.Answers.{replacement_told, stamp_told};
 
 use crate::kinds::{ABSENT, BUSY, DONE, FULL, NO_MEMBER, NO_PAYLOAD, OVERLAP, SPENT};
@@ -85,70 +86,72 @@ impl RegistryAnswer {
         }
     }
 
-    pub(crate) fn of_insertion(attempt: Attempt<Inserted>) -> RegistryAnswer
-        ensures { result ≡ insertion_told attempt }
+    pub(crate) fn of_insertion(answer: Result<Inserted, RegistryAnswer>) -> RegistryAnswer
+        ensures { result ≡ insertion_told answer }
     {
-        match attempt {
-            Attempt::Answered { answer } => match answer {
-                Inserted::Done { number } => RegistryAnswer::done(number),
-                Inserted::Overlap { member, stamp } => RegistryAnswer::overlap(&member, stamp),
-                Inserted::Full { stamp } => RegistryAnswer::at(FULL, stamp),
-                Inserted::Spent => RegistryAnswer::at(SPENT, 0),
-            },
-            Attempt::Busy { .. } => RegistryAnswer::at(BUSY, 0),
-            Attempt::NoMember { why } => RegistryAnswer::at(kind_of(why), 0),
+        match answer {
+            Ok(Inserted::Done { number }) => RegistryAnswer::done(number),
+            Ok(Inserted::Overlap { member, stamp }) => RegistryAnswer::overlap(&member, stamp),
+            Ok(Inserted::Full { stamp }) => RegistryAnswer::at(FULL, stamp),
+            Ok(Inserted::Spent) => RegistryAnswer::at(SPENT, 0),
+            Err(told) => told,
         }
     }
 
-    pub(crate) fn of_load(attempt: Attempt<Loading>) -> RegistryAnswer
-        ensures { result ≡ loading_told attempt }
+    /// As of an insertion.
+    pub(crate) fn of_load(answer: Result<Loading, RegistryAnswer>) -> RegistryAnswer
+        ensures { result ≡ loading_told answer }
     {
-        match attempt {
-            Attempt::Answered { answer } => match answer {
-                Loading::Done { number } => RegistryAnswer::done(number),
-                Loading::Overlap { member, stamp } => RegistryAnswer::overlap(&member, stamp),
-                Loading::LoadFull { stamp } => RegistryAnswer::at(FULL, stamp),
-                Loading::Spent => RegistryAnswer::at(SPENT, 0),
-            },
-            Attempt::Busy { .. } => RegistryAnswer::at(BUSY, 0),
-            Attempt::NoMember { why } => RegistryAnswer::at(kind_of(why), 0),
-        }
+        RegistryAnswer::of_insertion(match answer {
+            Ok(Loading::Done { number }) => Ok(Inserted::Done { number }),
+            Ok(Loading::Overlap { member, stamp }) => Ok(Inserted::Overlap { member, stamp }),
+            Ok(Loading::LoadFull { stamp }) => Ok(Inserted::Full { stamp }),
+            Ok(Loading::Spent) => Ok(Inserted::Spent),
+            Err(told) => Err(told),
+        })
     }
 
     /// Of a replacement of this member, as C told it.
     pub(crate) fn of_replacement(
         told: &RegistryMember,
-        attempt: Attempt<Replaced>,
+        answer: Result<Replaced, RegistryAnswer>,
     ) -> RegistryAnswer
-        ensures { result ≡ replacement_told told.now attempt }
+        ensures { result ≡ replacement_told told.now answer }
     {
-        match attempt {
-            Attempt::Answered { answer } => match answer {
-                Replaced::Done { number, payload } => RegistryAnswer {
-                    kind: DONE,
-                    number,
-                    stamp: 0,
-                    member: RegistryMember { payload, ..*told },
-                },
-                Replaced::NotFound { stamp } => RegistryAnswer::at(ABSENT, stamp),
-                Replaced::Spent => RegistryAnswer::at(SPENT, 0),
+        match answer {
+            Ok(Replaced::Done { number, payload }) => RegistryAnswer {
+                kind: DONE,
+                number,
+                stamp: 0,
+                member: RegistryMember { payload, ..*told },
             },
-            Attempt::Busy { .. } => RegistryAnswer::at(BUSY, 0),
-            Attempt::NoMember { why } => RegistryAnswer::at(kind_of(why), 0),
+            Ok(Replaced::NotFound { stamp }) => RegistryAnswer::at(ABSENT, stamp),
+            Ok(Replaced::Spent) => RegistryAnswer::at(SPENT, 0),
+            Err(told) => told,
         }
     }
 
-    pub(crate) fn of_removal(attempt: Attempt<Removed>) -> RegistryAnswer
-        ensures { result ≡ removal_told attempt }
+    pub(crate) fn of_removal(answer: Result<Removed, RegistryAnswer>) -> RegistryAnswer
+        ensures { result ≡ removal_told answer }
     {
-        match attempt {
-            Attempt::Answered { answer } => match answer {
-                Removed::Done { number, member } => RegistryAnswer::removed(number, &member),
-                Removed::NotFound { stamp } => RegistryAnswer::at(ABSENT, stamp),
-                Removed::Spent => RegistryAnswer::at(SPENT, 0),
-            },
-            Attempt::Busy { .. } => RegistryAnswer::at(BUSY, 0),
-            Attempt::NoMember { why } => RegistryAnswer::at(kind_of(why), 0),
+        match answer {
+            Ok(Removed::Done { number, member }) => RegistryAnswer::removed(number, &member),
+            Ok(Removed::NotFound { stamp }) => RegistryAnswer::at(ABSENT, stamp),
+            Ok(Removed::Spent) => RegistryAnswer::at(SPENT, 0),
+            Err(told) => told,
+        }
+    }
+}
+
+impl<A> Attempt<A> {
+    /// The answer, or what C is told where there is none.
+    pub(crate) fn answer(self) -> Result<A, RegistryAnswer>
+        ensures { result ≡ answer_or_told self }
+    {
+        match self {
+            Attempt::Answered { answer } => Ok(answer),
+            Attempt::Busy { .. } => Err(RegistryAnswer::at(BUSY, 0)),
+            Attempt::NoMember { why } => Err(RegistryAnswer::at(kind_of(why), 0)),
         }
     }
 }

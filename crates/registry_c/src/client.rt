@@ -9,6 +9,7 @@ ghost use Rattle.registry_core.specs.Rounds.{IsWholeWhereAlone};
 
 use crate::limits::{LimitFault, RegistryLimits, fixed_members};
 use crate::member::RegistryMember;
+use c_handle::check_size;
 use frame_cache::FrameCache;
 use reg_model::Half;
 use registry_core::Registry;
@@ -39,29 +40,16 @@ pub struct Client {
 impl Model for Client {
     ghost use Rattle.std.specs.Prelude.{◌≡◌};
     ghost use Rattle.std.specs.Arc.{arc_value};
-    ghost use Rattle.registry_c.specs.Clients.{ClientData, IsClient};
+    ghost use Rattle.registry_c.specs.Clients.{ClientData, IsClient, client_data};
 
     ghost Value = { ClientData };
 
-    ghost view = { λ c. record {
-      words = arc_value c.registry;
-      me = c.me;
-      registered = c.registered;
-      loaded = c.loaded;
-      begun = c.begun;
-      lost = c.lost;
-      name = c.name;
-    } };
+    ghost view = { λ c.
+        client_data (arc_value c.registry) c.me c.registered c.loaded c.begun c.lost c.name };
 
-    ghost invariant = { λ c. IsClient record {
-      words = arc_value c.registry;
-      me = c.me;
-      registered = c.registered;
-      loaded = c.loaded;
-      begun = c.begun;
-      lost = c.lost;
-      name = c.name;
-    } × (c.payloads ≡ (arc_value c.registry).terms.payloads) };
+    ghost invariant = { λ c. IsClient
+        (client_data (arc_value c.registry) c.me c.registered c.loaded c.begun c.lost c.name)
+        × (c.payloads ≡ (arc_value c.registry).terms.payloads) };
 }
 
 impl Client {
@@ -74,7 +62,10 @@ impl Client {
         ensures { MatchResult result (λ client. IsNew limits.now fixed.now (Ok client.value))
             (λ fault. IsNew limits.now fixed.now (Err fault)) }
     {
-        limits.checked()?;
+        match check_size(limits.nodes, limits.loads) {
+            Ok(()) => {}
+            Err(fault) => return Err(LimitFault::Size(fault)),
+        }
         let members = fixed_members(alloc, limits.payloads, fixed)?;
         let made = Registry::new(alloc, limits.nodes, limits.loads, limits.payloads, members);
         let Ok((registry, me)) = made else {

@@ -8,8 +8,9 @@ ghost use Rattle.registry_c.specs.Finds.{found_told, loaded_told, place_told};
 
 use crate::client::Client;
 use crate::handles::ClientHandle;
-use crate::kinds::{AGAIN, FIND_AGAIN, HIT, LOADED, MISS, NOWHERE, REGISTERED};
+use crate::kinds::{AGAIN, HIT, MISS};
 use crate::member::RegistryMember;
+use c_handle::{FIND_AGAIN, LOADED, NOWHERE, REGISTERED};
 use frame_cache::laws::caches_go_on_to_fit;
 use reg_model::{Again, Found, Place};
 use std::alloc::Global;

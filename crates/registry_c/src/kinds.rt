@@ -21,11 +21,3 @@ pub(crate) const MISS: u32 = 0;
 pub(crate) const HIT: u32 = 1;
 
 pub(crate) const AGAIN: u32 = 2;
-
-pub(crate) const NOWHERE: u32 = 0;
-
-pub(crate) const REGISTERED: u32 = 1;
-
-pub(crate) const LOADED: u32 = 2;
-
-pub(crate) const FIND_AGAIN: u32 = 3;

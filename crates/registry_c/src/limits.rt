@@ -1,11 +1,11 @@
 //! What a registry is made with.
 
-ghost use Rattle.std.specs.Prelude.{◌≡◌, MatchResult, Err, IfErr, IfOk, OnOk, map};
-ghost use Rattle.registry_c.specs.Limits.{HasLoads, HasNodes, IsPastLimits, IsUnfixed};
-ghost use Rattle.registry_c.specs.Limits.{made_told};
+ghost use Rattle.std.specs.Prelude.{◌≡◌, Err, IfErr, IfOk, OnOk, map};
+ghost use Rattle.registry_c.specs.Limits.{IsUnfixed, made_told};
 ghost use Rattle.registry_c.specs.Members.{AreGivenMembers, given_member};
 
 use crate::member::RegistryMember;
+use c_handle::SizeFault;
 use reg_model::Member;
 use std::alloc::Global;
 
@@ -24,8 +24,7 @@ pub struct RegistryLimits {
 #[derive(Clone, Copy, Debug, PartialEq, Eq)]
 pub enum LimitFault {
     NoMemory,
-    Nodes,
-    Loads,
+    Size(SizeFault),
     Fixed,
 }
 
@@ -36,32 +35,9 @@ impl LimitFault {
     {
         match self {
             LimitFault::NoMemory => 1,
-            LimitFault::Nodes => 2,
-            LimitFault::Loads => 3,
+            LimitFault::Size(fault) => fault.told(),
             LimitFault::Fixed => 4,
         }
-    }
-}
-
-const MIN_NODES: u32 = 4;
-
-const MAX_NODES: u32 = 16384;
-
-const MAX_LOADS: u32 = 1024;
-
-impl RegistryLimits {
-    /// That there may be so many nodes, and so many members loaded.
-    pub(crate) fn checked(&self) -> Result<(), LimitFault>
-        ensures { MatchResult result (λ _. HasNodes self.now × HasLoads self.now)
-            (IsPastLimits self.now) }
-    {
-        if self.nodes < MIN_NODES || self.nodes > MAX_NODES {
-            return Err(LimitFault::Nodes);
-        }
-        if self.loads < 1 || self.loads > MAX_LOADS {
-            return Err(LimitFault::Loads);
-        }
-        Ok(())
     }
 }
 

@@ -4,7 +4,7 @@
 ghost use Rattle.std.specs.Prelude.{◌≡◌, IfOk, length};
 ghost use Rattle.std.specs.Arc.{arc_value};
 ghost use Rattle.registry_c.specs.Readers.{ReaderAsksLoaded, ReaderAsksRegistered, ReaderFinds};
-ghost use Rattle.registry_c.specs.Readers.{reader_beside};
+ghost use Rattle.registry_c.specs.Readers.{reader_beside, reader_data};
 
 use crate::client::Client;
 use reg_model::{Again, Found, NoMemory, Place};
@@ -24,11 +24,11 @@ pub struct RegistryReader {
 impl Model for RegistryReader {
     ghost use Rattle.std.specs.Prelude.{◌≡◌};
     ghost use Rattle.std.specs.Arc.{arc_value};
-    ghost use Rattle.registry_c.specs.Readers.{ReaderData};
+    ghost use Rattle.registry_c.specs.Readers.{ReaderData, reader_data};
 
     ghost Value = { ReaderData };
 
-    ghost view = { λ r. record { words = arc_value r.registry; me = r.me } };
+    ghost view = { λ r. reader_data (arc_value r.registry) r.me };
 
     ghost invariant = { λ r. r.me.table ≡ (arc_value r.registry).table };
 }
@@ -63,7 +63,7 @@ impl RegistryReader {
         me: Reader,
     ) -> Result<Box<RegistryReader, Global>, NoMemory>
         requires { me.table ≡ (arc_value registry.now).table }
-        ensures { IfOk result (λ r. r.value ≡ record { words = arc_value registry.now; me = me }) }
+        ensures { IfOk result (λ r. r.value ≡ reader_data (arc_value registry.now) me) }
     {
         let Ok(registry) = Arc::try_clone(registry) else {
             return Err(NoMemory);

@@ -183,7 +183,7 @@ pub extern "C" fn registry_c_register(
         back.new.held }
 {
     let mut open = client.open(alloc);
-    *answer = RegistryAnswer::of_insertion(open.register(member));
+    *answer = RegistryAnswer::of_insertion(open.register(member).answer());
     *back = ClientHandle::of(open);
 }
 
@@ -202,7 +202,7 @@ pub extern "C" fn registry_c_deregister(
         back.new.held }
 {
     let mut open = client.open(alloc);
-    *answer = RegistryAnswer::of_removal(open.deregister(base));
+    *answer = RegistryAnswer::of_removal(open.deregister(base).answer());
     *back = ClientHandle::of(open);
 }
 
@@ -222,7 +222,7 @@ pub extern "C" fn registry_c_replace(
         client.held back.new.held }
 {
     let mut open = client.open(alloc);
-    *answer = RegistryAnswer::of_replacement(member, open.replace(member));
+    *answer = RegistryAnswer::of_replacement(member, open.replace(member).answer());
     *back = ClientHandle::of(open);
 }
 
@@ -241,7 +241,7 @@ pub extern "C" fn registry_c_load(
         back.new.held }
 {
     let mut open = client.open(alloc);
-    *answer = RegistryAnswer::of_load(open.load(member));
+    *answer = RegistryAnswer::of_load(open.load(member).answer());
     *back = ClientHandle::of(open);
 }
 
@@ -260,6 +260,6 @@ pub extern "C" fn registry_c_unload(
         back.new.held }
 {
     let mut open = client.open(alloc);
-    *answer = RegistryAnswer::of_removal(open.unload(base));
+    *answer = RegistryAnswer::of_removal(open.unload(base).answer());
     *back = ClientHandle::of(open);
 }
