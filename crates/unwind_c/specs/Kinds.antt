@@ -1,4 +1,4 @@
--- The kinds of answers, as C is told them.
+-- The kinds of answers, as C is told them; c_handle has those of a lookup.
 use Rattle.std.specs.Prelude.{ℕ}
 
 -- of a call that registers a section, gives one up or moves one
@@ -34,16 +34,3 @@ SECTION_LEFT = 9
 
 abbrev pub SECTION_INTO_STUCK : ℕ
 SECTION_INTO_STUCK = 10
-
--- of a lookup
-abbrev pub FDE_MISS : ℕ
-FDE_MISS = 0
-
-abbrev pub FDE_REGISTERED : ℕ
-FDE_REGISTERED = 1
-
-abbrev pub FDE_LOADED : ℕ
-FDE_LOADED = 2
-
-abbrev pub FDE_AGAIN : ℕ
-FDE_AGAIN = 3

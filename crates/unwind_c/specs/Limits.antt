@@ -1,24 +1,12 @@
 -- A library that is made for C, or why it isn't.
-use Rattle.std.specs.Prelude.{◌≡◌, ℕ, ◌-◌, ◌^◌, ◌≤◌, false, [], Option, Some, None, Result, Ok, Err}
+use Rattle.std.specs.Prelude.{◌≡◌, ℕ, ◌-◌, ◌^◌, false, [], Option, Some, None, Result, Ok, Err}
+use Rattle.c_handle.specs.Limits.{MayHaveSize, IsTooFewOrMany, size_told}
 use Rattle.fde_writer.specs.Outcomes.{updates_now}
 use Rattle.fde_writer.specs.Sections.{FdeWriterData}
 use Rattle.word_rule.specs.Places.{ALLOWANCE}
 use Rattle.unwind_c.specs.declared.limits.NewFault.{NewFault}
-use Rattle.unwind_c.specs.declared.limits.NewFault.TheVariants.{Loads, NoMemory, Nodes}
+use Rattle.unwind_c.specs.declared.limits.NewFault.TheVariants.{NoMemory, Size}
 use Rattle.unwind_c.specs.declared.limits.UnwindLimits.{UnwindLimits}
-
--- so many nodes, and so many loads, there may be
-abbrev pub FitsNodes : UnwindLimits → Type 0
-FitsNodes l = (4 ≤ l.nodes) × (l.nodes ≤ 16384)
-
-abbrev pub FitsLoads : UnwindLimits → Type 0
-FitsLoads l = (1 ≤ l.loads) × (l.loads ≤ 1024)
-
--- why so many nodes, or loads, may not be
-abbrev pub IsPastBounds : UnwindLimits → NewFault → Type 0
-IsPastBounds l NoMemory = ⊥
-IsPastBounds l Nodes = ¬ FitsNodes l
-IsPastBounds l Loads = FitsNodes l × (¬ FitsLoads l)
 
 -- the writer of a new library, in which nothing stands; it has all update calls
 pub record IsNewWriter (l : UnwindLimits) (u : FdeWriterData) : Type 0 where
@@ -38,17 +26,15 @@ pub record IsNewWriter (l : UnwindLimits) (u : FdeWriterData) : Type 0 where
 -- A library was made; or the first thing that stands against it is this one. That memory ran out
 -- says nothing.
 abbrev pub IsNewLibrary : UnwindLimits → Result FdeWriterData NewFault → Type 0
-IsNewLibrary l (Ok u) = FitsNodes l × FitsLoads l × IsNewWriter l u
+IsNewLibrary l (Ok u) = MayHaveSize l.nodes l.loads × IsNewWriter l u
 IsNewLibrary l (Err NoMemory) = Unit {0}
-IsNewLibrary l (Err Nodes) = ¬ FitsNodes l
-IsNewLibrary l (Err Loads) = FitsNodes l × (¬ FitsLoads l)
+IsNewLibrary l (Err (Size fault)) = IsTooFewOrMany l.nodes l.loads fault
 
 -- what C is told of it, and what its handle leads to
 abbrev pub library_told : Result FdeWriterData NewFault → ℕ
 library_told (Ok u) = 0
 library_told (Err NoMemory) = 1
-library_told (Err Nodes) = 2
-library_told (Err Loads) = 3
+library_told (Err (Size fault)) = size_told fault
 
 abbrev pub library_held : Result FdeWriterData NewFault → Option FdeWriterData
 library_held (Ok u) = Some u

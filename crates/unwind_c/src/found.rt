@@ -3,7 +3,7 @@
 ghost use Rattle.std.specs.Prelude.{◌≡◌};
 ghost use Rattle.unwind_c.specs.Finds.{fde_hit_told, found_fde_told, no_fde_told};
 
-use crate::kinds::{FDE_AGAIN, FDE_LOADED, FDE_MISS, FDE_REGISTERED};
+use c_handle::{FIND_AGAIN, LOADED, NOWHERE, REGISTERED};
 use fde_reader::FdeFound;
 use reg_model::{Again, Half, Span};
 
@@ -25,24 +25,15 @@ impl UnwindFound {
         ensures { result ≡ fde_hit_told half stamp span.now fde }
     {
         let (first, last) = (span.first(), span.last());
-        let size = last - first + 1;
-        match half {
-            Half::Registered => UnwindFound {
-                kind: FDE_REGISTERED,
-                registered: stamp,
-                loaded: 0,
-                first,
-                size,
-                fde,
-            },
-            Half::Loaded => UnwindFound {
-                kind: FDE_LOADED,
-                registered: 0,
-                loaded: stamp,
-                first,
-                size,
-                fde,
-            },
+        let answered = match half {
+            Half::Registered => UnwindFound::none(REGISTERED, stamp, 0),
+            Half::Loaded => UnwindFound::none(LOADED, 0, stamp),
+        };
+        UnwindFound {
+            first,
+            size: last - first + 1,
+            fde,
+            ..answered
         }
     }
 
@@ -72,11 +63,11 @@ impl UnwindFound {
                 },
             ) => UnwindFound::hit(*half, *stamp, span, *fde),
             Ok(FdeFound::Miss { registered, loaded }) => UnwindFound::none(
-                FDE_MISS,
+                NOWHERE,
                 *registered,
                 *loaded,
             ),
-            Err(_) => UnwindFound::none(FDE_AGAIN, 0, 0),
+            Err(_) => UnwindFound::none(FIND_AGAIN, 0, 0),
         }
     }
 }

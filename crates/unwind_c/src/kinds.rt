@@ -21,11 +21,3 @@ pub(crate) const SECTION_UNKNOWN: u32 = 8;
 pub(crate) const SECTION_LEFT: u32 = 9;
 
 pub(crate) const SECTION_INTO_STUCK: u32 = 10;
-
-pub(crate) const FDE_MISS: u32 = 0;
-
-pub(crate) const FDE_REGISTERED: u32 = 1;
-
-pub(crate) const FDE_LOADED: u32 = 2;
-
-pub(crate) const FDE_AGAIN: u32 = 3;

@@ -7,6 +7,7 @@ ghost use Rattle.unwind_c.specs.Limits.{IsNewLibrary, TellsNewLibrary};
 
 use crate::handles::FdeWriterHandle;
 use crate::limits::{NewFault, UnwindLimits};
+use c_handle::check_size;
 use fde_writer::FdeWriter;
 use std::alloc::Global;
 
@@ -15,7 +16,10 @@ fn new_writer(alloc: Global, limits: &UnwindLimits) -> Result<Box<FdeWriter, Glo
     ensures { MatchResult result (λ writer. IsNewLibrary limits.now (Ok writer.value))
         (λ fault. IsNewLibrary limits.now (Err fault)) }
 {
-    limits.checked()?;
+    match check_size(limits.nodes, limits.loads) {
+        Ok(()) => {}
+        Err(fault) => return Err(NewFault::Size(fault)),
+    }
     let Ok(writer) = FdeWriter::new(alloc, limits.nodes, limits.loads, limits.low) else {
         return Err(NewFault::NoMemory);
     };
@@ -41,7 +45,8 @@ pub extern "C" fn unwind_c_new(
             *out = FdeWriterHandle::of(writer);
             0
         }
-        Err(fault) => fault.told(),
+        Err(NewFault::NoMemory) => 1,
+        Err(NewFault::Size(fault)) => fault.told(),
     }
 }
 
