@@ -8,20 +8,17 @@ use Rattle.c_sections.specs.declared.refusal.LoadFault.{LoadFault}
 use Rattle.c_sections.specs.declared.refusal.LoadFault.TheVariants.{Long, Frames}
 use Rattle.sound_records.specs.declared.refused.Claim.{Claim}
 use Rattle.sound_records.specs.declared.refused.RefusedRecord.{RefusedRecord}
-use Rattle.sound_records.specs.Sections.{SoundData, sound_section}
-use Rattle.frames_c.specs.Held.{LoadedData}
+use Rattle.sound_records.specs.Sections.{sound_section}
+use Rattle.frames_c.specs.Held.{LoadedData, loaded_with}
 use Rattle.frames_c.specs.declared.claims.FramesClaim.{FramesClaim}
 use Rattle.frames_c.specs.declared.claims.FramesRefused.{FramesRefused}
 
 -- ---- reading
 
 -- the section of the sound records of these bytes, beside all others, without a header's table
-abbrev pub sound_loaded : SoundData → LoadedData
-sound_loaded s = record { section = s.section; refused = s.refused; table = None }
-
 abbrev pub LeadsToSound : ℕ → List ℕ → Option LoadedData → Type 0
 LeadsToSound address bytes held =
-    (held ≡ Some (sound_loaded (sound_section address bytes))) × (length bytes < 2 ^ 32)
+    (held ≡ Some (loaded_with (sound_section address bytes) None)) × (length bytes < 2 ^ 32)
 
 -- how many are refused, and the first one's refusal
 abbrev pub refusals_told : List RefusedRecord → FramesRefused

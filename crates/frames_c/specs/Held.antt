@@ -4,7 +4,7 @@ use Rattle.std.specs.Option.{unwrap_or}
 use Rattle.eh_hdr.specs.declared.table.TableEntry.{TableEntry}
 use Rattle.frame_parse.specs.Sections.{FdeData, SectionData}
 use Rattle.sound_records.specs.declared.refused.RefusedRecord.{RefusedRecord}
-use Rattle.sound_records.specs.Sections.{claim_among}
+use Rattle.sound_records.specs.Sections.{SoundData, claim_among}
 use Rattle.unwind_step.specs.Backtrace.{fde_in}
 
 -- a section of sound records, those that were refused in order of bytes, and what its header has
@@ -13,6 +13,10 @@ pub record LoadedData : Type 0 where
   pub section : SectionData
   pub refused : List RefusedRecord
   pub table : Option (Option (List TableEntry))
+
+-- such records, with this table
+abbrev pub loaded_with : SoundData → Option (Option (List TableEntry)) → LoadedData
+loaded_with s table = record { section = s.section; refused = s.refused; table = table }
 
 -- that to which a handle of a section leads, or of its row table
 abbrev pub held_loaded : Option LoadedData → LoadedData

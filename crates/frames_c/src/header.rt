@@ -11,7 +11,7 @@ ghost use Rattle.frames_c.specs.Loads.{LeadsToLoaded, HasNothingRefused};
 ghost use Rattle.frames_c.specs.HeaderAnswers.{header_refused, IsHeaderTold, LeadsWithHeader};
 
 use crate::handles::SectionHandle;
-use crate::reading::shared;
+use crate::reading::{refuse, shared};
 use crate::share::LoadedSection;
 use c_sections::{FramesRefusal, read_section};
 use eh_hdr::{Header, HeaderFault, SearchTable};
@@ -124,10 +124,7 @@ pub extern "C" fn frames_c_read_with_header(
 {
     let section = match read_section(alloc, address, bytes) {
         Ok(section) => section,
-        Err(fault) => {
-            *refusal = FramesRefusal::of_load(fault);
-            return false;
-        }
+        Err(fault) => return refuse(fault, refusal),
     };
     let (loaded, came) = with_table(alloc, section, header_address, header);
     match shared(alloc, loaded) {
@@ -136,9 +133,6 @@ pub extern "C" fn frames_c_read_with_header(
             *out = SectionHandle::of(share);
             true
         }
-        Err(fault) => {
-            *refusal = FramesRefusal::of_load(fault);
-            false
-        }
+        Err(fault) => refuse(fault, refusal),
     }
 }

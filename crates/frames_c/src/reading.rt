@@ -7,10 +7,10 @@ ghost use Rattle.sound_records.specs.Items.{items_of, refused_in};
 ghost use Rattle.sound_records.specs.Sections.{sound_section};
 ghost use Rattle.c_sections.specs.declared.refusal.LoadFault.TheVariants.{Frames};
 ghost use Rattle.c_sections.specs.Loads.{IsLoaded};
-ghost use Rattle.c_sections.specs.Refusals.{IsLoadFault, IsToldRefusal};
-ghost use Rattle.frames_c.specs.Claims.{refusals_told, sound_loaded, IsToldUnread, IsUnread};
+ghost use Rattle.c_sections.specs.Refusals.{IsLoadFault, IsToldRefusal, load_told};
+ghost use Rattle.frames_c.specs.Claims.{refusals_told, IsToldUnread, IsUnread};
 ghost use Rattle.frames_c.specs.Claims.{LeadsToSound};
-ghost use Rattle.frames_c.specs.Held.{held_section};
+ghost use Rattle.frames_c.specs.Held.{held_section, loaded_with};
 ghost use Rattle.frames_c.specs.Loads.{LeadsToLoaded, HasNothingRefused, HasNoTable};
 
 use crate::claims::FramesRefused;
@@ -38,6 +38,15 @@ pub(crate) fn shared(
         Ok(boxed) => Ok(boxed),
         Err(_) => Err(LoadFault::Frames(FrameFault::NoMemory)),
     }
+}
+
+/// Tells why there is no section.
+pub(crate) fn refuse(fault: LoadFault, refusal: &mut FramesRefusal) -> bool
+    ensures none { result ≡ false }
+    ensures told { refusal.new ≡ load_told fault }
+{
+    *refusal = FramesRefusal::of_load(fault);
+    false
 }
 
 fn load(
@@ -76,10 +85,7 @@ pub extern "C" fn frames_c_read(
             *out = SectionHandle::of(share);
             true
         }
-        Err(fault) => {
-            *refusal = FramesRefusal::of_load(fault);
-            false
-        }
+        Err(fault) => refuse(fault, refusal),
     }
 }
 
@@ -90,7 +96,7 @@ fn load_sound(
     bytes: &[u8],
 ) -> Result<Box<Shared<LoadedSection>, Global>, LoadFault>
     ensures loaded { IfOk result
-        (λ share. share.value ≡ sound_loaded (sound_section address bytes.now)) }
+        (λ share. share.value ≡ loaded_with (sound_section address bytes.now) None) }
     ensures short { IfOk result (λ _. length bytes.now < 2 ^ 32) }
     ensures fault { IfErr result (IsUnread bytes.now) }
 {
@@ -129,10 +135,7 @@ pub extern "C" fn frames_c_read_sound(
             *out = SectionHandle::of(share);
             true
         }
-        Err(fault) => {
-            *refusal = FramesRefusal::of_load(fault);
-            false
-        }
+        Err(fault) => refuse(fault, refusal),
     }
 }
 

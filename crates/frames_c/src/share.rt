@@ -4,7 +4,7 @@ ghost use Rattle.std.specs.Prelude.{◌≡◌, ◌<◌, ◌^◌, [], IfSome, len
 ghost use Rattle.std.specs.Option.{option_map};
 ghost use Rattle.eh_hdr.specs.Tables.{IsSortedTable};
 ghost use Rattle.frame_parse.specs.Sections.{first_cover, HasFdes};
-ghost use Rattle.frames_c.specs.Held.{claim_in};
+ghost use Rattle.frames_c.specs.Held.{claim_in, loaded_with};
 
 use eh_hdr::SearchTable;
 use frame_parse::{Fde, Section};
@@ -25,15 +25,11 @@ pub struct LoadedSection {
 impl Model for LoadedSection {
     ghost use Rattle.std.specs.Prelude.{◌<◌, ◌^◌, length, IfSome};
     ghost use Rattle.eh_hdr.specs.Tables.{IsSortedTable};
-    ghost use Rattle.frames_c.specs.Held.{LoadedData};
+    ghost use Rattle.frames_c.specs.Held.{LoadedData, loaded_with};
 
     ghost Value = { LoadedData };
 
-    ghost view = { λ l. record {
-      section = l.sound.section;
-      refused = l.sound.refused;
-      table = l.table;
-    } };
+    ghost view = { λ l. loaded_with l.sound l.table };
 
     ghost invariant = { λ l. (length l.sound.section.bytes < 2 ^ 32)
         × IfSome l.table (IsSortedTable l.sound.section.fdes) };
@@ -43,11 +39,7 @@ impl LoadedSection {
     pub(crate) fn new(sound: SoundSection, table: Option<SearchTable>) -> LoadedSection
         requires short { length sound.section.bytes < 2 ^ 32 }
         requires table { IfSome table (IsSortedTable sound.section.fdes) }
-        ensures { result ≡ record {
-          section = sound.section;
-          refused = sound.refused;
-          table = table;
-        } }
+        ensures { result ≡ loaded_with sound table }
     {
         LoadedSection { sound, table }
     }
