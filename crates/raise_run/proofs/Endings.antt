@@ -16,14 +16,7 @@ use Rattle.raise_run.specs.declared.status.RaiseStatus.TheVariants.{Done, Usage,
 
 -- only WriteFault says that a write failed
 pub raise_write_told : (status : RaiseStatus) → raise_ending_of status ≡ ending.WriteFault → status ≡ WriteFault
-raise_write_told WriteFault is = refl
-raise_write_told Done is = absurd cc
-raise_write_told Usage is = absurd cc
-raise_write_told Script is = absurd cc
-raise_write_told TooLong is = absurd cc
-raise_write_told NoSnapshot is = absurd cc
-raise_write_told ReadFault is = absurd cc
-raise_write_told NoMemory is = absurd cc
+raise_write_told status is = grind arith
 
 -- ---- the words ask for this
 

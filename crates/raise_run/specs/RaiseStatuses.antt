@@ -7,23 +7,19 @@ use Rattle.raise_run.specs.declared.status.RaiseStatus.TheVariants.{Done, Usage,
 use Rattle.raise_run.specs.declared.status.RaiseStatus.TheVariants.{WriteFault, NoMemory, TooLong}
 use Rattle.raise_run.specs.declared.status.RaiseStatus.TheVariants.{NoSnapshot}
 
-abbrev pub raise_code_of : RaiseStatus → ℕ
-raise_code_of Done = 0
-raise_code_of Usage = 2
-raise_code_of Script = 3
-raise_code_of ReadFault = 4
-raise_code_of WriteFault = 5
-raise_code_of NoMemory = 6
-raise_code_of TooLong = 7
-raise_code_of NoSnapshot = 8
+-- the number of each, and what it says of the devices
+abbrev pub raise_report : RaiseStatus → ℕ × Ending
+raise_report Done = (0, ending.Written)
+raise_report Usage = (2, ending.Written)
+raise_report Script = (3, ending.Written)
+raise_report ReadFault = (4, ending.ReadFault)
+raise_report WriteFault = (5, ending.WriteFault)
+raise_report NoMemory = (6, ending.NoMemory)
+raise_report TooLong = (7, ending.Written)
+raise_report NoSnapshot = (8, ending.Written)
 
--- what each of them says of the devices
+abbrev pub raise_code_of : RaiseStatus → ℕ
+raise_code_of status = (raise_report status).0
+
 abbrev pub raise_ending_of : RaiseStatus → Ending
-raise_ending_of Done = ending.Written
-raise_ending_of Usage = ending.Written
-raise_ending_of Script = ending.Written
-raise_ending_of TooLong = ending.Written
-raise_ending_of NoSnapshot = ending.Written
-raise_ending_of ReadFault = ending.ReadFault
-raise_ending_of WriteFault = ending.WriteFault
-raise_ending_of NoMemory = ending.NoMemory
+raise_ending_of status = (raise_report status).1

@@ -146,20 +146,19 @@ fn raise_source<R: Wait, S: Source, K: Sink>(
         (sink_change K.faults K.written sink.old sink.new
         (S.faults source.old) (S.faults source.new)) result }
 {
-    let bytes = match take_up_to(alloc, source, SCRIPT_LIMIT) {
-        Ok(bytes) => bytes,
-        Err(TakeFault::Failed) => return RaiseStatus::ReadFault,
-        Err(TakeFault::NoMemory) => return RaiseStatus::NoMemory,
-    };
-    if bytes.len() > SCRIPT_LIMIT {
-        return conclude(sink, b"script too long\n", RaiseStatus::TooLong);
-    }
-    match read(alloc, &bytes) {
-        Ok(script) => raise_script(rt, alloc, &script, request, sink),
-        Err(ScriptFault::Bad { line, reason }) => {
-            conclude_made(sink, print_fault(alloc, line, reason), RaiseStatus::Script)
+    match take_up_to(alloc, source, SCRIPT_LIMIT) {
+        Ok(bytes) if bytes.len() > SCRIPT_LIMIT => {
+            conclude(sink, b"script too long\n", RaiseStatus::TooLong)
         }
-        Err(ScriptFault::NoMemory) => RaiseStatus::NoMemory,
+        Ok(bytes) => match read(alloc, &bytes) {
+            Ok(script) => raise_script(rt, alloc, &script, request, sink),
+            Err(ScriptFault::Bad { line, reason }) => {
+                conclude_made(sink, print_fault(alloc, line, reason), RaiseStatus::Script)
+            }
+            Err(ScriptFault::NoMemory) => RaiseStatus::NoMemory,
+        },
+        Err(TakeFault::Failed) => RaiseStatus::ReadFault,
+        Err(TakeFault::NoMemory) => RaiseStatus::NoMemory,
     }
 }
 

@@ -10,8 +10,8 @@ use Rattle.raise_run.specs.RaiseStatuses.{raise_ending_of}
 use Rattle.raise_run.specs.declared.status.RaiseStatus.TheVariants as status
 use Rattle.raise_run.proofs.running.raise_source.Goals as goal
 
-pub returns-then-len-gt-SCRIPT_LIMIT-clause-ends : goal.returns-then-len-gt-SCRIPT_LIMIT-clause-ends
-returns-then-len-gt-SCRIPT_LIMIT-clause-ends g c =
+pub returns-in-Ok-clause-ends : goal.returns-in-Ok-clause-ends
+returns-in-Ok-clause-ends g c =
     let long : SCRIPT_LIMIT < length c.in-Ok.bytes.items = (let count = c.len.ensures in let above = c.if-len-gt-SCRIPT_LIMIT.true in omega (arith, c.in-Ok.bytes.ok.0)) in
     ends_concluded raise_ending_of (IsDueOf c.args.request.now _) (Unit {0}) _ _ status.TooLong _ refl
     (Hands-longer SCRIPT_LIMIT _ _ c.in-Ok.bytes.items c.in-Ok.ensures.handed long, refl)
