@@ -39,11 +39,15 @@ pub record ShowsState (lists : Lists) (s : State) : Type 0 where
   pub fixed : Reflects lists.fixed s.fixed
   pub loads : lists.loads ≡ s.loads
 
+-- the line that a map keeps for a number
+abbrev pub line_kept : BTreeMap ℕ ℕ → ℕ → Option ℕ
+line_kept lines number = get nat_cmp lines number
+
 -- the line that is kept for a number, by a table of the first numbers and a map of the others
 abbrev pub line_in : List (Option ℕ) → BTreeMap ℕ ℕ → ℕ → Option ℕ
 line_in table others number =
     if nat_lt number (length table) then slice_index_or table number None
-    else get nat_cmp others number
+    else line_kept others number
 
 abbrev pub line_of : LeastLines → ℕ → Option ℕ
 line_of lines number = line_in lines.table.items lines.others number

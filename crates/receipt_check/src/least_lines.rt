@@ -2,10 +2,8 @@
 
 ghost use Rattle.std.specs.Prelude.{◌≡◌, ℕ, ◌<◌, ◌==◌, IfOk, OnOk, not, false, None};
 ghost use Rattle.std.specs.Prelude.{length, slice_set, slice_index_or};
-ghost use Rattle.std.specs.BTreeMap.{get};
-ghost use Rattle.std.specs.Ordering.{nat_cmp};
 ghost use Rattle.receipt_check.specs.Search.{lower_line};
-ghost use Rattle.receipt_check.specs.Maps.{line_of};
+ghost use Rattle.receipt_check.specs.Maps.{line_of, line_kept};
 
 use crate::firsts::lower;
 use reg_model::NoMemory;
@@ -69,8 +67,8 @@ impl LeastLines {
 
 /// Keeps a number's line in the map, where none above it is kept.
 fn keep_line(lines: &mut BTreeMap<u32, u64>, number: u32, line: u64) -> Result<(), NoMemory>
-    ensures { OnOk result ((other : ℕ) → get nat_cmp lines.new other
-        ≡ lower_line (get nat_cmp lines.old other) line (not (number == other))) }
+    ensures { OnOk result ((other : ℕ) → line_kept lines.new other
+        ≡ lower_line (line_kept lines.old other) line (not (number == other))) }
 {
     let least = match lines.get(&number) {
         Some(best) => line.min(*best),

@@ -1,6 +1,6 @@
 //! What a receipt says of itself.
 
-ghost use Rattle.std.specs.Prelude.{◌≡◌};
+ghost use Rattle.std.specs.Prelude.{◌≡◌, is_some};
 ghost use Rattle.reg_model.specs.Receipt.{moment, accepted};
 
 use reg_model::{Found, Inserted, Loading, Receipt, Removed, Replaced, Update};
@@ -36,31 +36,34 @@ pub fn moment_of(receipt: &Receipt) -> u32
     }
 }
 
+/// Whether an update was accepted.
+fn is_accepted(receipt: &Receipt) -> bool
+    ensures { result ≡ is_some (accepted receipt.now) }
+{
+    match receipt {
+        Receipt::Register { answer, .. } => matches!(answer, Inserted::Done { .. }),
+        Receipt::Replace { answer, .. } => matches!(answer, Replaced::Done { .. }),
+        Receipt::Load { answer, .. } => matches!(answer, Loading::Done { .. }),
+        Receipt::Deregister { answer, .. } | Receipt::Unload { answer, .. } => {
+            matches!(answer, Removed::Done { .. })
+        }
+        Receipt::Query { .. } => false,
+    }
+}
+
 /// The update that was accepted.
 pub fn update_in(receipt: &Receipt) -> Option<Update>
     ensures { result ≡ accepted receipt.now }
 {
+    if !is_accepted(receipt) {
+        return None;
+    }
     match receipt {
-        Receipt::Register {
-            member,
-            answer: Inserted::Done { .. },
-        } => Some(Update::Register { member: *member }),
-        Receipt::Deregister {
-            base,
-            answer: Removed::Done { .. },
-        } => Some(Update::Deregister { base: *base }),
-        Receipt::Replace {
-            member,
-            answer: Replaced::Done { .. },
-        } => Some(Update::Replace { member: *member }),
-        Receipt::Load {
-            member,
-            answer: Loading::Done { .. },
-        } => Some(Update::Load { member: *member }),
-        Receipt::Unload {
-            base,
-            answer: Removed::Done { .. },
-        } => Some(Update::Unload { base: *base }),
-        _ => None,
+        Receipt::Register { member, .. } => Some(Update::Register { member: *member }),
+        Receipt::Deregister { base, .. } => Some(Update::Deregister { base: *base }),
+        Receipt::Replace { member, .. } => Some(Update::Replace { member: *member }),
+        Receipt::Load { member, .. } => Some(Update::Load { member: *member }),
+        Receipt::Unload { base, .. } => Some(Update::Unload { base: *base }),
+        Receipt::Query { .. } => None,
     }
 }
