@@ -19,14 +19,7 @@ use Rattle.check_run.specs.declared.status.CheckStatus.TheVariants.{Lawful, Unla
 
 -- only WriteFault says that a write failed
 pub check_write_told : (status : CheckStatus) → check_ending_of status ≡ ending.WriteFault → status ≡ WriteFault
-check_write_told WriteFault is = refl
-check_write_told Lawful is = absurd cc
-check_write_told Unlawful is = absurd cc
-check_write_told Usage is = absurd cc
-check_write_told Script is = absurd cc
-check_write_told TooLong is = absurd cc
-check_write_told ReadFault is = absurd cc
-check_write_told NoMemory is = absurd cc
+check_write_told status is = grind arith
 
 -- a verdict's line is written with its status
 pub verdict_written : (v : Verdict) → check_ending_of (verdict_status v) ≡ ending.Written

@@ -9,26 +9,22 @@ use Rattle.check_run.specs.declared.status.CheckStatus.TheVariants.{Lawful, Unla
 use Rattle.check_run.specs.declared.status.CheckStatus.TheVariants.{ReadFault, WriteFault, NoMemory}
 use Rattle.check_run.specs.declared.status.CheckStatus.TheVariants.{TooLong}
 
-abbrev pub check_code_of : CheckStatus → ℕ
-check_code_of Lawful = 0
-check_code_of Unlawful = 1
-check_code_of Usage = 2
-check_code_of Script = 3
-check_code_of ReadFault = 4
-check_code_of WriteFault = 5
-check_code_of NoMemory = 6
-check_code_of TooLong = 7
+-- the number of each, and what it says of the devices
+abbrev pub check_report : CheckStatus → ℕ × Ending
+check_report Lawful = (0, ending.Written)
+check_report Unlawful = (1, ending.Written)
+check_report Usage = (2, ending.Written)
+check_report Script = (3, ending.Written)
+check_report ReadFault = (4, ending.ReadFault)
+check_report WriteFault = (5, ending.WriteFault)
+check_report NoMemory = (6, ending.NoMemory)
+check_report TooLong = (7, ending.Written)
 
--- what each of them says of the devices
+abbrev pub check_code_of : CheckStatus → ℕ
+check_code_of status = (check_report status).0
+
 abbrev pub check_ending_of : CheckStatus → Ending
-check_ending_of Lawful = ending.Written
-check_ending_of Unlawful = ending.Written
-check_ending_of Usage = ending.Written
-check_ending_of Script = ending.Written
-check_ending_of TooLong = ending.Written
-check_ending_of ReadFault = ending.ReadFault
-check_ending_of WriteFault = ending.WriteFault
-check_ending_of NoMemory = ending.NoMemory
+check_ending_of status = (check_report status).1
 
 -- the status of a verdict
 abbrev pub verdict_status : Verdict → CheckStatus

@@ -141,15 +141,14 @@ fn check_source<S: Source, K: Sink>(alloc: Global, source: &mut S, sink: &mut K)
         (sink_change K.faults K.written sink.old sink.new
         (S.faults source.old) (S.faults source.new)) result }
 {
-    let bytes = match take_up_to(alloc, source, CHECK_LIMIT) {
-        Ok(bytes) => bytes,
-        Err(TakeFault::Failed) => return CheckStatus::ReadFault,
-        Err(TakeFault::NoMemory) => return CheckStatus::NoMemory,
-    };
-    if bytes.len() > CHECK_LIMIT {
-        return conclude(sink, b"input too long\n", CheckStatus::TooLong);
+    match take_up_to(alloc, source, CHECK_LIMIT) {
+        Ok(bytes) if bytes.len() > CHECK_LIMIT => {
+            conclude(sink, b"input too long\n", CheckStatus::TooLong)
+        }
+        Ok(bytes) => check_input(alloc, &bytes, sink),
+        Err(TakeFault::Failed) => CheckStatus::ReadFault,
+        Err(TakeFault::NoMemory) => CheckStatus::NoMemory,
     }
-    check_input(alloc, &bytes, sink)
 }
 
 /// Checks what was taken.
