@@ -1,6 +1,6 @@
 //! A sink that gathers pieces for another one, to which each call is dear.
 
-ghost use Rattle.std.specs.Prelude.{◌≡◌, ◌≢◌, ◌≤◌, [], ◌++◌, OnOk, OnErr};
+ghost use Rattle.std.specs.Prelude.{◌≡◌, ◌≢◌, ◌≤◌, [], ◌++◌, Err, OnOk, OnErr};
 ghost use Rattle.run_ports.specs.Devices.{IsHandedOn};
 ghost use Rattle.run_ports.specs.Ports.{Rose, with_bytes};
 
@@ -57,8 +57,14 @@ impl<K: Sink> BufferedSink<K> {
         requires { K.can_write self.old.sink }
         ensures all { OnOk result (self.new.held ≡ []) }
         ensures goes_on { OnOk result (K.can_write self.new.sink) }
-        ensures handed { IsHandedOn K.faults K.written result self.old.sink self.old.held
-            self.new.sink self.new.held }
+        // Of what was held nothing is lost, and a write that failed is counted.
+        ensures kept { with_bytes (K.written self.new.sink) self.new.held
+            ≡ with_bytes (K.written self.old.sink) self.old.held }
+        ensures failed { result ≡ Err SinkFault.Failed
+            → Rose (K.faults self.old.sink) (K.faults self.new.sink) }
+        ensures sound { result ≢ Err SinkFault.Failed
+            → K.faults self.new.sink ≡ K.faults self.old.sink }
+        ensures counted { K.faults self.old.sink ≤ K.faults self.new.sink }
     {
         match hand_on(&mut self.sink, &self.held, &mut self.at) {
             Ok(()) => {
