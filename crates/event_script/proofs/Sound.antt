@@ -1,5 +1,5 @@
 -- What is read is spelled so: each good line says what it adds.
-use Rattle.std.proofs.Common.{◌≡◌, ℕ, ◌+◌, ◌-◌, ◌^◌, ◌<◌, ◌≤◌, true, cond, ◌&&◌, eqb, ltb, leb, List, [], ◌∷◌, ◌++◌, length, map, Result, Ok, Err, refl, sym, ap, ap₂, subst, ◌∙◌, append_assoc, eqb-true, ltb-true, leb-true, arith, length-append}
+use Rattle.std.proofs.Common.{◌≡◌, ℕ, ◌+◌, ◌-◌, ◌^◌, ◌<◌, ◌≤◌, Bool, true, cond, ◌&&◌, eqb, ltb, leb, List, [], ◌∷◌, ◌++◌, length, map, Result, Ok, Err, refl, sym, ap, ap₂, subst, ◌∙◌, append_assoc, eqb-true, ltb-true, leb-true, arith, length-append}
 use Rattle.std.specs.List.{slice_get, All}
 use Rattle.std.specs.Option.{ok_or}
 use Rattle.std.proofs.lemmas.Bool.{and_parts}
@@ -57,6 +57,10 @@ image_is image section count number some address bytes =
 
 -- ---- one more line
 
+-- a step to a draft that is made where a test holds, and it did
+guarded_step : (test : Bool) (why : Reason) (known made next : DraftData) (s : Statement) → cond test (Ok made) (Err why) ≡ Ok next → (test ≡ true → Step known made s) → Step known next s
+guarded_step test why known made next s e step = (let held = guard_last test why made next e in same_step known made next s held.1 (step held.0))
+
 module _ (script : ScriptData) (snapshot : SnapshotData) (threads : List (List Event)) (events : List Event) (totals : Totals) where
   abbrev as_of : Stage → DraftData
   as_of stage = record { stage = stage; script = script; snapshot = snapshot; threads = threads; events = events; totals = totals }
@@ -79,20 +83,14 @@ module _ (script : ScriptData) (snapshot : SnapshotData) (threads : List (List E
 
   nodes_sound : (nodes : ℕ) (next : DraftData) → Sound (as_of stage.Nodes) → cond (leb 4 nodes && leb nodes 16384) (Ok (with_statement (as_of stage.Nodes) (statement.Nodes nodes))) (Err reason.Limit) ≡ Ok next → Step (as_of stage.Nodes) next (statement.Nodes nodes)
   nodes_sound nodes next s e =
-      let made = with_statement (as_of stage.Nodes) (statement.Nodes nodes) in
-      let g = guard_last (leb 4 nodes && leb nodes 16384) reason.Limit made next e in
-      let limits = and_parts (leb 4 nodes) (leb nodes 16384) g.0 in
-      same_step _ made next _ g.1 (record {
+      guarded_step (leb 4 nodes && leb nodes 16384) reason.Limit _ (with_statement (as_of stage.Nodes) (statement.Nodes nodes)) next _ e (λ kept. let limits = and_parts (leb 4 nodes) (leb nodes 16384) kept in record {
         sound = record { each = s.each; sections = s.sections; version = s.version; nodes = (leb-true 4 nodes limits.0, leb-true nodes 16384 limits.1); loads = tt; count = s.count; spans = s.spans; fixed = s.fixed; snapshots = s.snapshots; rounds = s.rounds; threads = s.threads; events = s.events; totals = s.totals; shape = s.shape };
         statements = refl;
       })
 
   loads_sound : (loads : ℕ) (next : DraftData) → Sound (as_of stage.Loads) → cond (leb 1 loads && leb loads 1024) (Ok (with_statement (as_of stage.Loads) (statement.Loads loads))) (Err reason.Limit) ≡ Ok next → Step (as_of stage.Loads) next (statement.Loads loads)
   loads_sound loads next s e =
-      let made = with_statement (as_of stage.Loads) (statement.Loads loads) in
-      let g = guard_last (leb 1 loads && leb loads 1024) reason.Limit made next e in
-      let limits = and_parts (leb 1 loads) (leb loads 1024) g.0 in
-      same_step _ made next _ g.1 (record {
+      guarded_step (leb 1 loads && leb loads 1024) reason.Limit _ (with_statement (as_of stage.Loads) (statement.Loads loads)) next _ e (λ kept. let limits = and_parts (leb 1 loads) (leb loads 1024) kept in record {
         sound = record { each = s.each; sections = s.sections; version = s.version; nodes = s.nodes; loads = (leb-true 1 loads limits.0, leb-true loads 1024 limits.1); count = s.count; spans = s.spans; fixed = s.fixed; snapshots = s.snapshots; rounds = s.rounds; threads = s.threads; events = s.events; totals = s.totals; shape = (s.shape.1, s.shape.2, s.shape.3, s.shape.4, s.shape.5) };
         statements = ap (λ (x : List Statement). statement.Version script.version ∷ statement.Nodes script.nodes ∷ statement.Loads loads ∷ x) (
             before_fixed images_part script.fixed script.snapshots script.rounds s.shape.4 s.shape.5 s.shape.1
@@ -112,10 +110,8 @@ module _ (script : ScriptData) (snapshot : SnapshotData) (threads : List (List E
   version_sound : (version : ℕ) (next : DraftData) → Sound (as_of stage.Version) → cond (leb 1 version && leb version 2) (Ok (with_statement (as_of stage.Version) (statement.Version version))) (Err reason.Limit) ≡ Ok next → Step (as_of stage.Version) next (statement.Version version)
   version_sound version next s e =
       let made = with_statement (as_of stage.Version) (statement.Version version) in
-      let g = guard_last (leb 1 version && leb version 2) reason.Limit made next e in
-      let limits = and_parts (leb 1 version) (leb version 2) g.0 in
       let now = counts_of made.script in
-      same_step _ made next _ g.1 (record {
+      guarded_step (leb 1 version && leb version 2) reason.Limit _ made next _ e (λ kept. let limits = and_parts (leb 1 version) (leb version 2) kept in record {
         sound = record { each = s.each; sections = s.sections; version = (leb-true 1 version limits.0, leb-true version 2 limits.1); nodes = tt; loads = tt; count = s.count; spans = s.spans; fixed = s.fixed; snapshots = s.snapshots; rounds = none_over now s.shape.1; threads = none_before now s.shape.2; events = none_happened now s.shape.3; totals = s.totals; shape = s.shape };
         statements = refl;
       })
@@ -183,9 +179,8 @@ module _ (script : ScriptData) (snapshot : SnapshotData) (threads : List (List E
       let named = bind_ok (ok_or (slice_get script.images image) reason.Name) _ next e in
       let found = some_from (slice_get script.images image) reason.Name named.0 named.1 in
       let made = with_statement (as_of stage.Fixed) (statement.Fixed image) in
-      let above = guard_last (is_above (last_fixed script.images script.fixed) named.0) reason.Fixed made next named.2 in
-      same_step _ made next _ above.1 (record {
-        sound = record { each = s.each; sections = s.sections; version = s.version; nodes = s.nodes; loads = s.loads; count = s.count; spans = s.spans; fixed = fixed_push script.images script.fixed image named.0 s.fixed found above.0; snapshots = s.snapshots; rounds = s.rounds; threads = s.threads; events = s.events; totals = s.totals; shape = s.shape };
+      guarded_step (is_above (last_fixed script.images script.fixed) named.0) reason.Fixed _ made next _ named.2 (λ above. record {
+        sound = record { each = s.each; sections = s.sections; version = s.version; nodes = s.nodes; loads = s.loads; count = s.count; spans = s.spans; fixed = fixed_push script.images script.fixed image named.0 s.fixed found above; snapshots = s.snapshots; rounds = s.rounds; threads = s.threads; events = s.events; totals = s.totals; shape = s.shape };
         statements = ap top (
             before_snapshots (images_part ++ map statement.Fixed (script.fixed ++ image ∷ [])) script.snapshots script.rounds s.shape.2 s.shape.0
             ∙ ap (λ (x : List Statement). images_part ++ x) (map_push statement.Fixed script.fixed image)
@@ -226,9 +221,8 @@ module _ (script : ScriptData) (snapshot : SnapshotData) (threads : List (List E
   snapshot_sound fields next form s e =
       let made = with_statement (as_of stage.Fixed) (statement.Snapshot fields) in
       let order = guard_then (eqb fields.number (length script.snapshots)) reason.Order _ next e in
-      let limit = guard_last (ltb (length script.snapshots) 4096) reason.Limit made next order.1 in
-      same_step _ made next _ limit.1 (record {
-        sound = record { each = s.each; sections = s.sections; version = s.version; nodes = s.nodes; loads = s.loads; count = s.count; spans = s.spans; fixed = s.fixed; snapshots = s.snapshots; rounds = s.rounds; threads = s.threads; events = s.events; totals = s.totals; shape = (s.shape.0, s.shape.1, ltb-true _ _ limit.0, no_memory fields form, s.shape.3) };
+      guarded_step (ltb (length script.snapshots) 4096) reason.Limit _ made next _ order.1 (λ few. record {
+        sound = record { each = s.each; sections = s.sections; version = s.version; nodes = s.nodes; loads = s.loads; count = s.count; spans = s.spans; fixed = s.fixed; snapshots = s.snapshots; rounds = s.rounds; threads = s.threads; events = s.events; totals = s.totals; shape = (s.shape.0, s.shape.1, ltb-true _ _ few, no_memory fields form, s.shape.3) };
         statements = snapshot_begun script.snapshots fields s.shape.0 (eqb-true _ _ order.0);
       })
 
@@ -236,9 +230,8 @@ module _ (script : ScriptData) (snapshot : SnapshotData) (threads : List (List E
   next_snapshot_sound fields next form s e =
       let made = with_statement (as_of stage.Snapshots) (statement.Snapshot fields) in
       let order = guard_then (eqb fields.number (length with_open)) reason.Order _ next e in
-      let limit = guard_last (ltb (length with_open) 4096) reason.Limit made next order.1 in
-      same_step _ made next _ limit.1 (record {
-        sound = record { each = s.each; sections = s.sections; version = s.version; nodes = s.nodes; loads = s.loads; count = s.count; spans = s.spans; fixed = s.fixed; snapshots = open_snapshots (s.shape.2, s.shape.3) s.snapshots; rounds = none_over counts_open s.shape.0; threads = none_before counts_open s.shape.1; events = none_happened counts_open s.shape.4; totals = s.totals; shape = (s.shape.0, s.shape.1, ltb-true _ _ limit.0, no_memory fields form, s.shape.4) };
+      guarded_step (ltb (length with_open) 4096) reason.Limit _ made next _ order.1 (λ few. record {
+        sound = record { each = s.each; sections = s.sections; version = s.version; nodes = s.nodes; loads = s.loads; count = s.count; spans = s.spans; fixed = s.fixed; snapshots = open_snapshots (s.shape.2, s.shape.3) s.snapshots; rounds = none_over counts_open s.shape.0; threads = none_before counts_open s.shape.1; events = none_happened counts_open s.shape.4; totals = s.totals; shape = (s.shape.0, s.shape.1, ltb-true _ _ few, no_memory fields form, s.shape.4) };
         statements = snapshot_begun with_open fields s.shape.0 (eqb-true _ _ order.0);
       })
 
@@ -276,19 +269,15 @@ module _ (script : ScriptData) (snapshot : SnapshotData) (threads : List (List E
   -- after a snapshot, before the first round, after a round without threads, and after a thread
   round_after_snapshots : (next : DraftData) → Sound (as_of stage.Snapshots) → cond (ltb (length script.rounds) 64) (Ok (with_statement (as_of stage.Snapshots) statement.Round)) (Err reason.Limit) ≡ Ok next → Step (as_of stage.Snapshots) next statement.Round
   round_after_snapshots next s e =
-      let made = with_statement (as_of stage.Snapshots) statement.Round in
-      let few = guard_last (ltb (length script.rounds) 64) reason.Limit made next e in
-      same_step _ made next _ few.1 (record {
-        sound = record { each = s.each; sections = s.sections; version = s.version; nodes = s.nodes; loads = s.loads; count = s.count; spans = s.spans; fixed = s.fixed; snapshots = open_snapshots (s.shape.2, s.shape.3) s.snapshots; rounds = none_over counts_open s.shape.0; threads = no_threads counts_open; events = no_events counts_open; totals = totalled_round totals script.rounds s.totals; shape = ltb-true _ _ few.0 };
+      guarded_step (ltb (length script.rounds) 64) reason.Limit _ (with_statement (as_of stage.Snapshots) statement.Round) next _ e (λ few. record {
+        sound = record { each = s.each; sections = s.sections; version = s.version; nodes = s.nodes; loads = s.loads; count = s.count; spans = s.spans; fixed = s.fixed; snapshots = open_snapshots (s.shape.2, s.shape.3) s.snapshots; rounds = none_over counts_open s.shape.0; threads = no_threads counts_open; events = no_events counts_open; totals = totalled_round totals script.rounds s.totals; shape = ltb-true _ _ few };
         statements = one_more with_open script.rounds (script.rounds ++ [] ∷ []) statement.Round (rounds_push script.rounds []);
       })
 
   round_sound : (next : DraftData) → Sound (as_of stage.Fixed) → cond (ltb (length script.rounds) 64) (Ok (with_statement (as_of stage.Fixed) statement.Round)) (Err reason.Limit) ≡ Ok next → Step (as_of stage.Fixed) next statement.Round
   round_sound next s e =
-      let made = with_statement (as_of stage.Fixed) statement.Round in
-      let few = guard_last (ltb (length script.rounds) 64) reason.Limit made next e in
-      same_step _ made next _ few.1 (record {
-        sound = record { each = s.each; sections = s.sections; version = s.version; nodes = s.nodes; loads = s.loads; count = s.count; spans = s.spans; fixed = s.fixed; snapshots = s.snapshots; rounds = s.rounds; threads = no_threads counts; events = no_events counts; totals = totalled_round totals script.rounds s.totals; shape = ltb-true _ _ few.0 };
+      guarded_step (ltb (length script.rounds) 64) reason.Limit _ (with_statement (as_of stage.Fixed) statement.Round) next _ e (λ few. record {
+        sound = record { each = s.each; sections = s.sections; version = s.version; nodes = s.nodes; loads = s.loads; count = s.count; spans = s.spans; fixed = s.fixed; snapshots = s.snapshots; rounds = s.rounds; threads = no_threads counts; events = no_events counts; totals = totalled_round totals script.rounds s.totals; shape = ltb-true _ _ few };
         statements = one_more script.snapshots script.rounds (script.rounds ++ [] ∷ []) statement.Round (rounds_push script.rounds []);
       })
 
@@ -307,37 +296,29 @@ module _ (script : ScriptData) (snapshot : SnapshotData) (threads : List (List E
 
   round_after_round : (next : DraftData) → Sound (as_of stage.Round) → cond (ltb (length with_round) 64) (Ok (with_statement (as_of stage.Round) statement.Round)) (Err reason.Limit) ≡ Ok next → Step (as_of stage.Round) next statement.Round
   round_after_round next s e =
-      let made = with_statement (as_of stage.Round) statement.Round in
-      let few = guard_last (ltb (length with_round) 64) reason.Limit made next e in
-      same_step _ made next _ few.1 (record {
-        sound = record { each = s.each; sections = s.sections; version = s.version; nodes = s.nodes; loads = s.loads; count = s.count; spans = s.spans; fixed = s.fixed; snapshots = s.snapshots; rounds = (round_rounds s).each; threads = no_threads counts; events = no_events counts; totals = totalled_round totals with_round s.totals; shape = ltb-true _ _ few.0 };
+      guarded_step (ltb (length with_round) 64) reason.Limit _ (with_statement (as_of stage.Round) statement.Round) next _ e (λ few. record {
+        sound = record { each = s.each; sections = s.sections; version = s.version; nodes = s.nodes; loads = s.loads; count = s.count; spans = s.spans; fixed = s.fixed; snapshots = s.snapshots; rounds = (round_rounds s).each; threads = no_threads counts; events = no_events counts; totals = totalled_round totals with_round s.totals; shape = ltb-true _ _ few };
         statements = one_more script.snapshots with_round (with_round ++ [] ∷ []) statement.Round (rounds_push with_round []);
       })
 
   round_after_thread : (next : DraftData) → Sound (as_of stage.Thread) → cond (ltb (length with_thread) 64) (Ok (with_statement (as_of stage.Thread) statement.Round)) (Err reason.Limit) ≡ Ok next → Step (as_of stage.Thread) next statement.Round
   round_after_thread next s e =
-      let made = with_statement (as_of stage.Thread) statement.Round in
-      let few = guard_last (ltb (length with_thread) 64) reason.Limit made next e in
-      same_step _ made next _ few.1 (record {
-        sound = record { each = s.each; sections = s.sections; version = s.version; nodes = s.nodes; loads = s.loads; count = s.count; spans = s.spans; fixed = s.fixed; snapshots = s.snapshots; rounds = (thread_rounds s).each; threads = no_threads counts; events = no_events counts; totals = totalled_round totals with_thread s.totals; shape = ltb-true _ _ few.0 };
+      guarded_step (ltb (length with_thread) 64) reason.Limit _ (with_statement (as_of stage.Thread) statement.Round) next _ e (λ few. record {
+        sound = record { each = s.each; sections = s.sections; version = s.version; nodes = s.nodes; loads = s.loads; count = s.count; spans = s.spans; fixed = s.fixed; snapshots = s.snapshots; rounds = (thread_rounds s).each; threads = no_threads counts; events = no_events counts; totals = totalled_round totals with_thread s.totals; shape = ltb-true _ _ few };
         statements = one_more script.snapshots with_thread (with_thread ++ [] ∷ []) statement.Round (rounds_push with_thread []);
       })
 
   thread_sound : (next : DraftData) → Sound (as_of stage.Round) → cond (ltb (length threads) 16) (Ok (with_statement (as_of stage.Round) statement.Thread)) (Err reason.Limit) ≡ Ok next → Step (as_of stage.Round) next statement.Thread
   thread_sound next s e =
-      let made = with_statement (as_of stage.Round) statement.Thread in
-      let few = guard_last (ltb (length threads) 16) reason.Limit made next e in
-      same_step _ made next _ few.1 (record {
-        sound = record { each = s.each; sections = s.sections; version = s.version; nodes = s.nodes; loads = s.loads; count = s.count; spans = s.spans; fixed = s.fixed; snapshots = s.snapshots; rounds = s.rounds; threads = s.threads; events = no_events counts; totals = totalled_thread totals script.rounds threads s.totals; shape = (s.shape, ltb-true _ _ few.0) };
+      guarded_step (ltb (length threads) 16) reason.Limit _ (with_statement (as_of stage.Round) statement.Thread) next _ e (λ few. record {
+        sound = record { each = s.each; sections = s.sections; version = s.version; nodes = s.nodes; loads = s.loads; count = s.count; spans = s.spans; fixed = s.fixed; snapshots = s.snapshots; rounds = s.rounds; threads = s.threads; events = no_events counts; totals = totalled_thread totals script.rounds threads s.totals; shape = (s.shape, ltb-true _ _ few) };
         statements = one_more script.snapshots with_round (script.rounds ++ (threads ++ [] ∷ []) ∷ []) statement.Thread (thread_begins script.rounds threads);
       })
 
   next_thread_sound : (next : DraftData) → Sound (as_of stage.Thread) → cond (ltb (length (threads ++ events ∷ [])) 16) (Ok (with_statement (as_of stage.Thread) statement.Thread)) (Err reason.Limit) ≡ Ok next → Step (as_of stage.Thread) next statement.Thread
   next_thread_sound next s e =
-      let made = with_statement (as_of stage.Thread) statement.Thread in
-      let few = guard_last (ltb (length (threads ++ events ∷ [])) 16) reason.Limit made next e in
-      same_step _ made next _ few.1 (record {
-        sound = record { each = s.each; sections = s.sections; version = s.version; nodes = s.nodes; loads = s.loads; count = s.count; spans = s.spans; fixed = s.fixed; snapshots = s.snapshots; rounds = s.rounds; threads = thread_push counts threads events s.shape.1 s.threads s.events; events = no_events counts; totals = totalled_thread totals script.rounds (threads ++ events ∷ []) s.totals; shape = (s.shape.0, ltb-true _ _ few.0) };
+      guarded_step (ltb (length (threads ++ events ∷ [])) 16) reason.Limit _ (with_statement (as_of stage.Thread) statement.Thread) next _ e (λ few. record {
+        sound = record { each = s.each; sections = s.sections; version = s.version; nodes = s.nodes; loads = s.loads; count = s.count; spans = s.spans; fixed = s.fixed; snapshots = s.snapshots; rounds = s.rounds; threads = thread_push counts threads events s.shape.1 s.threads s.events; events = no_events counts; totals = totalled_thread totals script.rounds (threads ++ events ∷ []) s.totals; shape = (s.shape.0, ltb-true _ _ few) };
         statements = one_more script.snapshots with_thread (script.rounds ++ ((threads ++ events ∷ []) ++ [] ∷ []) ∷ []) statement.Thread (thread_begins script.rounds (threads ++ events ∷ []));
       })
 
@@ -361,10 +342,9 @@ module _ (script : ScriptData) (snapshot : SnapshotData) (threads : List (List E
       let made = with_statement (as_of stage.Thread) (statement.Event happens) in
       let limit = guard_then (ltb (length events) 4096 && has_room totals happens) reason.Limit _ next e in
       let room = and_parts (ltb (length events) 4096) (has_room totals happens) limit.0 in
-      let named = guard_last (is_named counts happens) reason.Name made next limit.1 in
       let few = ltb-true (length events) 4096 room.0 in
       let so_far = s.events in
-      same_step _ made next _ named.1 (record {
+      guarded_step (is_named counts happens) reason.Name _ made next _ limit.1 (λ named. record {
         sound = record {
           each = s.each;
           sections = s.sections;
@@ -377,7 +357,7 @@ module _ (script : ScriptData) (snapshot : SnapshotData) (threads : List (List E
           snapshots = s.snapshots;
           rounds = s.rounds;
           threads = s.threads;
-          events = (omega (arith, length-append events (happens ∷ [])), All-push (IsEvent counts) events happens so_far.1 (event_is happens may named.0 form));
+          events = (omega (arith, length-append events (happens ∷ [])), All-push (IsEvent counts) events happens so_far.1 (event_is happens may named form));
           totals = totalled_event totals script.rounds threads events s.totals happens room.1;
           shape = s.shape;
         };

@@ -70,15 +70,6 @@ AreFields [] fields = Unit {0}
 AreFields (form ∷ others) [] = Unit {0}
 AreFields (form ∷ others) (field ∷ fields) = IsField form field × AreFields others fields
 
-abbrev pub kind_of_event : Event → Kind
-kind_of_event (event.Register image) = kind.Register
-kind_of_event (event.Deregister base) = kind.Deregister
-kind_of_event (event.Replace image) = kind.Replace
-kind_of_event (event.Load image) = kind.Load
-kind_of_event (event.Unload base) = kind.Unload
-kind_of_event (event.Find pc) = kind.Find
-kind_of_event (event.Unwind snapshot) = kind.Unwind
-
 abbrev pub event_fields : Event → List (List ℕ)
 event_fields (event.Register image) = decimal image ∷ []
 event_fields (event.Deregister base) = hex base ∷ []
@@ -98,8 +89,17 @@ kind_of_statement (statement.Snapshot snapshot) = kind.Snapshot
 kind_of_statement (statement.Memory region) = kind.Memory
 kind_of_statement statement.Round = kind.Round
 kind_of_statement statement.Thread = kind.Thread
-kind_of_statement (statement.Event event) = kind_of_event event
+kind_of_statement (statement.Event (event.Register image)) = kind.Register
+kind_of_statement (statement.Event (event.Deregister base)) = kind.Deregister
+kind_of_statement (statement.Event (event.Replace image)) = kind.Replace
+kind_of_statement (statement.Event (event.Load image)) = kind.Load
+kind_of_statement (statement.Event (event.Unload base)) = kind.Unload
+kind_of_statement (statement.Event (event.Find pc)) = kind.Find
+kind_of_statement (statement.Event (event.Unwind snapshot)) = kind.Unwind
 kind_of_statement statement.End = kind.End
+
+abbrev pub kind_of_event : Event → Kind
+kind_of_event e = kind_of_statement (statement.Event e)
 
 abbrev pub statement_fields : Statement → List (List ℕ)
 statement_fields (statement.Version version) = decimal version ∷ []

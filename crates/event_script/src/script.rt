@@ -1,5 +1,8 @@
 //! What a script says: the images, the recorded stacks, and the events of each thread.
 
+ghost use Rattle.std.specs.Prelude.{List};
+ghost use Rattle.event_script.specs.declared.script.Event.{Event};
+
 use frame_expr::{Memory, Regs};
 use frame_parse::Section;
 use reg_model::Span;
@@ -46,9 +49,6 @@ pub struct Thread {
 }
 
 impl Model for Thread {
-    ghost use Rattle.std.specs.Prelude.{List};
-    ghost use Rattle.event_script.specs.declared.script.Event.{Event};
-
     ghost Value = { List Event };
 
     ghost view = { λ thread. thread.events.items };
@@ -61,9 +61,6 @@ pub struct Round {
 }
 
 impl Model for Round {
-    ghost use Rattle.std.specs.Prelude.{List};
-    ghost use Rattle.event_script.specs.declared.script.Event.{Event};
-
     ghost Value = { List (List Event) };
 
     ghost view = { λ round. round.threads.items };
