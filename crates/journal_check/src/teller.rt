@@ -136,41 +136,24 @@ impl Teller {
         ensures { OnOk result (self.new ≡ tell_answer images.now bounds.now self.old answer.now) }
     {
         match answer {
-            Answer::Register { image, answer } => self.tell_one(
-                bounds,
-                Receipt::Register {
-                    member: member_in(images, *image),
-                    answer: *answer,
-                },
-            ),
-            Answer::Deregister { base, answer } => self.tell_one(
-                bounds,
-                Receipt::Deregister {
-                    base: *base,
-                    answer: *answer,
-                },
-            ),
-            Answer::Replace { image, answer } => self.tell_one(
-                bounds,
-                Receipt::Replace {
-                    member: member_in(images, *image),
-                    answer: *answer,
-                },
-            ),
-            Answer::Load { image, answer } => self.tell_one(
-                bounds,
-                Receipt::Load {
-                    member: member_in(images, *image),
-                    answer: *answer,
-                },
-            ),
-            Answer::Unload { base, answer } => self.tell_one(
-                bounds,
-                Receipt::Unload {
-                    base: *base,
-                    answer: *answer,
-                },
-            ),
+            &Answer::Register { image, answer } => {
+                let member = member_in(images, image);
+                self.tell_one(bounds, Receipt::Register { member, answer })
+            }
+            &Answer::Deregister { base, answer } => {
+                self.tell_one(bounds, Receipt::Deregister { base, answer })
+            }
+            &Answer::Replace { image, answer } => {
+                let member = member_in(images, image);
+                self.tell_one(bounds, Receipt::Replace { member, answer })
+            }
+            &Answer::Load { image, answer } => {
+                let member = member_in(images, image);
+                self.tell_one(bounds, Receipt::Load { member, answer })
+            }
+            &Answer::Unload { base, answer } => {
+                self.tell_one(bounds, Receipt::Unload { base, answer })
+            }
             Answer::Find { pc, place } => self.tell_place(bounds, *pc, place),
             Answer::Unwind { trace, .. } => self.tell_trace(bounds, trace),
         }
