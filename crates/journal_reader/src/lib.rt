@@ -11,6 +11,7 @@ mod heads;
 pub mod laws;
 mod lines;
 mod reader;
+#[tactic(auto, unfolding(crate::specs::FirstNumbers::decimal_first, crate::specs::FirstNumbers::hex_first))]
 mod words;
 
 pub use lines::next_line;

@@ -14,7 +14,6 @@ fn split_at_space(bytes: &[u8]) -> (&[u8], &[u8])
     bytes.split_at(place_of(bytes, b' '))
 }
 
-#[tactic(auto, unfolding(crate::specs::FirstNumbers::decimal_first))]
 /// A decimal number below 2^32, and what follows it.
 pub fn decimal_first(bytes: &[u8]) -> Option<(u32, &[u8])>
     ensures { MatchOption result (decimal_first bytes.now ≡ None)
@@ -24,7 +23,6 @@ pub fn decimal_first(bytes: &[u8]) -> Option<(u32, &[u8])>
     Some((decimal_in(field)?, rest))
 }
 
-#[tactic(auto, unfolding(crate::specs::FirstNumbers::hex_first))]
 /// A hexadecimal number below 2^64, and what follows it.
 pub fn hex_first(bytes: &[u8]) -> Option<(u64, &[u8])>
     ensures { MatchOption result (hex_first bytes.now ≡ None)
