@@ -352,7 +352,3 @@ holds_of t c spare a b h p wide = subst (λ o. IsSomeAnd o (Holds t c)) (sym (ap
     go : (o : Option LoaderHolding) → IsSomeAnd o (Holds t c) → IsSomeAnd (option_map (with_spare spare p.3) o) (Holds t c)
     go None e = absurd e
     go (Some g) e = (e.0, e.1, wide)
-
--- nothing was stored by three that only loaded
-pub stays_clean : (k0 k1 k2 k3 : CallerData) → k1.log.loader ≡ k0.log.loader → k2.log.loader ≡ k1.log.loader → k3.log.loader ≡ k2.log.loader → IsClean k0 → IsClean k3
-stays_clean k0 k1 k2 k3 one two three h = subst (λ o. IsSomeAnd o (λ (h : LoaderHolding). h.stored ≡ false)) (sym (three ∙ (two ∙ one))) h

@@ -10,6 +10,7 @@ pub mod Changed
 pub mod Overlaps
 pub mod Knowing
 pub mod Answering
+pub mod StillKnowing
 pub mod WholeCalls
 pub mod Bases
 pub mod Apart

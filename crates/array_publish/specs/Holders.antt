@@ -36,6 +36,12 @@ pub record HasStarts (t : Terms) (s : CopyStarts) : Type 0 where
   pub active : s.active ≡ copy_place t s.copy
   pub spare : s.spare ≡ copy_place t (1 - s.copy)
 
+-- What work on both copies asks of its caller: it holds the loader's lock, and they begin at these
+-- places.
+pub record MayWork (w : WordsData) (s : CopyStarts) (k : CallerData) : Type 0 where
+  pub holder : IsHolder w s.copy k
+  pub places : HasStarts w.terms s
+
 abbrev pub with_spare : List ℕ → Bool → LoaderHolding → LoaderHolding
 with_spare spare stored h = record h { spare = spare; stored = stored }
 
@@ -54,6 +60,11 @@ after_work more stores sights spare stored v = record v {
 abbrev pub Spells : List ℕ → CallerData → CallerData → Type 0
 Spells spare k k' = (more : List LoadEvent) × (stores : ℕ) × (sights : Sights) × (stored : Bool)
     × (k' ≡ record k { log = after_work more stores sights spare stored k.log })
+
+-- Words were loaded under the lock, and none was stored.
+pub record OnlyLoads (k k' : CallerData) : Type 0 where
+  pub same : Spells (spare_words k.log.loader) k k'
+  pub kept : k'.log.loader ≡ k.log.loader
 
 -- what the words of a copy say of its member i
 abbrev pub member_in : List ℕ → ℕ → Member

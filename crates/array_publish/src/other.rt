@@ -3,8 +3,8 @@
 ghost use Rattle.std.specs.Prelude.{◌≡◌, ◌<◌, ◌≤◌, ◌↔◌, IsTrue, slice_index};
 ghost use Rattle.word_rule.specs.Copies.{IsBehind};
 ghost use Rattle.word_rule.specs.Places.{copy_words};
-ghost use Rattle.array_publish.specs.Holders.{HasStarts, IsHolder, Spells, active_words, member_in};
-ghost use Rattle.array_publish.specs.Holders.{spare_words};
+ghost use Rattle.array_publish.specs.Holders.{IsHolder, MayWork, OnlyLoads, active_words};
+ghost use Rattle.array_publish.specs.Holders.{member_in, spare_words};
 ghost use Rattle.array_publish.specs.Other.{IsOneApart};
 
 use crate::walk::{COUNT, place_of_member};
@@ -22,11 +22,9 @@ pub struct OtherCopy {
 /// Loads a word of the other copy, counted from its first.
 #[inline(always)]
 fn other_word(words: &Words, me: &mut Caller, starts: &CopyStarts, at: u32) -> u64
-    requires holder { IsHolder words.now starts.now.copy me.old }
-    requires places { HasStarts words.now.terms starts.now }
+    requires work { MayWork words.now starts.now me.old }
     requires inside { at < copy_words words.now.terms }
-    ensures same { Spells (spare_words me.old.log.loader) me.old me.new }
-    ensures kept { me.new.log.loader ≡ me.old.log.loader }
+    ensures loads { OnlyLoads me.old me.new }
     ensures value { result ≡ slice_index (spare_words me.old.log.loader) at }
 {
     words.load_copy(me, starts.spare + at)
@@ -35,11 +33,9 @@ fn other_word(words: &Words, me: &mut Caller, starts: &CopyStarts, at: u32) -> u
 /// Whether the members with this index begin at one address in both copies.
 #[inline(always)]
 fn begin_alike(words: &Words, me: &mut Caller, starts: &CopyStarts, index: u32) -> bool
-    requires holder { IsHolder words.now starts.now.copy me.old }
-    requires places { HasStarts words.now.terms starts.now }
+    requires work { MayWork words.now starts.now me.old }
     requires inside { index < words.now.terms.loads }
-    ensures same { Spells (spare_words me.old.log.loader) me.old me.new }
-    ensures kept { me.new.log.loader ≡ me.old.log.loader }
+    ensures loads { OnlyLoads me.old me.new }
     ensures alike { IsTrue result ↔ ((member_in (active_words me.old.log.loader) index).span.first
         ≡ (member_in (spare_words me.old.log.loader) index).span.first) }
 {
@@ -52,14 +48,12 @@ fn begin_alike(words: &Words, me: &mut Caller, starts: &CopyStarts, index: u32) 
 /// What the other copy lists, as long as nothing was stored in it. Half of the members that are
 /// left are passed by at a time.
 pub fn other_copy(words: &Words, me: &mut Caller, active: &ActiveCopy) -> OtherCopy
-    requires holder { IsHolder words.now active.now.starts.copy me.old }
-    requires places { HasStarts words.now.terms active.now.starts }
+    requires work { MayWork words.now active.now.starts me.old }
     requires count { active.now.count ≡ slice_index (active_words me.old.log.loader) 1 }
     requires room { active.now.count ≤ words.now.terms.loads }
     requires behind { IsBehind words.now.terms (active_words me.old.log.loader)
         (spare_words me.old.log.loader) }
-    ensures same { Spells (spare_words me.old.log.loader) me.old me.new }
-    ensures kept { me.new.log.loader ≡ me.old.log.loader }
+    ensures loads { OnlyLoads me.old me.new }
     ensures holder { IsHolder words.now active.now.starts.copy me.new }
     ensures room { result.count ≤ words.now.terms.loads }
     ensures apart { IsOneApart (active_words me.old.log.loader) (spare_words me.old.log.loader)

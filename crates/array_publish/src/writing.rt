@@ -4,8 +4,8 @@
 ghost use Rattle.std.specs.Prelude.{◌≡◌, ℕ, ◌*◌, ◌<◌, ◌≤◌, length, slice_index, slice_set};
 ghost use Rattle.word_rule.specs.Callers.{AreTerms, IsMemberOf};
 ghost use Rattle.word_rule.specs.Places.{copy_words, segments};
-ghost use Rattle.array_publish.specs.Holders.{HasStarts, IsHolder, Spells, active_words, member_in};
-ghost use Rattle.array_publish.specs.Holders.{spare_words};
+ghost use Rattle.array_publish.specs.Holders.{HasStarts, IsHolder, MayWork, OnlyLoads, Spells, active_words};
+ghost use Rattle.array_publish.specs.Holders.{member_in, spare_words};
 ghost use Rattle.array_publish.specs.Search.{listed_member};
 ghost use Rattle.array_publish.specs.Writing.{EndsBelow, EndsFrom, HasMembers, HasPlace};
 ghost use Rattle.array_publish.specs.Writing.{AreRightBeside, HaveHeaders, IsWritten, SameHeaders};
@@ -67,11 +67,9 @@ pub fn starts_of(words: &Words, copy: u32) -> CopyStarts
 /// Loads a word of the active copy, counted from its first.
 #[inline(always)]
 pub fn active_word(words: &Words, me: &mut Caller, starts: &CopyStarts, at: u32) -> u64
-    requires holder { IsHolder words.now starts.now.copy me.old }
-    requires places { HasStarts words.now.terms starts.now }
+    requires work { MayWork words.now starts.now me.old }
     requires inside { at < copy_words words.now.terms }
-    ensures same { Spells (spare_words me.old.log.loader) me.old me.new }
-    ensures kept { me.new.log.loader ≡ me.old.log.loader }
+    ensures loads { OnlyLoads me.old me.new }
     ensures value { result ≡ slice_index (active_words me.old.log.loader) at }
 {
     words.load_copy(me, starts.active + at)
@@ -80,8 +78,7 @@ pub fn active_word(words: &Words, me: &mut Caller, starts: &CopyStarts, at: u32)
 /// Brings a word of the other copy to a value.
 #[inline(always)]
 fn store_word(words: &Words, me: &mut Caller, starts: &CopyStarts, at: u32, value: u64)
-    requires holder { IsHolder words.now starts.now.copy me.old }
-    requires places { HasStarts words.now.terms starts.now }
+    requires work { MayWork words.now starts.now me.old }
     requires inside { at < copy_words words.now.terms }
     ensures spells { Spells (slice_set (spare_words me.old.log.loader) at value) me.old me.new }
     ensures kept { slice_index (spare_words me.old.log.loader) at ≡ value
@@ -96,8 +93,7 @@ fn store_word(words: &Words, me: &mut Caller, starts: &CopyStarts, at: u32, valu
 /// Writes what is said of a member into its place.
 #[inline(always)]
 fn store_listed(words: &Words, me: &mut Caller, starts: &CopyStarts, index: u32, listed: Listed)
-    requires holder { IsHolder words.now starts.now.copy me.old }
-    requires places { HasStarts words.now.terms starts.now }
+    requires work { MayWork words.now starts.now me.old }
     requires inside { index < words.now.terms.loads }
     ensures { Spells (with_member index (listed_member listed) (spare_words me.old.log.loader))
         me.old me.new }
@@ -112,11 +108,9 @@ fn store_listed(words: &Words, me: &mut Caller, starts: &CopyStarts, index: u32,
 /// made where they are only written again.
 #[inline(always)]
 fn active_listed(words: &Words, me: &mut Caller, starts: &CopyStarts, index: u32) -> Listed
-    requires holder { IsHolder words.now starts.now.copy me.old }
-    requires places { HasStarts words.now.terms starts.now }
+    requires work { MayWork words.now starts.now me.old }
     requires inside { index < words.now.terms.loads }
-    ensures same { Spells (spare_words me.old.log.loader) me.old me.new }
-    ensures kept { me.new.log.loader ≡ me.old.log.loader }
+    ensures loads { OnlyLoads me.old me.new }
     ensures value { listed_member result ≡ member_in (active_words me.old.log.loader) index }
 {
     let place = place_of_member(index);
@@ -132,12 +126,10 @@ fn active_listed(words: &Words, me: &mut Caller, starts: &CopyStarts, index: u32
 
 /// The member of the active copy with this index.
 pub fn active_member(words: &Words, me: &mut Caller, starts: &CopyStarts, index: u32) -> Member
-    requires holder { IsHolder words.now starts.now.copy me.old }
-    requires places { HasStarts words.now.terms starts.now }
+    requires work { MayWork words.now starts.now me.old }
     requires inside { index < words.now.terms.loads }
     requires known { IsMemberOf words.now.terms (member_in (active_words me.old.log.loader) index) }
-    ensures same { Spells (spare_words me.old.log.loader) me.old me.new }
-    ensures kept { me.new.log.loader ≡ me.old.log.loader }
+    ensures loads { OnlyLoads me.old me.new }
     ensures value { result ≡ member_in (active_words me.old.log.loader) index }
 {
     let listed = active_listed(words, me, starts, index);
@@ -147,11 +139,9 @@ pub fn active_member(words: &Words, me: &mut Caller, starts: &CopyStarts, index:
 /// How many members of the active copy end below the address. Half of those that are left are
 /// passed by at a time.
 pub fn ending_below(words: &Words, me: &mut Caller, active: &ActiveCopy, address: u64) -> u32
-    requires holder { IsHolder words.now active.now.starts.copy me.old }
-    requires places { HasStarts words.now.terms active.now.starts }
+    requires work { MayWork words.now active.now.starts me.old }
     requires room { active.now.count ≤ words.now.terms.loads }
-    ensures same { Spells (spare_words me.old.log.loader) me.old me.new }
-    ensures kept { me.new.log.loader ≡ me.old.log.loader }
+    ensures loads { OnlyLoads me.old me.new }
     ensures inside { result ≤ active.now.count }
     ensures below { EndsBelow (active_words me.old.log.loader) address result }
     ensures above { EndsFrom (active_words me.old.log.loader) address active.now.count result }
@@ -179,8 +169,7 @@ fn changed_listed(
     change: &Change,
     index: u32,
 ) -> Listed
-    requires holder { IsHolder words.now active.now.starts.copy me.old }
-    requires places { HasStarts words.now.terms active.now.starts }
+    requires work { MayWork words.now active.now.starts me.old }
     requires place { HasPlace change.now active.now.count }
     requires room { active.now.count ≤ words.now.terms.loads }
     requires inside { index < changed_count change.now active.now.count }
@@ -239,8 +228,7 @@ fn places_to_write(change: &Change, other: OtherCopy, count: u32) -> Stretch
 
 /// Writes these members as they are after a change, where all others of so many are so already.
 fn write_members(words: &Words, me: &mut Caller, active: &ActiveCopy, change: &Change, at: Stretch)
-    requires holder { IsHolder words.now active.now.starts.copy me.old }
-    requires places { HasStarts words.now.terms active.now.starts }
+    requires work { MayWork words.now active.now.starts me.old }
     requires place { HasPlace change.now active.now.count }
     requires before { active.now.count ≤ words.now.terms.loads }
     requires inside { at.to ≤ changed_count change.now active.now.count }
@@ -261,8 +249,7 @@ fn write_members(words: &Words, me: &mut Caller, active: &ActiveCopy, change: &C
 
 /// Says of a segment which is below it, and how many of so many members it has.
 fn store_header(words: &Words, me: &mut Caller, starts: &CopyStarts, segment: u32, count: u32)
-    requires holder { IsHolder words.now starts.now.copy me.old }
-    requires places { HasStarts words.now.terms starts.now }
+    requires work { MayWork words.now starts.now me.old }
     requires inside { segment < segments words.now.terms.loads }
     requires some { FULL * segment ≤ count }
     ensures { Spells (with_header segment (count_in count segment) (spare_words me.old.log.loader))
@@ -277,8 +264,7 @@ fn store_header(words: &Words, me: &mut Caller, starts: &CopyStarts, segment: u3
 /// Says of each segment from this one on which is below it, and how many members it has. Those
 /// below it say so already.
 fn write_headers(words: &Words, me: &mut Caller, starts: &CopyStarts, first: u32, count: u32)
-    requires holder { IsHolder words.now starts.now.copy me.old }
-    requires places { HasStarts words.now.terms starts.now }
+    requires work { MayWork words.now starts.now me.old }
     requires room { count ≤ words.now.terms.loads }
     requires below { HaveHeaders (spare_words me.old.log.loader) count first }
     ensures same { Spells (spare_words me.new.log.loader) me.old me.new }
@@ -293,8 +279,7 @@ fn write_headers(words: &Words, me: &mut Caller, starts: &CopyStarts, first: u32
 
 /// Says how many segments are in use, and how many members there are.
 fn store_totals(words: &Words, me: &mut Caller, starts: &CopyStarts, count: u32)
-    requires holder { IsHolder words.now starts.now.copy me.old }
-    requires places { HasStarts words.now.terms starts.now }
+    requires work { MayWork words.now starts.now me.old }
     ensures { Spells (with_totals count (spare_words me.old.log.loader)) me.old me.new }
 {
     store_word(words, me, starts, HEAD, segments_for(count) as u64);
@@ -304,8 +289,7 @@ fn store_totals(words: &Words, me: &mut Caller, starts: &CopyStarts, count: u32)
 /// Writes the copy that isn't active, in which nothing was stored yet: what the active one lists,
 /// after a change.
 pub fn write_copy(words: &Words, me: &mut Caller, active: &ActiveCopy, change: &Change, count: u32)
-    requires holder { IsHolder words.now active.now.starts.copy me.old }
-    requires places { HasStarts words.now.terms active.now.starts }
+    requires work { MayWork words.now active.now.starts me.old }
     requires place { HasPlace change.now active.now.count }
     requires number { active.now.count ≡ slice_index (active_words me.old.log.loader) 1 }
     requires count { count ≡ changed_count change.now active.now.count }

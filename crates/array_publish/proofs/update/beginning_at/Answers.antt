@@ -1,10 +1,10 @@
 use Rattle.std.proofs.Common.{arith}
 use Rattle.array_publish.proofs.Knowing.{known_at}
-use Rattle.array_publish.proofs.Works.{spells_none}
+use Rattle.array_publish.proofs.Works.{loads_none}
 use Rattle.array_publish.proofs.update.beginning_at.Goals as goal
 
-pub returns-then-place-active-clause-same : goal.returns-then-place-active-clause-same
-returns-then-place-active-clause-same c = spells_none c.args.me.now
+pub returns-then-place-active-clause-loads : goal.returns-then-place-active-clause-loads
+returns-then-place-active-clause-loads c = loads_none c.args.me.now
 
 pub active_member-member-requires-clause-known : goal.active_member-member-requires-clause-known
 active_member-member-requires-clause-known c =

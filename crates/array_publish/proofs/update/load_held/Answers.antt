@@ -10,98 +10,88 @@ use Rattle.array_publish.specs.Holders.{active_words, member_in, spare_words}
 use Rattle.array_publish.specs.Update.{AnswersLoad}
 use Rattle.array_publish.specs.Writing.{EndsBelow}
 use Rattle.array_publish.specs.declared.writing.ActiveCopy.{ActiveCopy}
-use Rattle.array_publish.proofs.Answering.{may_refuse, overlap_so, full_so, published_so, may_publish, free_listed, works_then, is_held, holds_of, stays_clean}
-use Rattle.array_publish.proofs.Knowing.{counted_so, knows_stays, terms_before}
-use Rattle.array_publish.proofs.Works.{spare_wide, spells_active}
+use Rattle.array_publish.proofs.Answering.{may_refuse, overlap_so, full_so, published_so, may_publish, free_listed, works_then, is_held, holds_of}
+use Rattle.array_publish.proofs.Knowing.{counted_so, terms_before}
+use Rattle.array_publish.proofs.StillKnowing.{StillKnows, knows_after, still_clean, still_knows}
+use Rattle.array_publish.proofs.update.load_held.Goals.{After-lowest_overlap}
 use Rattle.array_publish.proofs.update.load_held.Goals as goal
 
+-- once it is known what overlaps
+looked : (c : After-lowest_overlap) → StillKnows c.args.words.now c.active_copy-active.result c.args.me.now c.lowest_overlap.new.me
+looked c =
+    let taken : StillKnows _ _ _ _ = record { works = c.active_copy-active.ensures.works; knows = c.active_copy-active.ensures.knows; kept = c.active_copy-active.ensures.kept } in
+    still_knows _ _ _ _ _ (still_knows _ _ _ _ _ taken c.ending_below-place.ensures.loads) c.lowest_overlap.ensures.loads
+
+-- where the span begins after all that end below it, and before the one there
+beginning : (c : After-lowest_overlap) → EndsBelow (active_words c.active_copy-active.new.me.log.loader) c.args.member.now.span.first c.ending_below-place.result
+beginning c = subst (λ pc. EndsBelow (active_words c.active_copy-active.new.me.log.loader) pc c.ending_below-place.result) c.first.ensures.value c.ending_below-place.ensures.below
+
 pub lowest_overlap-requires-clause-knows : goal.lowest_overlap-requires-clause-knows
-lowest_overlap-requires-clause-knows c =
-    let w : WordsData = c.args.words.now in let a : ActiveCopy = c.active_copy-active.result in let k1 : CallerData = c.active_copy-active.new.me in let one = c.active_copy-active.ensures.knows in
-    knows_stays w a (spare_words k1.log.loader) k1 c.ending_below-place.new.me one c.ending_below-place.ensures.same (spare_wide w a.starts.copy k1 one.holder)
+lowest_overlap-requires-clause-knows c = knows_after _ _ _ _ c.active_copy-active.ensures.knows c.ending_below-place.ensures.loads
 
 pub returns-in-Some-clause-answer : goal.returns-in-Some-clause-answer
 returns-in-Some-clause-answer c =
-    let w : WordsData = c.args.words.now in let a : ActiveCopy = c.active_copy-active.result in let k1 : CallerData = c.active_copy-active.new.me in let one = c.active_copy-active.ensures.knows in
-    let k2 : CallerData = c.ending_below-place.new.me in let k3 : CallerData = c.lowest_overlap.new.me in
-    let two = knows_stays w a (spare_words k1.log.loader) k1 k2 one c.ending_below-place.ensures.same (spare_wide w a.starts.copy k1 one.holder) in
-    let three = knows_stays w a (spare_words k2.log.loader) k2 k3 two c.lowest_overlap.ensures.same (spare_wide w a.starts.copy k2 two.holder) in
-    let works = works_then (spare_words k2.log.loader) c.args.me.now k2 k3 (works_then (spare_words k1.log.loader) c.args.me.now k1 k2 c.active_copy-active.ensures.works c.ending_below-place.ensures.same) c.lowest_overlap.ensures.same in
+    let w : WordsData = c.args.words.now in let k3 : CallerData = c.lowest_overlap.new.me in let now = looked (goal.at.returns-in-Some-clause-answer c).After-lowest_overlap in
     subst (λ stamp. AnswersLoad w.terms c.args.member.now c.args.me.now c.load_clock-clock.new.me (loading.Overlap c.in-Some.other stamp)) (sym c.updates_at.ensures)
-    (overlap_so w.terms c.args.me.now k3 c.load_clock-clock.new.me c.load_clock-clock.result c.args.member.now works (stays_clean c.args.me.now k1 k2 k3 c.active_copy-active.ensures.kept c.ending_below-place.ensures.kept c.lowest_overlap.ensures.kept c.requires.clean) c.load_clock-clock.ensures.log c.load_clock-clock.ensures.rest c.in-Some.other
-    (λ xs lists. c.in-Some.ensures.found xs (subst (λ ws. ListsMembers ws xs) (spells_active (spare_words k2.log.loader) k2 k3 c.lowest_overlap.ensures.same) lists)))
+    (overlap_so w.terms c.args.me.now k3 c.load_clock-clock.new.me c.load_clock-clock.result c.args.member.now now.works (still_clean _ _ _ k3 now c.requires.clean) c.load_clock-clock.ensures.log c.load_clock-clock.ensures.rest c.in-Some.other
+    (λ xs lists. c.in-Some.ensures.found xs (subst (λ ws. ListsMembers ws xs) (ap active_words c.lowest_overlap.ensures.loads.kept) lists)))
 
 pub load_clock-clock-requires-then-active-loads-clause-ask : goal.load_clock-clock-requires-then-active-loads-clause-ask
 load_clock-clock-requires-then-active-loads-clause-ask c =
-    let w : WordsData = c.args.words.now in let a : ActiveCopy = c.active_copy-active.result in let k1 : CallerData = c.active_copy-active.new.me in let one = c.active_copy-active.ensures.knows in
-    let k2 : CallerData = c.ending_below-place.new.me in let k3 : CallerData = c.lowest_overlap.new.me in
-    let two = knows_stays w a (spare_words k1.log.loader) k1 k2 one c.ending_below-place.ensures.same (spare_wide w a.starts.copy k1 one.holder) in
-    let three = knows_stays w a (spare_words k2.log.loader) k2 k3 two c.lowest_overlap.ensures.same (spare_wide w a.starts.copy k2 two.holder) in
+    let w : WordsData = c.args.words.now in let a : ActiveCopy = c.active_copy-active.result in let k1 : CallerData = c.active_copy-active.new.me in
+    let there = (goal.at.load_clock-clock-requires-then-active-loads-clause-ask c).After-lowest_overlap in let knows = (looked there).knows in
     let none = c.in_default.ensures.none in
-    let below = subst (λ pc. EndsBelow (active_words k1.log.loader) pc c.ending_below-place.result) c.first.ensures.value c.ending_below-place.ensures.below in
-    let begin = subst (λ ws. (c.ending_below-place.result ≡ a.count) ⊎ (c.args.member.now.span.last < (member_in ws c.ending_below-place.result).span.first)) (spells_active (spare_words k1.log.loader) k1 k2 c.ending_below-place.ensures.same) none.1 in
-    let xs : List Member = three.listing.members in
-    let mine = subst (λ ws. ListsMembers ws xs) (spells_active (spare_words k2.log.loader) k2 k3 c.lowest_overlap.ensures.same ∙ spells_active (spare_words k1.log.loader) k1 k2 c.ending_below-place.ensures.same) three.listing.lists in
-    let free = free_listed (active_words k1.log.loader) xs a.count c.ending_below-place.result c.args.member.now.span c.args.member.now mine three.count c.ending_below-place.ensures.inside below begin in
-    let count = three.count in let full = c.if-active-loads.true in let loads = c.loads.ensures in
-    may_refuse w a k3 (update.Load c.args.member.now) three (inr (All-append (λ x. ¬ Overlaps x.span c.args.member.now.span) w.terms.fixed xs none.0 free, omega (arith, count, full, loads)))
+    let active2 = ap active_words c.ending_below-place.ensures.loads.kept in
+    let begin = subst (λ ws. (c.ending_below-place.result ≡ a.count) ⊎ (c.args.member.now.span.last < (member_in ws c.ending_below-place.result).span.first)) active2 none.1 in
+    let xs : List Member = knows.listing.members in
+    let mine = subst (λ ws. ListsMembers ws xs) (ap active_words c.lowest_overlap.ensures.loads.kept ∙ active2) knows.listing.lists in
+    let free = free_listed (active_words k1.log.loader) xs a.count c.ending_below-place.result c.args.member.now.span c.args.member.now mine knows.count c.ending_below-place.ensures.inside (beginning there) begin in
+    let count = knows.count in let full = c.if-active-loads.true in let loads = c.loads.ensures in
+    may_refuse w a c.lowest_overlap.new.me (update.Load c.args.member.now) knows (inr (All-append (λ x. ¬ Overlaps x.span c.args.member.now.span) w.terms.fixed xs none.0 free, omega (arith, count, full, loads)))
 
 pub returns-then-active-loads-clause-answer : goal.returns-then-active-loads-clause-answer
 returns-then-active-loads-clause-answer c =
-    let w : WordsData = c.args.words.now in let a : ActiveCopy = c.active_copy-active.result in let k1 : CallerData = c.active_copy-active.new.me in let one = c.active_copy-active.ensures.knows in
-    let k2 : CallerData = c.ending_below-place.new.me in let k3 : CallerData = c.lowest_overlap.new.me in
-    let two = knows_stays w a (spare_words k1.log.loader) k1 k2 one c.ending_below-place.ensures.same (spare_wide w a.starts.copy k1 one.holder) in
-    let three = knows_stays w a (spare_words k2.log.loader) k2 k3 two c.lowest_overlap.ensures.same (spare_wide w a.starts.copy k2 two.holder) in
-    let works = works_then (spare_words k2.log.loader) c.args.me.now k2 k3 (works_then (spare_words k1.log.loader) c.args.me.now k1 k2 c.active_copy-active.ensures.works c.ending_below-place.ensures.same) c.lowest_overlap.ensures.same in
+    let w : WordsData = c.args.words.now in let a : ActiveCopy = c.active_copy-active.result in let k1 : CallerData = c.active_copy-active.new.me in let k3 : CallerData = c.lowest_overlap.new.me in
+    let there = (goal.at.returns-then-active-loads-clause-answer c).After-lowest_overlap in let now = looked there in
     let none = c.in_default.ensures.none in
-    let below = subst (λ pc. EndsBelow (active_words k1.log.loader) pc c.ending_below-place.result) c.first.ensures.value c.ending_below-place.ensures.below in
-    let active2 = spells_active (spare_words k1.log.loader) k1 k2 c.ending_below-place.ensures.same in
-    let active3 = spells_active (spare_words k2.log.loader) k2 k3 c.lowest_overlap.ensures.same in
+    let active2 = ap active_words c.ending_below-place.ensures.loads.kept in
     let begin = subst (λ ws. (c.ending_below-place.result ≡ a.count) ⊎ (c.args.member.now.span.last < (member_in ws c.ending_below-place.result).span.first)) active2 none.1 in
     subst (λ stamp. AnswersLoad w.terms c.args.member.now c.args.me.now c.load_clock-clock-then-active-loads.new.me (loading.LoadFull stamp)) (sym c.updates_at-then-active-loads.ensures)
-    (full_so w.terms c.args.me.now k3 c.load_clock-clock-then-active-loads.new.me c.load_clock-clock-then-active-loads.result c.args.member.now works (stays_clean c.args.me.now k1 k2 k3 c.active_copy-active.ensures.kept c.ending_below-place.ensures.kept c.lowest_overlap.ensures.kept c.requires.clean) c.load_clock-clock-then-active-loads.ensures.log c.load_clock-clock-then-active-loads.ensures.rest
+    (full_so w.terms c.args.me.now k3 c.load_clock-clock-then-active-loads.new.me c.load_clock-clock-then-active-loads.result c.args.member.now now.works (still_clean _ _ _ k3 now c.requires.clean) c.load_clock-clock-then-active-loads.ensures.log c.load_clock-clock-then-active-loads.ensures.rest
     (λ xs lists.
-    let mine = subst (λ ws. ListsMembers ws xs) (active3 ∙ active2) lists in
-    All-append (λ x. ¬ Overlaps x.span c.args.member.now.span) w.terms.fixed xs none.0 (free_listed (active_words k1.log.loader) xs a.count c.ending_below-place.result c.args.member.now.span c.args.member.now mine (counted_so w a k1 xs one mine) c.ending_below-place.ensures.inside below begin)))
+    let mine = subst (λ ws. ListsMembers ws xs) (ap active_words c.lowest_overlap.ensures.loads.kept ∙ active2) lists in
+    All-append (λ x. ¬ Overlaps x.span c.args.member.now.span) w.terms.fixed xs none.0 (free_listed (active_words k1.log.loader) xs a.count c.ending_below-place.result c.args.member.now.span c.args.member.now mine (counted_so w a k1 xs c.active_copy-active.ensures.knows mine) c.ending_below-place.ensures.inside (beginning there) begin)))
 
 pub write_copy-requires-clause-number : goal.write_copy-requires-clause-number
-write_copy-requires-clause-number c =
-    let w : WordsData = c.args.words.now in let a : ActiveCopy = c.active_copy-active.result in let k1 : CallerData = c.active_copy-active.new.me in let one = c.active_copy-active.ensures.knows in
-    let k2 : CallerData = c.ending_below-place.new.me in let k3 : CallerData = c.lowest_overlap.new.me in
-    let two = knows_stays w a (spare_words k1.log.loader) k1 k2 one c.ending_below-place.ensures.same (spare_wide w a.starts.copy k1 one.holder) in
-    let three = knows_stays w a (spare_words k2.log.loader) k2 k3 two c.lowest_overlap.ensures.same (spare_wide w a.starts.copy k2 two.holder) in three.count ∙ sym three.listing.lists.count
+write_copy-requires-clause-number c = let knows = (looked (goal.at.write_copy-requires-clause-number c).After-lowest_overlap).knows in knows.count ∙ sym knows.listing.lists.count
 
 pub write_copy-requires-clause-behind : goal.write_copy-requires-clause-behind
 write_copy-requires-clause-behind c =
-    subst (λ o. IsBehind c.args.words.now.terms (active_words o) (spare_words o)) (sym (c.lowest_overlap.ensures.kept ∙ (c.ending_below-place.ensures.kept ∙ c.active_copy-active.ensures.kept))) c.active_copy-active.ensures.behind
+    let now = looked (goal.at.write_copy-requires-clause-behind c).After-lowest_overlap in
+    subst (λ o. IsBehind c.args.words.now.terms (active_words o) (spare_words o)) (sym now.kept) c.active_copy-active.ensures.behind
 
 pub write_copy-requires-clause-before : goal.write_copy-requires-clause-before
 write_copy-requires-clause-before c = c.active_copy-active.ensures.knows.room
 
 pub publish-number-requires-clause-may : goal.publish-number-requires-clause-may
 publish-number-requires-clause-may c =
-    let w : WordsData = c.args.words.now in let a : ActiveCopy = c.active_copy-active.result in let k1 : CallerData = c.active_copy-active.new.me in let one = c.active_copy-active.ensures.knows in
-    let k2 : CallerData = c.ending_below-place.new.me in let k3 : CallerData = c.lowest_overlap.new.me in let k4 : CallerData = c.write_copy.new.me in
-    let two = knows_stays w a (spare_words k1.log.loader) k1 k2 one c.ending_below-place.ensures.same (spare_wide w a.starts.copy k1 one.holder) in
-    let three = knows_stays w a (spare_words k2.log.loader) k2 k3 two c.lowest_overlap.ensures.same (spare_wide w a.starts.copy k2 two.holder) in
-    let works = works_then (spare_words k4.log.loader) c.args.me.now k3 k4 (works_then (spare_words k2.log.loader) c.args.me.now k2 k3 (works_then (spare_words k1.log.loader) c.args.me.now k1 k2 c.active_copy-active.ensures.works c.ending_below-place.ensures.same) c.lowest_overlap.ensures.same) c.write_copy.ensures.same in
+    let w : WordsData = c.args.words.now in let a : ActiveCopy = c.active_copy-active.result in let k3 : CallerData = c.lowest_overlap.new.me in let k4 : CallerData = c.write_copy.new.me in
+    let there = (goal.at.publish-number-requires-clause-may c).After-lowest_overlap in let now = looked there in
+    let works = works_then (spare_words k4.log.loader) c.args.me.now k3 k4 now.works c.write_copy.ensures.same in
     let none = c.in_default.ensures.none in
-    let active2 = spells_active (spare_words k1.log.loader) k1 k2 c.ending_below-place.ensures.same in
-    let active3 = spells_active (spare_words k2.log.loader) k2 k3 c.lowest_overlap.ensures.same in
-    let below = subst (λ ws. EndsBelow ws c.args.member.now.span.first c.ending_below-place.result) (sym (active3 ∙ active2)) (subst (λ pc. EndsBelow (active_words k1.log.loader) pc c.ending_below-place.result) c.first.ensures.value c.ending_below-place.ensures.below) in
+    let active3 = ap active_words c.lowest_overlap.ensures.loads.kept in
+    let below = subst (λ ws. EndsBelow ws c.args.member.now.span.first c.ending_below-place.result) (sym (active3 ∙ ap active_words c.ending_below-place.ensures.loads.kept)) (beginning there) in
     let begin = subst (λ ws. (c.ending_below-place.result ≡ a.count) ⊎ (c.args.member.now.span.last < (member_in ws c.ending_below-place.result).span.first)) (sym active3) none.1 in
     let allowance : k4.log.budget.allowance ≡ c.args.me.now.log.budget.allowance = ap (λ (k : CallerData). k.log.budget.allowance) works.6.1 in
-    let due_now = c.requires.due in let room = three.room in let loads = c.loads.ensures in let less = c.if-active-loads.false in
-    may_publish w a k3 k4 c.ending_below-place.result c.args.member.now three c.write_copy.ensures.same (holds_of w.terms a.starts.copy (spare_words k4.log.loader) k3 k4 three.holder.holds c.write_copy.ensures.same c.write_copy.ensures.wide) (omega (arith, allowance, due_now)) (c.first.ensures.span, c.requires.payload) (omega (arith, room, loads, less)) c.ending_below-place.ensures.inside below none.0 begin c.write_copy.ensures.written
+    let due_now = c.requires.due in let room = now.knows.room in let loads = c.loads.ensures in let less = c.if-active-loads.false in
+    may_publish w a k3 k4 c.ending_below-place.result c.args.member.now now.knows c.write_copy.ensures.same (holds_of w.terms a.starts.copy (spare_words k4.log.loader) k3 k4 now.knows.holder.holds c.write_copy.ensures.same c.write_copy.ensures.wide) (omega (arith, allowance, due_now)) (c.first.ensures.span, c.requires.payload) (omega (arith, room, loads, less)) c.ending_below-place.ensures.inside below none.0 begin c.write_copy.ensures.written
 
 pub returns-clause-answer : goal.returns-clause-answer
 returns-clause-answer c =
-    let w : WordsData = c.args.words.now in let a : ActiveCopy = c.active_copy-active.result in let k1 : CallerData = c.active_copy-active.new.me in let one = c.active_copy-active.ensures.knows in
-    let k2 : CallerData = c.ending_below-place.new.me in let k3 : CallerData = c.lowest_overlap.new.me in let k4 : CallerData = c.write_copy.new.me in
-    let two = knows_stays w a (spare_words k1.log.loader) k1 k2 one c.ending_below-place.ensures.same (spare_wide w a.starts.copy k1 one.holder) in
-    let three = knows_stays w a (spare_words k2.log.loader) k2 k3 two c.lowest_overlap.ensures.same (spare_wide w a.starts.copy k2 two.holder) in
-    let works = works_then (spare_words k4.log.loader) c.args.me.now k3 k4 (works_then (spare_words k2.log.loader) c.args.me.now k2 k3 (works_then (spare_words k1.log.loader) c.args.me.now k1 k2 c.active_copy-active.ensures.works c.ending_below-place.ensures.same) c.lowest_overlap.ensures.same) c.write_copy.ensures.same in
-    let holds = holds_of w.terms a.starts.copy (spare_words k4.log.loader) k3 k4 three.holder.holds c.write_copy.ensures.same c.write_copy.ensures.wide in
+    let w : WordsData = c.args.words.now in let a : ActiveCopy = c.active_copy-active.result in let k3 : CallerData = c.lowest_overlap.new.me in let k4 : CallerData = c.write_copy.new.me in
+    let now = looked (goal.at.returns-clause-answer c).After-lowest_overlap in
+    let works = works_then (spare_words k4.log.loader) c.args.me.now k3 k4 now.works c.write_copy.ensures.same in
+    let holds = holds_of w.terms a.starts.copy (spare_words k4.log.loader) k3 k4 now.knows.holder.holds c.write_copy.ensures.same c.write_copy.ensures.wide in
     published_so w.terms c.args.me.now k4 c.publish-number.new.me c.publish-number.ensures.log.0 c.publish-number.result c.args.member.now works (is_held w.terms a.starts.copy k4.log.loader holds) c.publish-number.ensures.log.1 c.publish-number.ensures.rest c.publish-number.ensures.number
 
 pub returns-in-Some-clause-terms : goal.returns-in-Some-clause-terms

@@ -5,11 +5,11 @@ use Rattle.word_rule.specs.CallerData.{CallerData}
 use Rattle.array_publish.specs.Holders.{active_words, member_in}
 use Rattle.array_publish.proofs.Knowing.{counted_so, known_at}
 use Rattle.array_publish.proofs.Overlaps.{both_lowest, ends_listed, fixed_lower, fixed_or_none, free_split, listed_is, listed_lowest, only_listed}
-use Rattle.array_publish.proofs.Works.{spells_none}
+use Rattle.array_publish.proofs.Works.{loads_none}
 use Rattle.array_publish.proofs.update.lowest_overlap.Goals as goal
 
-pub returns-then-place-active-clause-same : goal.returns-then-place-active-clause-same
-returns-then-place-active-clause-same c = spells_none c.args.me.now
+pub returns-then-place-active-clause-loads : goal.returns-then-place-active-clause-loads
+returns-then-place-active-clause-loads c = loads_none c.args.me.now
 
 pub returns-then-place-active-clause-found : goal.returns-then-place-active-clause-found
 returns-then-place-active-clause-found c xs lists =

@@ -14,7 +14,7 @@ write_members-requires-clause-rest c =
     let other = c.other_copy-other.result in
     let at = c.places_to_write-places.result in
     let beside = right_beside c.args.change.now (active_words k0.log.loader) (spare_words k0.log.loader) c.args.active.now.count c.args.count other.count other.place at c.requires.place c.requires.count c.other_copy-other.ensures.apart.members c.places_to_write-places.ensures.below c.places_to_write-places.ensures.above in
-    subst (λ o. AreRightBeside c.args.change.now (active_words o) (spare_words o) (changed_count c.args.change.now c.args.active.now.count) at) (sym c.other_copy-other.ensures.kept) (subst (λ n. AreRightBeside c.args.change.now (active_words k0.log.loader) (spare_words k0.log.loader) n at) c.requires.count beside)
+    subst (λ o. AreRightBeside c.args.change.now (active_words o) (spare_words o) (changed_count c.args.change.now c.args.active.now.count) at) (sym c.other_copy-other.ensures.loads.kept) (subst (λ n. AreRightBeside c.args.change.now (active_words k0.log.loader) (spare_words k0.log.loader) n at) c.requires.count beside)
 
 pub write_headers-requires-clause-below : goal.write_headers-requires-clause-below
 write_headers-requires-clause-below c s less =
@@ -23,7 +23,7 @@ write_headers-requires-clause-below c s less =
     let first = c.min-first.ensures in
     let old = headers_below (spare_words k0.log.loader) c.args.count other.count _ c.other_copy-other.ensures.apart.headers (omega (arith, first)) (omega (arith, first)) s less in
     let same = c.write_members.ensures.headers s in
-    let kept = c.other_copy-other.ensures.kept in
+    let kept = c.other_copy-other.ensures.loads.kept in
     (same.0 ∙ (ap (λ o. get_or (spare_words o) (segment_place s) 0) kept ∙ old.0), same.1 ∙ (ap (λ o. get_or (spare_words o) (segment_place s + 1) 0) kept ∙ old.1))
 
 pub returns-clause-same : goal.returns-clause-same
@@ -34,7 +34,7 @@ returns-clause-same c =
     let k3 : CallerData = c.write_headers.new.me in
     let k4 : CallerData = c.store_totals.new.me in
     let words : List ℕ = with_totals c.args.count (spare_words k3.log.loader) in
-    let one = spells_both (spare_words k0.log.loader) (spare_words k2.log.loader) k0 k1 k2 c.other_copy-other.ensures.same c.write_members.ensures.same in
+    let one = spells_both (spare_words k0.log.loader) (spare_words k2.log.loader) k0 k1 k2 c.other_copy-other.ensures.loads.same c.write_members.ensures.same in
     let two = spells_both (spare_words k2.log.loader) (spare_words k3.log.loader) k0 k2 k3 one c.write_headers.ensures.same in
     let is = spells_spare c.args.words.now.terms c.args.active.now.starts.copy words k3 k4 c.write_headers.ensures.holder.holds c.store_totals.ensures in
     subst (λ ws. Spells ws k0 k4) (sym is) (spells_both (spare_words k3.log.loader) words k0 k3 k4 two c.store_totals.ensures)
@@ -51,7 +51,7 @@ returns-clause-written c =
     let is = spells_spare w.terms c.args.active.now.starts.copy words k3 k4 h3.holds c.store_totals.ensures in
     let wide = spare_wide w c.args.active.now.starts.copy k3 h3 in
     let active : List ℕ = active_words k0.log.loader in
-    let members : HasMembers c.args.change.now active (spare_words k2.log.loader) c.args.count = subst (HasMembers c.args.change.now active (spare_words k2.log.loader)) (sym c.requires.count) (subst (λ o. HasMembers c.args.change.now (active_words o) (spare_words k2.log.loader) (changed_count c.args.change.now c.args.active.now.count)) c.other_copy-other.ensures.kept c.write_members.ensures.members) in
+    let members : HasMembers c.args.change.now active (spare_words k2.log.loader) c.args.count = subst (HasMembers c.args.change.now active (spare_words k2.log.loader)) (sym c.requires.count) (subst (λ o. HasMembers c.args.change.now (active_words o) (spare_words k2.log.loader) (changed_count c.args.change.now c.args.active.now.count)) c.other_copy-other.ensures.loads.kept c.write_members.ensures.members) in
     subst (IsWritten c.args.change.now active c.args.count) (sym is)
     (totals_written c.args.change.now active (spare_words k3.log.loader) c.args.count (omega (arith, wide)) (λ i less. c.write_headers.ensures.members i ∙ members i less) c.write_headers.ensures.headers)
 

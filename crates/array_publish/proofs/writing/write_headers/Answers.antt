@@ -10,7 +10,7 @@ use Rattle.array_publish.proofs.writing.write_headers.Goals as goal
 
 pub loop-segment-init : goal.loop-segment-init
 loop-segment-init c = record {
-  work = written_none c.args.words.now c.args.starts.now.copy c.args.me.now c.requires.holder;
+  work = written_none c.args.words.now c.args.starts.now.copy c.args.me.now c.requires.work.holder;
   headers = c.requires.below;
   members = λ i. refl;
 }

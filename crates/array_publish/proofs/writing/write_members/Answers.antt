@@ -12,7 +12,7 @@ use Rattle.array_publish.proofs.writing.write_members.Goals as goal
 
 pub loop-index-init : goal.loop-index-init
 loop-index-init c = record {
-  work = written_none c.args.words.now c.args.active.now.starts.copy c.args.me.now c.requires.holder;
+  work = written_none c.args.words.now c.args.active.now.starts.copy c.args.me.now c.requires.work.holder;
   members = c.requires.rest;
   headers = λ s. (refl, refl);
 }
