@@ -47,17 +47,11 @@ use native.Mathlib.Decide.{ℕ_discrete}
 
 abbrev is_load : Update → Bool
 is_load (update.Load m) = true
-is_load (update.Register m) = false
-is_load (update.Deregister base) = false
-is_load (update.Replace m) = false
-is_load (update.Unload base) = false
+is_load _ = false
 
 abbrev loaded_by : Member → Update → Member
 loaded_by d (update.Load m) = m
-loaded_by d (update.Register m) = d
-loaded_by d (update.Deregister base) = d
-loaded_by d (update.Replace m) = d
-loaded_by d (update.Unload base) = d
+loaded_by d _ = d
 
 -- disjoint members that overlap are one
 disjoint_one : (xs : List Member) (a b : Member) → AreDisjoint xs → Contains xs a → Contains xs b → Overlaps a.span b.span → a ≡ b
@@ -159,17 +153,11 @@ lists_of t loaded (Some g) some_lock p h = h.1
 
 abbrev is_unload : Update → Bool
 is_unload (update.Unload base) = true
-is_unload (update.Load m) = false
-is_unload (update.Register m) = false
-is_unload (update.Deregister base) = false
-is_unload (update.Replace m) = false
+is_unload _ = false
 
 abbrev base_of : Update → ℕ
 base_of (update.Unload base) = base
-base_of (update.Load m) = 0
-base_of (update.Register m) = 0
-base_of (update.Deregister base) = 0
-base_of (update.Replace m) = 0
+base_of _ = 0
 
 not_found_told : (base : ℕ) (s : State) (stamp : ℕ) (r : Receipt) → IsRefusalOf (update.Unload base) s stamp r → r ≡ receipt.Unload base (removed.NotFound stamp)
 not_found_told base s stamp (receipt.Register n a) r = absurd (true≢false (ap is_unload r.0))

@@ -1,5 +1,5 @@
 -- A lookup of the loader's half, from its two loads of the clock and what was loaded between them.
-use Rattle.std.proofs.Common.{◌≡◌, ◌≢◌, ℕ, zero, suc, ◌+◌, ◌≤◌, ◌%◌, List, [], ◌∷◌, ◌++◌, length, take_all, Contains, ◌↔◌, sym, refl, ap, ◌∙◌, subst, arith, true, true≢false, Bool, nat_le, eq-eqb, ne_eqb, Option, Some, None, IfSome, IsSome, option_map, append-nil, append_assoc, Ok, Err, if◌then◌else◌}
+use Rattle.std.proofs.Common.{◌≡◌, ◌≢◌, ℕ, zero, suc, ◌+◌, ◌≤◌, ◌%◌, List, [], ◌∷◌, ◌++◌, length, take_all, Contains, ◌↔◌, sym, refl, ap, ◌∙◌, subst, arith, true, true≢false, Bool, nat_le, eq-eqb, ne_eqb, Option, Some, None, IfSome, IsSome, option_map, append-nil, append_assoc, Result, Ok, Err, if◌then◌else◌}
 use Rattle.std.specs.List.{find}
 use Rattle.std.specs.Option.{option_or}
 use Rattle.std.proofs.lemmas.Bool.{leb-true, and_parts}
@@ -11,6 +11,7 @@ use Rattle.reg_model.specs.History.{state_after, state_at}
 use Rattle.reg_model.specs.Query.{member_at, query}
 use Rattle.reg_model.specs.Receipt.{member_of, stamp_of}
 use Rattle.reg_model.specs.declared.span.Member.{Member}
+use Rattle.reg_model.specs.declared.answer.Again.{Again}
 use Rattle.reg_model.specs.declared.answer.Again.TheVariants.{Changed}
 use Rattle.reg_model.specs.declared.answer.Found.{Found}
 use Rattle.reg_model.specs.declared.answer.Half.TheVariants.{Loaded}
@@ -34,7 +35,7 @@ use Rattle.word_rule.proofs.Listings.{contains_find, state_fixed}
 use Rattle.word_rule.proofs.Memories.{by_same}
 use Rattle.word_rule.proofs.TreeRefusals.{found_there}
 use Rattle.array_publish.specs.CopyLoads.{LoadsCopy, after_copy_loads, sight_words, with_words}
-use Rattle.array_publish.specs.Lookup.{LooksUp, after_lookup}
+use Rattle.array_publish.specs.Lookup.{IsObjectAnswer, LooksUp, after_lookup}
 use Rattle.array_publish.specs.Search.{IsMember, IsObjectAt, listed_member}
 use Rattle.array_publish.specs.declared.walk.Listed.{Listed}
 use Rattle.word_rule.proofs.Each.{all_with}
@@ -134,9 +135,8 @@ module _ (t : Terms) (pc first second : ℕ) (k0 k1 k2 k3 : CallerData) (object 
   begins : IsPrefix k0.log.past two.0
   begins = prefix_both k0.log.past one.0 two.0 one.2.0.begins (subst (λ (k : CallerData). IsPrefix k.log.past two.0) between_is two.2.0.begins)
 
-  -- where the upper halves differ, the receipts are none
-  pub again : upper second ≢ upper first → LooksUp t pc k0 k3 (Err (Changed 0 first second))
-  again other = record {
+  looks : (result : Result Found Again) → IsObjectAnswer t pc first second past receipts result → LooksUp t pc k0 k3 result
+  looks result answer = record {
     first = first;
     second = second;
     between = between.0;
@@ -146,9 +146,13 @@ module _ (t : Terms) (pc first second : ℕ) (k0 k1 k2 k3 : CallerData) (object 
     of_copy = between.2.0;
     begins = begins;
     seen = sym two.2.0.updates;
-    answer = ((λ e. other (sym e)), refl, none);
+    answer = answer;
     log = log_is;
   }
+
+  -- where the upper halves differ, the receipts are none
+  pub again : upper second ≢ upper first → LooksUp t pc k0 k3 (Err (Changed 0 first second))
+  again other = looks (Err (Changed 0 first second)) ((λ e. other (sym e)), refl, none)
     where
       none : receipts ≡ []
       none = two.2.1 ∙ rw (sight.1.0, ne_eqb sight.0.guard (upper second) (λ e. other (sym e ∙ sight.1.1))) refl
@@ -188,25 +192,13 @@ module _ (t : Terms) (pc first second : ℕ) (k0 k1 k2 k3 : CallerData) (object 
         go (Some l) h = (h.0, (let a = h.1 in let b = two.2.0.valid.payloads in omega (arith, a, b)))
 
     pub found_so : (found : Found) → member_of found ≡ option_map listed_member object → stamp_of found ≡ lower second → LooksUp t pc k0 k3 (Ok found)
-    found_so found member stamp = record {
-      first = first;
-      second = second;
-      between = between.0;
-      past = two.0;
-      sights = after_second.log.sights;
-      receipts = receipts;
-      of_copy = between.2.0;
-      begins = begins;
-      seen = sym two.2.0.updates;
-      answer = (
-        sym same,
-        stamp,
-        found_then ∙ sym member,
-        subst (λ o. IfSome o (IsMemberOf t)) (sym member) (known (option_map listed_member object) found_now),
-        receipt_is,
-      );
-      log = log_is;
-    }
+    found_so found member stamp = looks (Ok found) (
+      sym same,
+      stamp,
+      found_then ∙ sym member,
+      subst (λ o. IfSome o (IsMemberOf t)) (sym member) (known (option_map listed_member object) found_now),
+      receipt_is,
+    )
       where
         receipt_is : receipts ≡ Query Loaded pc found ∷ []
         receipt_is =

@@ -1,5 +1,5 @@
 -- A whole update call: the lock is taken, the update answered, the lock let go.
-use Rattle.std.proofs.Common.{◌≡◌, ℕ, ◌+◌, ◌-◌, ◌<◌, ◌++◌, List, [], ◌∷◌, sym, ap, ◌∙◌, subst, arith, Bool, true, false, Some, None, IsSomeAnd, append_assoc}
+use Rattle.std.proofs.Common.{◌≡◌, ℕ, ◌+◌, ◌-◌, ◌<◌, ◌++◌, List, [], ◌∷◌, sym, refl, ap, ◌∙◌, subst, arith, Bool, true, false, Ok, Some, None, IsSomeAnd, append_assoc}
 use Rattle.reg_model.specs.declared.span.Member.{Member}
 use Rattle.reg_model.specs.declared.answer.Loading.{Loading}
 use Rattle.reg_model.specs.declared.answer.Loading.TheVariants as loading
@@ -9,14 +9,21 @@ use Rattle.reg_model.specs.declared.answer.Receipt.{Receipt}
 use Rattle.reg_model.specs.declared.answer.Receipt.TheVariants as receipt
 use Rattle.reg_model.specs.declared.answer.Update.{Update}
 use Rattle.word_rule.specs.declared.log.LockId.TheVariants as lock
+use Rattle.word_rule.specs.declared.log.Log.{Log}
 use Rattle.word_rule.specs.declared.log.Terms.{Terms}
-use Rattle.word_rule.specs.CallerData.{CallerData}
+use Rattle.word_rule.specs.CallerData.{CallerData, WordsData}
 use Rattle.node_store.specs.Locking.{Locks}
-use Rattle.array_publish.specs.Update.{AnswersLoad, AnswersUnload, AnswersWith, CallsWith, HoldsCopies, IsClean, IsRightLoad, IsRightUnload, LoadsMember, TellsLoad, TellsUnload, UnloadsMember, after_answer, after_letting_go, begun, is_loaded, is_unloaded}
+use Rattle.array_publish.specs.Update.{AnswersLoad, AnswersUnload, AnswersWith, CallsWith, EndsTry, HoldsCopies, IsClean, IsFreeAgain, IsRightLoad, IsRightUnload, LoadsMember, TellsLoad, TellsUnload, UnloadsMember, after_answer, after_letting_go, begun, is_loaded, is_unloaded, one_if}
+
+-- the lock let go of, accepted or not
+let_go : (accepted : Bool) (v : Log) → after_letting_go accepted v ≡ record v { loader = None; trace = record v.trace { writes = v.trace.writes + 1 }; budget = record v.budget { credit = v.budget.credit - one_if accepted } }
+let_go true v = refl
+let_go false v =
+    let kept : v.budget.credit ≡ v.budget.credit - 0 = omega arith in (λ i. record v { loader = None; trace = record v.trace { writes = v.trace.writes + 1 }; budget = record v.budget { credit = kept i } })
 
 -- the call of one that held no lock: locked, answered, let go
 pub whole_call : (right : List Update → Type 0) (r : Receipt) (accepted : Bool) (k1 k2 k3 k4 : CallerData) → Locks lock.Loader k1 k2 → AnswersWith right r accepted k2 k3 → k4 ≡ record k3 { log = after_letting_go accepted k3.log } → CallsWith right r accepted k1 k4
-whole_call right r true k1 k2 k3 k4 locked p gone =
+whole_call right r accepted k1 k2 k3 k4 locked p gone =
     let writes : k1.log.trace.writes + locked.1 + 1 + p.2 + 1 ≡ k1.log.trace.writes + (locked.1 + 1 + p.2 + 1) = omega arith in (
       p.0,
       locked.0 ++ p.1,
@@ -24,45 +31,32 @@ whole_call right r true k1 k2 k3 k4 locked p gone =
       p.3,
       (
         p.5.0,
-        gone ∙ (ap (λ (k : CallerData). record k { log = after_letting_go true k.log }) (p.5.1 ∙ ap (λ (k : CallerData). record k { log = after_answer p.0 p.1 p.2 p.3 (Some p.4) r true k.log }) locked.3.2)
+        gone ∙ ((λ i. record k3 { log = let_go accepted k3.log i })
+            ∙ (ap (λ (k : CallerData). record k { log = record k.log { loader = None; trace = record k.log.trace { writes = k.log.trace.writes + 1 }; budget = record k.log.budget { credit = k.log.budget.credit - one_if accepted } } }) (p.5.1 ∙ ap (λ (k : CallerData). record k { log = after_answer p.0 p.1 p.2 p.3 (Some p.4) r accepted k.log }) locked.3.2)
             ∙ (λ i. record k1 {
               log = record k1.log {
                 past = p.0;
-                budget = record { allowance = k1.log.budget.allowance - 1; credit = k1.log.budget.credit - 1 };
+                budget = record { allowance = k1.log.budget.allowance - one_if accepted; credit = k1.log.budget.credit - one_if accepted };
                 receipts = record k1.log.receipts { own = k1.log.receipts.own ++ r ∷ [] };
                 trace = record k1.log.trace { loads = append_assoc k1.log.trace.loads locked.0 p.1 i; writes = writes i };
                 sights = p.3;
                 loader = None;
               };
-            })),
-      ),
-    )
-whole_call right r false k1 k2 k3 k4 locked p gone =
-    let writes : k1.log.trace.writes + locked.1 + 1 + p.2 + 1 ≡ k1.log.trace.writes + (locked.1 + 1 + p.2 + 1) = omega arith in
-    let credit : k1.log.budget.credit ≡ k1.log.budget.credit - 0 = omega arith in (
-      p.0,
-      locked.0 ++ p.1,
-      locked.1 + 1 + p.2 + 1,
-      p.3,
-      (
-        p.5.0,
-        gone ∙ (ap (λ (k : CallerData). record k { log = after_letting_go false k.log }) (p.5.1 ∙ ap (λ (k : CallerData). record k { log = after_answer p.0 p.1 p.2 p.3 (Some p.4) r false k.log }) locked.3.2)
-            ∙ (λ i. record k1 {
-              log = record k1.log {
-                past = p.0;
-                budget = record { allowance = k1.log.budget.allowance - 0; credit = credit i };
-                receipts = record k1.log.receipts { own = k1.log.receipts.own ++ r ∷ [] };
-                trace = record k1.log.trace { loads = append_assoc k1.log.trace.loads locked.0 p.1 i; writes = writes i };
-                sights = p.3;
-                loader = None;
-              };
-            })),
+            }))),
       ),
     )
 
 -- its terms were those of the words before it took the lock
 pub terms_told : (t : Terms) (k1 k2 : CallerData) → Locks lock.Loader k1 k2 → k2.log.terms ≡ t → k1.log.terms ≡ t
 terms_told t k1 k2 locked told = sym (ap (λ (k : CallerData). k.log.terms) locked.3.2) ∙ told
+
+-- what a try leaves of its caller, where it was answered
+pub ends_try : {A : Type 0} (w : WordsData) (up : Bool) (answer : A) (k1 k2 k4 : CallerData) {v : Log} → Locks lock.Loader k1 k2 → k2.log.terms ≡ w.terms → k4 ≡ record k1 { log = v } → v.loader ≡ None → v.holdings ≡ k1.log.holdings → v.lineage ≡ k1.log.lineage → EndsTry w up (Ok answer) k1 k4
+ends_try w up answer k1 k2 k4 locked told is loader holdings lineage = record {
+  terms = terms_told w.terms k1 k2 locked told;
+  busy = tt;
+  free = subst (IsFreeAgain k1) (sym is) (record { table = refl; loader = loader; holdings = holdings; lineage = lineage });
+}
 
 past_kept : (k1 k2 : CallerData) → Locks lock.Loader k1 k2 → k2.log.past ≡ k1.log.past
 past_kept k1 k2 locked = ap (λ (k : CallerData). k.log.past) locked.3.2

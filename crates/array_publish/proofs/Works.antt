@@ -12,7 +12,7 @@ use Rattle.word_rule.specs.Places.{copy_place, copy_words, is_of_copy}
 use Rattle.word_rule.specs.Sights.{with_copy_word, after_copy_load}
 use Rattle.word_rule.specs.Steps.{IsHeldWord}
 use Rattle.word_rule.proofs.Memories.{set_same}
-use Rattle.array_publish.specs.Holders.{active_words, spare_words, with_spare, after_work, Spells, IsHolder, MayWork, OnlyLoads}
+use Rattle.array_publish.specs.Holders.{active_words, spare_words, with_spare, after_work, Spells, IsHolder, MayWork, LoadsHeld}
 use Rattle.array_publish.specs.declared.writing.CopyStarts.{CopyStarts}
 
 -- what is asked of a lock that is held: copy c is active, and both copies have all their words
@@ -121,22 +121,22 @@ spells_none k =
     let same = same_loader k.log.loader in
     ([], 0, k.log.sights, same.0, (λ i. record k { log = with_work (sym (append-nil k.log.trace.loads) i) (sym (add-zero k.log.trace.writes) i) k.log.sights (same.1 i) k.log }))
 
-pub loads_none : (k : CallerData) → OnlyLoads k k
+pub loads_none : (k : CallerData) → LoadsHeld k k
 loads_none k = record { same = spells_none k; kept = refl }
 
 -- a word was loaded
-pub loads_one : (k k' : CallerData) (at found : ℕ) → k' ≡ record k { log = after_copy_load at found k.log } → OnlyLoads k k'
-loads_one k k' at found is = subst (OnlyLoads k) (sym is) (record { same = load_spells k at found; kept = refl })
+pub loads_one : (k k' : CallerData) (at found : ℕ) → k' ≡ record k { log = after_copy_load at found k.log } → LoadsHeld k k'
+loads_one k k' at found is = subst (LoadsHeld k) (sym is) (record { same = load_spells k at found; kept = refl })
 
 -- loads one after another
-pub loads_then : (a b d : CallerData) → OnlyLoads a b → OnlyLoads b d → OnlyLoads a d
+pub loads_then : (a b d : CallerData) → LoadsHeld a b → LoadsHeld b d → LoadsHeld a d
 loads_then a b d p q = record {
   same = spells_both (spare_words a.log.loader) (spare_words a.log.loader) a b d p.same (subst (λ o. Spells (spare_words o) b d) p.kept q.same);
   kept = q.kept ∙ p.kept;
 }
 
 -- work may go on after loads
-pub may_still : (w : WordsData) (s : CopyStarts) (k k' : CallerData) → MayWork w s k → OnlyLoads k k' → MayWork w s k'
+pub may_still : (w : WordsData) (s : CopyStarts) (k k' : CallerData) → MayWork w s k → LoadsHeld k k' → MayWork w s k'
 may_still w s k k' may loads = record {
   holder = holder_stays w s.copy (spare_words k.log.loader) k k' may.holder loads.same (spare_wide w s.copy k may.holder);
   places = may.places;

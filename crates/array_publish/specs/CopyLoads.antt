@@ -10,7 +10,8 @@ use Rattle.word_rule.specs.declared.log.Terms.{Terms}
 use Rattle.word_rule.specs.CallerData.{CallerData, WordsData}
 use Rattle.word_rule.specs.Callers.{AreTerms}
 use Rattle.word_rule.specs.Copies.{AreOfCopy}
-use Rattle.word_rule.specs.Places.{is_of_copy}
+use Rattle.word_rule.specs.Places.{copy_place, is_of_copy}
+use Rattle.array_publish.specs.declared.walk.CopyStart.{CopyStart}
 
 -- the words that a sight has, where there is one
 abbrev pub sight_words : Option CopySight → List LoadedWord
@@ -50,3 +51,8 @@ pub record IsAtCopy (w : WordsData) (c : ℕ) (k : CallerData) : Type 0 where
   pub valid : AreTerms w.terms
   pub one : c < 2
   pub sight : IsSomeAnd k.log.sights.copies (λ s. s.guard % 2 ≡ c)
+
+-- What loads of a copy ask of their caller: its sight is of this one, which begins there.
+pub record MayLoadFrom (w : WordsData) (at : CopyStart) (k : CallerData) : Type 0 where
+  pub copy : IsAtCopy w at.copy k
+  pub start : at.start ≡ copy_place w.terms at.copy

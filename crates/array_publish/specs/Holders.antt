@@ -62,7 +62,7 @@ Spells spare k k' = (more : List LoadEvent) × (stores : ℕ) × (sights : Sight
     × (k' ≡ record k { log = after_work more stores sights spare stored k.log })
 
 -- Words were loaded under the lock, and none was stored.
-pub record OnlyLoads (k k' : CallerData) : Type 0 where
+pub record LoadsHeld (k k' : CallerData) : Type 0 where
   pub same : Spells (spare_words k.log.loader) k k'
   pub kept : k'.log.loader ≡ k.log.loader
 

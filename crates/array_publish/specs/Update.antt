@@ -1,6 +1,7 @@
--- What an update of the loader makes of its caller.
+-- What an update of the loader asks of its caller and makes of it.
 use Rattle.std.specs.Prelude.{◌≡◌, ℕ, ◌+◌, ◌-◌, ◌<◌, ◌≤◌, Bool, true, false, if◌then◌else◌, List}
 use Rattle.std.specs.Prelude.{[], ◌∷◌, ◌++◌, length, Option, Some, None, IsNone, IsSomeAnd}
+use Rattle.std.specs.Prelude.{Result, IfErr, OnOk}
 use Rattle.std.specs.List.{AllByRecursion}
 use mathlib.Core.List.{IsPrefix}
 use Rattle.reg_model.specs.State.{IsFree, IsLowestOverlap, at_base, objects}
@@ -16,16 +17,31 @@ use Rattle.reg_model.specs.declared.answer.Update.TheVariants as update
 use Rattle.reg_model.specs.declared.span.Member.{Member}
 use Rattle.array_publish.specs.declared.writing.ActiveCopy.{ActiveCopy}
 use Rattle.word_rule.specs.declared.log.LoadEvent.{LoadEvent}
+use Rattle.node_store.specs.Locking.{IsBusyAt}
+use Rattle.node_store.specs.declared.locking.Busy.{Busy}
+use Rattle.word_rule.specs.declared.log.LockId.TheVariants as lock
 use Rattle.word_rule.specs.declared.log.LoaderHolding.{LoaderHolding}
 use Rattle.word_rule.specs.declared.log.Log.{Log}
 use Rattle.word_rule.specs.declared.log.Sights.{Sights}
 use Rattle.word_rule.specs.declared.log.Terms.{Terms}
-use Rattle.word_rule.specs.CallerData.{CallerData, WordsData}
+use Rattle.word_rule.specs.CallerData.{CallerData, WordsData, due, surplus}
 use Rattle.word_rule.specs.Callers.{IsMemberOf, start}
-use Rattle.word_rule.specs.Copies.{ListsAll}
+use Rattle.word_rule.specs.Copies.{IsBehind, ListsAll}
 use Rattle.word_rule.specs.Logs.{after_loader_release, after_loader_release_same}
 use Rattle.word_rule.specs.Places.{copy_words}
-use Rattle.array_publish.specs.Holders.{HasStarts, IsHolder, active_words, after_work}
+use Rattle.array_publish.specs.Holders.{HasStarts, IsHolder, active_words, after_work, spare_words}
+
+-- What an update of the loader asks of its caller: it is one of these words, and doesn't hold the
+-- loader's lock.
+pub record MayLoad (w : WordsData) (k : CallerData) : Type 0 where
+  pub table : k.table ≡ w.table
+  pub free : k.log.loader ≡ None
+
+-- What an update of the loader that was begun asks of its caller: a release is to spare.
+pub record MayTryLoad (w : WordsData) (k : CallerData) : Type 0 where
+  pub caller : MayLoad w k
+  pub begun : 0 < due k
+  pub spare : 0 < surplus k
 
 -- the lock of the loader is held, and both copies have all their words
 abbrev pub HoldsCopies : Terms → CallerData → Type 0
@@ -46,6 +62,12 @@ pub record KnowsCopy (w : WordsData) (a : ActiveCopy) (k : CallerData) : Type 0 
   pub count : a.count ≡ length listing.members
   pub known : AllByRecursion (IsMemberOf w.terms) listing.members
   pub room : a.count ≤ w.terms.loads
+
+-- What a write of the other copy asks of its caller: it knows the active one, and the other is one
+-- publication behind.
+pub record MayWrite (w : WordsData) (a : ActiveCopy) (k : CallerData) : Type 0 where
+  pub knows : KnowsCopy w a k
+  pub behind : IsBehind w.terms (active_words k.log.loader) (spare_words k.log.loader)
 
 -- a log after work under the lock, which has seen this much
 abbrev pub after_seeing : List Update → List LoadEvent → ℕ → Sights → List ℕ → Bool → Log → Log
@@ -144,6 +166,20 @@ pub record IsFreeAgain (k k' : CallerData) : Type 0 where
   pub loader : k'.log.loader ≡ None
   pub holdings : k'.log.holdings ≡ k.log.holdings
   pub lineage : k'.log.lineage ≡ k.log.lineage
+
+-- What an update that waits leaves of its caller: its terms are those of the words, where an update
+-- call was left, and it holds no lock.
+pub record EndsUpdate (w : WordsData) (k k' : CallerData) : Type 0 where
+  pub terms : 0 < k.left → k.log.terms ≡ w.terms
+  pub free : IsFreeAgain k k'
+
+-- What a try of one that was begun leaves of its caller, whatever came of it: where it gave up, the
+-- loader's lock was found taken.
+pub record EndsTry {A : Type 0} (w : WordsData) (gives_up : Bool) (outcome : Result A Busy)
+    (k k' : CallerData) : Type 0 where
+  pub terms : OnOk outcome (k.log.terms ≡ w.terms)
+  pub busy : IfErr outcome (λ why. IsBusyAt lock.Loader why k k' × (gives_up ≡ true))
+  pub free : IsFreeAgain k k'
 
 -- An update call that was begun was answered so, and nothing else of the caller changed.
 abbrev pub CallsWith : (List Update → Type 0) → Receipt → Bool → CallerData → CallerData → Type 0

@@ -1,11 +1,11 @@
 //! The update calls of the loader. Each takes the loader's lock, waits for it or gives up where it
 //! is taken, and lets go of it again.
-ghost use Rattle.std.specs.Prelude.{◌≡◌, ◌<◌, false, true, None, OnOk, IfOk, IfErr, IsSomeAnd};
-ghost use Rattle.word_rule.specs.CallerData.{due, surplus};
+ghost use Rattle.std.specs.Prelude.{◌≡◌, ◌<◌, false, true, OnOk, IfOk, IfErr, IsSomeAnd};
+ghost use Rattle.word_rule.specs.CallerData.{surplus};
 ghost use Rattle.node_store.specs.Locking.{IsBusyAt, Locks};
-ghost use Rattle.array_publish.specs.Update.{IsFreeAgain, LoadsMember, TellsLoad, TellsUnload};
-ghost use Rattle.array_publish.specs.Update.{UnloadsMember, after_letting_go, is_loaded};
-ghost use Rattle.array_publish.specs.Update.{is_unloaded};
+ghost use Rattle.array_publish.specs.Update.{EndsTry, EndsUpdate, LoadsMember, MayLoad, MayTryLoad};
+ghost use Rattle.array_publish.specs.Update.{TellsLoad, TellsUnload, UnloadsMember};
+ghost use Rattle.array_publish.specs.Update.{after_letting_go, is_loaded, is_unloaded};
 
 use crate::update::{load_held, unload_held};
 use node_store::{Busy, Locking, Waiting};
@@ -15,8 +15,7 @@ use word_rule::{Caller, LockId, Words};
 
 /// Takes the loader's lock, or answers that it is taken.
 fn take<L: Locking>(locking: &L, words: &Words, me: &mut Caller) -> Result<(), Busy>
-    requires table { me.old.table ≡ words.now.table }
-    requires free { me.old.log.loader ≡ None }
+    requires caller { MayLoad words.now me.old }
     ensures ok { OnOk result (Locks LockId.Loader me.old me.new) }
     ensures busy { IfErr result (λ e. IsBusyAt LockId.Loader e me.old me.new
         × (L.gives_up ≡ true)) }
@@ -75,16 +74,10 @@ pub fn load_by<L: Locking>(
     me: &mut Caller,
     member: Member,
 ) -> Result<Loading, Busy>
-    requires table { me.old.table ≡ words.now.table }
-    requires free { me.old.log.loader ≡ None }
-    requires begun { 0 < due me.old }
-    requires surplus { 0 < surplus me.old }
+    requires call { MayTryLoad words.now me.old }
     requires payload { member.payload < words.now.terms.payloads }
     ensures answer { IfOk result (TellsLoad words.now.terms member me.old me.new) }
-    ensures terms { OnOk result (me.old.log.terms ≡ words.now.terms) }
-    ensures busy { IfErr result (λ e. IsBusyAt LockId.Loader e me.old me.new
-        × (L.gives_up ≡ true)) }
-    ensures free { IsFreeAgain me.old me.new }
+    ensures call { EndsTry words.now L.gives_up result me.old me.new }
 {
     take(locking, words, me)?;
     let answer = load_held(words, me, &member);
@@ -96,20 +89,15 @@ pub fn load_by<L: Locking>(
 /// overlapping member with the least first address is named, also where no more may be loaded.
 /// Spent where the caller may begin no more update calls. It waits for the loader's lock.
 pub fn load<R: Wait>(rt: &R, words: &Words, me: &mut Caller, member: Member) -> Loading
-    requires table { me.old.table ≡ words.now.table }
-    requires free { me.old.log.loader ≡ None }
+    requires caller { MayLoad words.now me.old }
     requires payload { member.payload < words.now.terms.payloads }
     ensures answer { LoadsMember words.now.terms member me.old me.new result }
-    ensures terms { 0 < me.old.left → me.old.log.terms ≡ words.now.terms }
-    ensures free { IsFreeAgain me.old me.new }
+    ensures call { EndsUpdate words.now me.old me.new }
 {
     if !me.use_one() {
         return Loading::Spent;
     }
-    match load_by(&Waiting { rt }, words, me, member) {
-        Ok(answer) => answer,
-        Err(_) => unreachable!(),
-    }
+    load_by(&Waiting { rt }, words, me, member).unwrap()
 }
 
 /// Unloads a member as `unload` does, for an update call that was begun. Busy where the loader's
@@ -120,15 +108,9 @@ pub fn unload_by<L: Locking>(
     me: &mut Caller,
     base: u64,
 ) -> Result<Removed, Busy>
-    requires table { me.old.table ≡ words.now.table }
-    requires free { me.old.log.loader ≡ None }
-    requires begun { 0 < due me.old }
-    requires surplus { 0 < surplus me.old }
+    requires call { MayTryLoad words.now me.old }
     ensures answer { IfOk result (TellsUnload words.now.terms base me.old me.new) }
-    ensures terms { OnOk result (me.old.log.terms ≡ words.now.terms) }
-    ensures busy { IfErr result (λ e. IsBusyAt LockId.Loader e me.old me.new
-        × (L.gives_up ≡ true)) }
-    ensures free { IsFreeAgain me.old me.new }
+    ensures call { EndsTry words.now L.gives_up result me.old me.new }
 {
     take(locking, words, me)?;
     let answer = unload_held(words, me, base);
@@ -139,17 +121,12 @@ pub fn unload_by<L: Locking>(
 /// Unloads the loaded member that begins at an address, and names it. A fixed member can't be
 /// unloaded. Spent where the caller may begin no more update calls. It waits for the loader's lock.
 pub fn unload<R: Wait>(rt: &R, words: &Words, me: &mut Caller, base: u64) -> Removed
-    requires table { me.old.table ≡ words.now.table }
-    requires free { me.old.log.loader ≡ None }
+    requires caller { MayLoad words.now me.old }
     ensures answer { UnloadsMember words.now.terms base me.old me.new result }
-    ensures terms { 0 < me.old.left → me.old.log.terms ≡ words.now.terms }
-    ensures free { IsFreeAgain me.old me.new }
+    ensures call { EndsUpdate words.now me.old me.new }
 {
     if !me.use_one() {
         return Removed::Spent;
     }
-    match unload_by(&Waiting { rt }, words, me, base) {
-        Ok(answer) => answer,
-        Err(_) => unreachable!(),
-    }
+    unload_by(&Waiting { rt }, words, me, base).unwrap()
 }

@@ -3,7 +3,7 @@
 ghost use Rattle.std.specs.Prelude.{◌≡◌, ◌<◌, ◌≤◌, ◌↔◌, IsTrue, slice_index};
 ghost use Rattle.word_rule.specs.Copies.{IsBehind};
 ghost use Rattle.word_rule.specs.Places.{copy_words};
-ghost use Rattle.array_publish.specs.Holders.{IsHolder, MayWork, OnlyLoads, active_words};
+ghost use Rattle.array_publish.specs.Holders.{IsHolder, MayWork, LoadsHeld, active_words};
 ghost use Rattle.array_publish.specs.Holders.{member_in, spare_words};
 ghost use Rattle.array_publish.specs.Other.{IsOneApart};
 
@@ -24,7 +24,7 @@ pub struct OtherCopy {
 fn other_word(words: &Words, me: &mut Caller, starts: &CopyStarts, at: u32) -> u64
     requires work { MayWork words.now starts.now me.old }
     requires inside { at < copy_words words.now.terms }
-    ensures loads { OnlyLoads me.old me.new }
+    ensures loads { LoadsHeld me.old me.new }
     ensures value { result ≡ slice_index (spare_words me.old.log.loader) at }
 {
     words.load_copy(me, starts.spare + at)
@@ -35,7 +35,7 @@ fn other_word(words: &Words, me: &mut Caller, starts: &CopyStarts, at: u32) -> u
 fn begin_alike(words: &Words, me: &mut Caller, starts: &CopyStarts, index: u32) -> bool
     requires work { MayWork words.now starts.now me.old }
     requires inside { index < words.now.terms.loads }
-    ensures loads { OnlyLoads me.old me.new }
+    ensures loads { LoadsHeld me.old me.new }
     ensures alike { IsTrue result ↔ ((member_in (active_words me.old.log.loader) index).span.first
         ≡ (member_in (spare_words me.old.log.loader) index).span.first) }
 {
@@ -53,7 +53,7 @@ pub fn other_copy(words: &Words, me: &mut Caller, active: &ActiveCopy) -> OtherC
     requires room { active.now.count ≤ words.now.terms.loads }
     requires behind { IsBehind words.now.terms (active_words me.old.log.loader)
         (spare_words me.old.log.loader) }
-    ensures loads { OnlyLoads me.old me.new }
+    ensures loads { LoadsHeld me.old me.new }
     ensures holder { IsHolder words.now active.now.starts.copy me.new }
     ensures room { result.count ≤ words.now.terms.loads }
     ensures apart { IsOneApart (active_words me.old.log.loader) (spare_words me.old.log.loader)

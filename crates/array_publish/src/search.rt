@@ -7,8 +7,8 @@
 //! members is loaded and no comparison needs a test beside it.
 ghost use Rattle.std.specs.Prelude.{◌≡◌, ℕ, ◌+◌, ◌*◌, ◌-◌, ◌%◌, ◌<◌, ◌≤◌, min};
 ghost use Rattle.std.specs.Prelude.{if◌then◌else◌};
-ghost use Rattle.word_rule.specs.Places.{copy_place, copy_words, member_place};
-ghost use Rattle.array_publish.specs.CopyLoads.{IsAtCopy, LoadsCopy, load_count};
+ghost use Rattle.word_rule.specs.Places.{copy_words, member_place};
+ghost use Rattle.array_publish.specs.CopyLoads.{LoadsCopy, MayLoadFrom, load_count};
 ghost use Rattle.array_publish.specs.Search.{CountsBegun, IsNarrowed, IsLastBegun, others};
 
 use crate::walk::{CopyStart, FULL, MEMBER_WORDS, SEGMENT_WORDS, load_word};
@@ -60,8 +60,7 @@ fn where_holds(number: u32, holds: bool) -> u32
 /// How many words of a series are at or below the address. Each is loaded.
 #[inline(always)]
 fn begun_in<L: Looker>(words: &Words, me: &mut L, at: CopyStart, pc: u64, series: Series) -> u32
-    requires copy { IsAtCopy words.now at.copy (L.known me.old) }
-    requires start { at.start ≡ copy_place words.now.terms at.copy }
+    requires from { MayLoadFrom words.now at (L.known me.old) }
     requires inside { (i : ℕ) → i < series.length
         → series.place + series.apart * i < copy_words words.now.terms }
     ensures loads { LoadsCopy words.now.terms at.copy (L.known me.old) (L.known me.new) }
@@ -88,8 +87,7 @@ fn segment_for<L: Looker>(
     pc: u64,
     last: u32,
 ) -> SegmentStart
-    requires copy { IsAtCopy words.now at.copy (L.known me.old) }
-    requires start { at.start ≡ copy_place words.now.terms at.copy }
+    requires from { MayLoadFrom words.now at (L.known me.old) }
     requires last { last < words.now.terms.loads }
     ensures loads { LoadsCopy words.now.terms at.copy (L.known me.old) (L.known me.new) }
     ensures few { load_count (L.known me.new) ≤ load_count (L.known me.old) + 14 }
@@ -129,8 +127,7 @@ fn begun_within<L: Looker>(
     pc: u64,
     segment: SegmentStart,
 ) -> u32
-    requires copy { IsAtCopy words.now at.copy (L.known me.old) }
-    requires start { at.start ≡ copy_place words.now.terms at.copy }
+    requires from { MayLoadFrom words.now at (L.known me.old) }
     requires place { segment.place < copy_words words.now.terms }
     requires inside { (i : ℕ) → i < min segment.after 15
         → segment.place + 3 + 3 * i < copy_words words.now.terms }
@@ -166,8 +163,7 @@ pub fn last_begun<L: Looker>(
     pc: u64,
     count: u32,
 ) -> Option<Begun>
-    requires copy { IsAtCopy words.now at.copy (L.known me.old) }
-    requires start { at.start ≡ copy_place words.now.terms at.copy }
+    requires from { MayLoadFrom words.now at (L.known me.old) }
     requires count { count ≤ words.now.terms.loads }
     ensures loads { LoadsCopy words.now.terms at.copy (L.known me.old) (L.known me.new) }
     ensures last { IsLastBegun words.now.terms at.copy (L.known me.new) pc count result }

@@ -5,7 +5,7 @@ ghost use Rattle.reg_model.specs.declared.span.Member.{Member};
 ghost use Rattle.segment_array.specs.Ascending.{AscendFrom};
 ghost use Rattle.word_rule.specs.CallerData.{due};
 ghost use Rattle.word_rule.specs.Copies.{IsBehind, ListsMembers};
-ghost use Rattle.array_publish.specs.Holders.{OnlyLoads, active_words, member_in, spare_words};
+ghost use Rattle.array_publish.specs.Holders.{LoadsHeld, active_words, member_in, spare_words};
 ghost use Rattle.array_publish.specs.Writing.{EndsBelow, EndsFrom};
 ghost use Rattle.array_publish.specs.Update.{AnswersLoad, AnswersUnload, HoldsCopies, IsClean};
 ghost use Rattle.array_publish.specs.Update.{KnowsCopy, Works};
@@ -80,7 +80,7 @@ fn lowest_overlap(
     requires below { EndsBelow (active_words me.old.log.loader) span.now.first place }
     requires above { EndsFrom (active_words me.old.log.loader) span.now.first active.now.count
         place }
-    ensures loads { OnlyLoads me.old me.new }
+    ensures loads { LoadsHeld me.old me.new }
     ensures found { (xs : List Member) → ListsMembers (active_words me.old.log.loader) xs
         → IfSome result (IsLowestOverlap span.now (words.now.terms.fixed ++ xs)) }
     ensures none { IfNone result (IsFree span.now words.now.terms.fixed
@@ -117,7 +117,7 @@ fn beginning_at(
 ) -> Option<Member>
     requires knows { KnowsCopy words.now active.now me.old }
     requires inside { place ≤ active.now.count }
-    ensures loads { OnlyLoads me.old me.new }
+    ensures loads { LoadsHeld me.old me.new }
     ensures found { IfSome result (λ m. (place < active.now.count)
         × (m ≡ member_in (active_words me.old.log.loader) place) × (m.span.first ≡ base)) }
     ensures none { IfNone result ((place ≡ active.now.count)

@@ -5,7 +5,8 @@
 ghost use Rattle.std.specs.Prelude.{◌≡◌, ◌+◌, ◌*◌, ◌<◌, ◌≤◌, []};
 ghost use Rattle.word_rule.specs.Callers.{AreTerms};
 ghost use Rattle.word_rule.specs.Places.{copy_place, copy_words, member_place, segment_place};
-ghost use Rattle.array_publish.specs.CopyLoads.{IsAtCopy, IsTold, LoadsCopy, load_count};
+ghost use Rattle.array_publish.specs.CopyLoads.{IsAtCopy, IsTold, LoadsCopy, MayLoadFrom};
+ghost use Rattle.array_publish.specs.CopyLoads.{load_count};
 ghost use Rattle.array_publish.specs.Search.{IsMember, IsObjectAt, listed_member};
 
 use crate::search::{Begun, last_begun};
@@ -76,8 +77,7 @@ pub fn place_of_member(index: u32) -> u32
 /// Loads a word of a copy, counted from the copy's first.
 #[inline(always)]
 pub fn load_word<L: Looker>(words: &Words, me: &mut L, at: CopyStart, word: u32) -> u64
-    requires copy { IsAtCopy words.now at.copy (L.known me.old) }
-    requires start { at.start ≡ copy_place words.now.terms at.copy }
+    requires from { MayLoadFrom words.now at (L.known me.old) }
     requires inside { word < copy_words words.now.terms }
     ensures loads { LoadsCopy words.now.terms at.copy (L.known me.old) (L.known me.new) }
     ensures told { IsTold words.now.terms at.copy (L.known me.new) word result }

@@ -4,14 +4,15 @@
 ghost use Rattle.std.specs.Prelude.{◌≡◌, ℕ, ◌*◌, ◌<◌, ◌≤◌, length, slice_index, slice_set};
 ghost use Rattle.word_rule.specs.Callers.{AreTerms, IsMemberOf};
 ghost use Rattle.word_rule.specs.Places.{copy_words, segments};
-ghost use Rattle.array_publish.specs.Holders.{HasStarts, IsHolder, MayWork, OnlyLoads, Spells, active_words};
-ghost use Rattle.array_publish.specs.Holders.{member_in, spare_words};
+ghost use Rattle.array_publish.specs.Holders.{HasStarts, IsHolder, LoadsHeld, MayWork, Spells};
+ghost use Rattle.array_publish.specs.Holders.{active_words, member_in, spare_words};
 ghost use Rattle.array_publish.specs.Search.{listed_member};
+ghost use Rattle.array_publish.specs.Update.{MayWrite};
 ghost use Rattle.array_publish.specs.Writing.{EndsBelow, EndsFrom, HasMembers, HasPlace};
 ghost use Rattle.array_publish.specs.Writing.{AreRightBeside, HaveHeaders, IsWritten, SameHeaders};
 ghost use Rattle.array_publish.specs.Writing.{SameMembers, changed_count, change_place, wanted};
 ghost use Rattle.array_publish.specs.Writing.{with_header, with_member, with_totals};
-ghost use Rattle.word_rule.specs.Copies.{IsBehind, count_in};
+ghost use Rattle.word_rule.specs.Copies.{count_in};
 
 use crate::other::{OtherCopy, other_copy};
 use crate::walk::{COUNT, FULL, HEAD, Listed, place_of_copy, place_of_member, place_of_segment};
@@ -69,7 +70,7 @@ pub fn starts_of(words: &Words, copy: u32) -> CopyStarts
 pub fn active_word(words: &Words, me: &mut Caller, starts: &CopyStarts, at: u32) -> u64
     requires work { MayWork words.now starts.now me.old }
     requires inside { at < copy_words words.now.terms }
-    ensures loads { OnlyLoads me.old me.new }
+    ensures loads { LoadsHeld me.old me.new }
     ensures value { result ≡ slice_index (active_words me.old.log.loader) at }
 {
     words.load_copy(me, starts.active + at)
@@ -110,7 +111,7 @@ fn store_listed(words: &Words, me: &mut Caller, starts: &CopyStarts, index: u32,
 fn active_listed(words: &Words, me: &mut Caller, starts: &CopyStarts, index: u32) -> Listed
     requires work { MayWork words.now starts.now me.old }
     requires inside { index < words.now.terms.loads }
-    ensures loads { OnlyLoads me.old me.new }
+    ensures loads { LoadsHeld me.old me.new }
     ensures value { listed_member result ≡ member_in (active_words me.old.log.loader) index }
 {
     let place = place_of_member(index);
@@ -129,7 +130,7 @@ pub fn active_member(words: &Words, me: &mut Caller, starts: &CopyStarts, index:
     requires work { MayWork words.now starts.now me.old }
     requires inside { index < words.now.terms.loads }
     requires known { IsMemberOf words.now.terms (member_in (active_words me.old.log.loader) index) }
-    ensures loads { OnlyLoads me.old me.new }
+    ensures loads { LoadsHeld me.old me.new }
     ensures value { result ≡ member_in (active_words me.old.log.loader) index }
 {
     let listed = active_listed(words, me, starts, index);
@@ -141,7 +142,7 @@ pub fn active_member(words: &Words, me: &mut Caller, starts: &CopyStarts, index:
 pub fn ending_below(words: &Words, me: &mut Caller, active: &ActiveCopy, address: u64) -> u32
     requires work { MayWork words.now active.now.starts me.old }
     requires room { active.now.count ≤ words.now.terms.loads }
-    ensures loads { OnlyLoads me.old me.new }
+    ensures loads { LoadsHeld me.old me.new }
     ensures inside { result ≤ active.now.count }
     ensures below { EndsBelow (active_words me.old.log.loader) address result }
     ensures above { EndsFrom (active_words me.old.log.loader) address active.now.count result }
@@ -289,14 +290,10 @@ fn store_totals(words: &Words, me: &mut Caller, starts: &CopyStarts, count: u32)
 /// Writes the copy that isn't active, in which nothing was stored yet: what the active one lists,
 /// after a change.
 pub fn write_copy(words: &Words, me: &mut Caller, active: &ActiveCopy, change: &Change, count: u32)
-    requires work { MayWork words.now active.now.starts me.old }
+    requires may { MayWrite words.now active.now me.old }
     requires place { HasPlace change.now active.now.count }
-    requires number { active.now.count ≡ slice_index (active_words me.old.log.loader) 1 }
     requires count { count ≡ changed_count change.now active.now.count }
-    requires before { active.now.count ≤ words.now.terms.loads }
     requires room { count ≤ words.now.terms.loads }
-    requires behind { IsBehind words.now.terms (active_words me.old.log.loader)
-        (spare_words me.old.log.loader) }
     ensures same { Spells (spare_words me.new.log.loader) me.old me.new }
     ensures wide { length (spare_words me.new.log.loader) ≡ copy_words words.now.terms }
     ensures written { IsWritten change.now (active_words me.old.log.loader) count

@@ -9,7 +9,7 @@ use Rattle.array_publish.proofs.search.begun_in.Goals as goal
 pub loop-number-init : goal.loop-number-init
 loop-number-init g c = record {
   loads = loads_none c.args.words.now.terms c.args.at.copy (g.L.Looker.known c.args.me.now);
-  copy = c.requires.copy;
+  copy = c.requires.from.copy;
   few = omega arith;
   inside = omega arith;
   begun = none_counted c.args.words.now.terms c.args.at.copy (g.L.Looker.known c.args.me.now) c.args.pc c.args.series;

@@ -5,14 +5,14 @@ use Rattle.reg_model.specs.declared.span.Member.{Member}
 use Rattle.reg_model.specs.declared.answer.Loading.TheVariants as loading
 use Rattle.reg_model.specs.declared.answer.Update.TheVariants as update
 use Rattle.word_rule.specs.CallerData.{CallerData, WordsData}
-use Rattle.word_rule.specs.Copies.{IsBehind, ListsMembers}
-use Rattle.array_publish.specs.Holders.{active_words, member_in, spare_words}
+use Rattle.word_rule.specs.Copies.{ListsMembers}
+use Rattle.array_publish.specs.Holders.{active_words, member_in}
 use Rattle.array_publish.specs.Update.{AnswersLoad}
 use Rattle.array_publish.specs.Writing.{EndsBelow}
 use Rattle.array_publish.specs.declared.writing.ActiveCopy.{ActiveCopy}
-use Rattle.array_publish.proofs.Answering.{may_refuse, overlap_so, full_so, published_so, may_publish, free_listed, works_then, is_held, holds_of}
+use Rattle.array_publish.proofs.Answering.{may_refuse, overlap_so, full_so, published_so, may_publish, free_listed, is_held}
 use Rattle.array_publish.proofs.Knowing.{counted_so, terms_before}
-use Rattle.array_publish.proofs.StillKnowing.{StillKnows, knows_after, still_clean, still_knows}
+use Rattle.array_publish.proofs.StillKnowing.{StillKnows, has_written, knows_after, may_write, still_clean, still_knows}
 use Rattle.array_publish.proofs.update.load_held.Goals.{After-lowest_overlap}
 use Rattle.array_publish.proofs.update.load_held.Goals as goal
 
@@ -62,37 +62,28 @@ returns-then-active-loads-clause-answer c =
     let mine = subst (λ ws. ListsMembers ws xs) (ap active_words c.lowest_overlap.ensures.loads.kept ∙ active2) lists in
     All-append (λ x. ¬ Overlaps x.span c.args.member.now.span) w.terms.fixed xs none.0 (free_listed (active_words k1.log.loader) xs a.count c.ending_below-place.result c.args.member.now.span c.args.member.now mine (counted_so w a k1 xs c.active_copy-active.ensures.knows mine) c.ending_below-place.ensures.inside (beginning there) begin)))
 
-pub write_copy-requires-clause-number : goal.write_copy-requires-clause-number
-write_copy-requires-clause-number c = let knows = (looked (goal.at.write_copy-requires-clause-number c).After-lowest_overlap).knows in knows.count ∙ sym knows.listing.lists.count
-
-pub write_copy-requires-clause-behind : goal.write_copy-requires-clause-behind
-write_copy-requires-clause-behind c =
-    let now = looked (goal.at.write_copy-requires-clause-behind c).After-lowest_overlap in
-    subst (λ o. IsBehind c.args.words.now.terms (active_words o) (spare_words o)) (sym now.kept) c.active_copy-active.ensures.behind
-
-pub write_copy-requires-clause-before : goal.write_copy-requires-clause-before
-write_copy-requires-clause-before c = c.active_copy-active.ensures.knows.room
+pub write_copy-requires-clause-may : goal.write_copy-requires-clause-may
+write_copy-requires-clause-may c = may_write _ _ _ _ (looked (goal.at.write_copy-requires-clause-may c).After-lowest_overlap) c.active_copy-active.ensures.behind
 
 pub publish-number-requires-clause-may : goal.publish-number-requires-clause-may
 publish-number-requires-clause-may c =
     let w : WordsData = c.args.words.now in let a : ActiveCopy = c.active_copy-active.result in let k3 : CallerData = c.lowest_overlap.new.me in let k4 : CallerData = c.write_copy.new.me in
     let there = (goal.at.publish-number-requires-clause-may c).After-lowest_overlap in let now = looked there in
-    let works = works_then (spare_words k4.log.loader) c.args.me.now k3 k4 now.works c.write_copy.ensures.same in
+    let wrote = has_written w a _ k3 k4 now c.write_copy.ensures.same c.write_copy.ensures.wide in
     let none = c.in_default.ensures.none in
     let active3 = ap active_words c.lowest_overlap.ensures.loads.kept in
     let below = subst (λ ws. EndsBelow ws c.args.member.now.span.first c.ending_below-place.result) (sym (active3 ∙ ap active_words c.ending_below-place.ensures.loads.kept)) (beginning there) in
     let begin = subst (λ ws. (c.ending_below-place.result ≡ a.count) ⊎ (c.args.member.now.span.last < (member_in ws c.ending_below-place.result).span.first)) (sym active3) none.1 in
-    let allowance : k4.log.budget.allowance ≡ c.args.me.now.log.budget.allowance = ap (λ (k : CallerData). k.log.budget.allowance) works.6.1 in
+    let allowance : k4.log.budget.allowance ≡ c.args.me.now.log.budget.allowance = ap (λ (k : CallerData). k.log.budget.allowance) wrote.works.6.1 in
     let due_now = c.requires.due in let room = now.knows.room in let loads = c.loads.ensures in let less = c.if-active-loads.false in
-    may_publish w a k3 k4 c.ending_below-place.result c.args.member.now now.knows c.write_copy.ensures.same (holds_of w.terms a.starts.copy (spare_words k4.log.loader) k3 k4 now.knows.holder.holds c.write_copy.ensures.same c.write_copy.ensures.wide) (omega (arith, allowance, due_now)) (c.first.ensures.span, c.requires.payload) (omega (arith, room, loads, less)) c.ending_below-place.ensures.inside below none.0 begin c.write_copy.ensures.written
+    may_publish w a k3 k4 c.ending_below-place.result c.args.member.now now.knows c.write_copy.ensures.same wrote.holds (omega (arith, allowance, due_now)) (c.first.ensures.span, c.requires.payload) (omega (arith, room, loads, less)) c.ending_below-place.ensures.inside below none.0 begin c.write_copy.ensures.written
 
 pub returns-clause-answer : goal.returns-clause-answer
 returns-clause-answer c =
     let w : WordsData = c.args.words.now in let a : ActiveCopy = c.active_copy-active.result in let k3 : CallerData = c.lowest_overlap.new.me in let k4 : CallerData = c.write_copy.new.me in
     let now = looked (goal.at.returns-clause-answer c).After-lowest_overlap in
-    let works = works_then (spare_words k4.log.loader) c.args.me.now k3 k4 now.works c.write_copy.ensures.same in
-    let holds = holds_of w.terms a.starts.copy (spare_words k4.log.loader) k3 k4 now.knows.holder.holds c.write_copy.ensures.same c.write_copy.ensures.wide in
-    published_so w.terms c.args.me.now k4 c.publish-number.new.me c.publish-number.ensures.log.0 c.publish-number.result c.args.member.now works (is_held w.terms a.starts.copy k4.log.loader holds) c.publish-number.ensures.log.1 c.publish-number.ensures.rest c.publish-number.ensures.number
+    let wrote = has_written w a _ k3 k4 now c.write_copy.ensures.same c.write_copy.ensures.wide in
+    published_so w.terms c.args.me.now k4 c.publish-number.new.me c.publish-number.ensures.log.0 c.publish-number.result c.args.member.now wrote.works (is_held w.terms a.starts.copy k4.log.loader wrote.holds) c.publish-number.ensures.log.1 c.publish-number.ensures.rest c.publish-number.ensures.number
 
 pub returns-in-Some-clause-terms : goal.returns-in-Some-clause-terms
 returns-in-Some-clause-terms c = terms_before c.args.words.now c.active_copy-active.result c.args.me.now c.active_copy-active.new.me c.active_copy-active.ensures.works c.active_copy-active.ensures.knows

@@ -7,14 +7,14 @@ use Rattle.array_publish.proofs.walk.load_word.Goals as goal
 
 pub returns-clause-loads : goal.returns-clause-loads
 returns-clause-loads g c =
-    let h = c.requires.copy in
-    subst (λ k. LoadsCopy c.args.words.now.terms c.args.at.copy (g.L.Looker.known c.args.me.now) k) (sym (c.load_copy.ensures.log ∙ ap (λ p. record (g.L.Looker.known c.args.me.now) { log = after_copy_load (p + c.args.word) c.load_copy.result (g.L.Looker.known c.args.me.now).log }) c.requires.start))
+    let h = c.requires.from.copy in
+    subst (λ k. LoadsCopy c.args.words.now.terms c.args.at.copy (g.L.Looker.known c.args.me.now) k) (sym (c.load_copy.ensures.log ∙ ap (λ p. record (g.L.Looker.known c.args.me.now) { log = after_copy_load (p + c.args.word) c.load_copy.result (g.L.Looker.known c.args.me.now).log }) c.requires.from.start))
     (one_load c.args.words.now.terms c.args.at.copy (g.L.Looker.known c.args.me.now) c.args.word c.load_copy.result h.terms h.sight c.requires.inside)
 
 pub returns-clause-told : goal.returns-clause-told
 returns-clause-told g c =
-    let h = c.requires.copy in
-    subst (λ k. IsTold c.args.words.now.terms c.args.at.copy k c.args.word c.load_copy.result) (sym (c.load_copy.ensures.log ∙ ap (λ p. record (g.L.Looker.known c.args.me.now) { log = after_copy_load (p + c.args.word) c.load_copy.result (g.L.Looker.known c.args.me.now).log }) c.requires.start))
+    let h = c.requires.from.copy in
+    subst (λ k. IsTold c.args.words.now.terms c.args.at.copy k c.args.word c.load_copy.result) (sym (c.load_copy.ensures.log ∙ ap (λ p. record (g.L.Looker.known c.args.me.now) { log = after_copy_load (p + c.args.word) c.load_copy.result (g.L.Looker.known c.args.me.now).log }) c.requires.from.start))
     (one_told c.args.words.now.terms c.args.at.copy (g.L.Looker.known c.args.me.now) c.args.word c.load_copy.result h.terms h.sight c.requires.inside)
 
 pub returns-clause-one : goal.returns-clause-one
