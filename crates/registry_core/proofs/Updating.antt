@@ -20,7 +20,7 @@ use Rattle.btree_change.specs.Removal.{Removes}
 use Rattle.btree_change.specs.Replacement.{MakesReplacement}
 use Rattle.btree_change.specs.Updates.{AnswersUpdate}
 use Rattle.word_rule.proofs.ObservationsFrame.{longer_length}
-use Rattle.registry_core.specs.Calls.{Answered, is_of_update, receipts_of_deregister, receipts_of_register, receipts_of_replace}
+use Rattle.registry_core.specs.Calls.{Answered, is_of_update, receipts_of_call}
 use Rattle.word_rule.proofs.Joins.{prefix_both}
 use Rattle.registry_core.proofs.Following.{answered_none}
 
@@ -50,18 +50,18 @@ one_more before past u is = (u ∷ [], sym is)
 accepted_update : (r : Receipt) (u : Update) (before : List Update) (k k' : CallerData) → is_of_update r ≡ true → 0 < k.left → IsIdle k.log → IsPrefix k.log.past before → k'.log.past ≡ before ++ u ∷ [] → moment r ≡ length k'.log.past → AnswersUpdate r 1 (call_begun k) k' → Answered (r ∷ []) k k'
 accepted_update r u before k k' update some idle begins is at call = answered_update r 1 k k' update some idle (prefix_both k.log.past before k'.log.past begins (one_more before k'.log.past u is)) at call
 
-pub inserted_answered : (t : Terms) (m : Member) (k k' : CallerData) (answer : Inserted) → IsIdle k.log → Inserts t m k k' answer → Answered (receipts_of_register m answer) k k'
+pub inserted_answered : (t : Terms) (m : Member) (k k' : CallerData) (answer : Inserted) → IsIdle k.log → Inserts t m k k' answer → Answered (receipts_of_call (receipt.Register m answer)) k k'
 inserted_answered t m k k' inserted.Spent idle i = subst (λ z. Answered [] k z) (sym i.1) (answered_none k)
 inserted_answered t m k k' (inserted.Done number) idle i = let right = i.1.right in accepted_update (receipt.Register m (inserted.Done number)) _ right.0 k k' refl i.0 idle right.1.0 right.1.1 right.1.2 i.1.call
 inserted_answered t m k k' (inserted.Overlap other stamp) idle i = answered_update (receipt.Register m (inserted.Overlap other stamp)) 0 k k' refl i.0 idle i.1.right.0 i.1.right.1 i.1.call
 inserted_answered t m k k' (inserted.Full stamp) idle i = answered_update (receipt.Register m (inserted.Full stamp)) 0 k k' refl i.0 idle i.1.right.0 i.1.right.1 i.1.call
 
-pub removed_answered : (t : Terms) (base : ℕ) (k k' : CallerData) (answer : Removed) → IsIdle k.log → Removes t base k k' answer → Answered (receipts_of_deregister base answer) k k'
+pub removed_answered : (t : Terms) (base : ℕ) (k k' : CallerData) (answer : Removed) → IsIdle k.log → Removes t base k k' answer → Answered (receipts_of_call (receipt.Deregister base answer)) k k'
 removed_answered t base k k' removed.Spent idle i = subst (λ z. Answered [] k z) (sym i.1) (answered_none k)
 removed_answered t base k k' (removed.Done number m) idle i = let right = i.1.right in accepted_update (receipt.Deregister base (removed.Done number m)) _ right.0 k k' refl i.0 idle right.1.0 right.1.1 right.1.2 i.1.call
 removed_answered t base k k' (removed.NotFound stamp) idle i = answered_update (receipt.Deregister base (removed.NotFound stamp)) 0 k k' refl i.0 idle i.1.right.0 i.1.right.1 i.1.call
 
-pub replaced_answered : (t : Terms) (m : Member) (k k' : CallerData) (answer : Replaced) → IsIdle k.log → MakesReplacement t m k k' answer → Answered (receipts_of_replace m answer) k k'
+pub replaced_answered : (t : Terms) (m : Member) (k k' : CallerData) (answer : Replaced) → IsIdle k.log → MakesReplacement t m k k' answer → Answered (receipts_of_call (receipt.Replace m answer)) k k'
 replaced_answered t m k k' replaced.Spent idle i = subst (λ z. Answered [] k z) (sym i.1) (answered_none k)
 replaced_answered t m k k' (replaced.Done number payload) idle i = let right = i.1.right in accepted_update (receipt.Replace m (replaced.Done number payload)) _ right.0 k k' refl i.0 idle right.1.0 right.1.1 right.1.2 i.1.call
 replaced_answered t m k k' (replaced.NotFound stamp) idle i = answered_update (receipt.Replace m (replaced.NotFound stamp)) 0 k k' refl i.0 idle i.1.right.0 i.1.right.1 i.1.call

@@ -1,21 +1,17 @@
 -- What calls make of their caller, by their receipts alone.
-use Rattle.std.specs.Prelude.{◌≡◌, ℕ, ◌+◌, List, [], ◌∷◌, ◌++◌, length, Bool, true, false}
+use Rattle.std.specs.Prelude.{◌≡◌, ◌+◌, ◌<◌, List, [], ◌∷◌, ◌++◌, length, Bool, true, false}
 use Rattle.std.specs.Prelude.{count_by}
 use Rattle.std.specs.List.{AllByRecursion}
 use mathlib.Core.List.{IsPrefix}
 use Rattle.reg_model.specs.Chain.{IsBetween}
-use Rattle.reg_model.specs.declared.answer.Inserted.{Inserted}
 use Rattle.reg_model.specs.declared.answer.Inserted.TheVariants as inserted
-use Rattle.reg_model.specs.declared.answer.Loading.{Loading}
 use Rattle.reg_model.specs.declared.answer.Loading.TheVariants as loading
 use Rattle.reg_model.specs.declared.answer.Receipt.{Receipt}
 use Rattle.reg_model.specs.declared.answer.Receipt.TheVariants as receipt
-use Rattle.reg_model.specs.declared.answer.Removed.{Removed}
 use Rattle.reg_model.specs.declared.answer.Removed.TheVariants as removed
-use Rattle.reg_model.specs.declared.answer.Replaced.{Replaced}
 use Rattle.reg_model.specs.declared.answer.Replaced.TheVariants as replaced
-use Rattle.reg_model.specs.declared.span.Member.{Member}
-use Rattle.word_rule.specs.CallerData.{CallerData}
+use Rattle.word_rule.specs.CallerData.{CallerData, WordsData}
+use Rattle.word_rule.specs.Callers.{IsIdle}
 
 -- whether a receipt is an update's
 abbrev pub is_of_update : Receipt → Bool
@@ -43,27 +39,22 @@ pub record Answered (receipts : List Receipt) (k k' : CallerData) : Type 0 where
 abbrev pub Receives : CallerData → Receipt → CallerData → Type 0
 Receives k r k' = Answered (r ∷ []) k k'
 
--- the receipts of a registration: none where no call was left, else that of the answer
-abbrev pub receipts_of_register : Member → Inserted → List Receipt
-receipts_of_register m inserted.Spent = []
-receipts_of_register m answer = receipt.Register m answer ∷ []
+-- the receipts of an update call with this answer: none where no call was left
+abbrev pub receipts_of_call : Receipt → List Receipt
+receipts_of_call (receipt.Register m inserted.Spent) = []
+receipts_of_call (receipt.Deregister base removed.Spent) = []
+receipts_of_call (receipt.Replace m replaced.Spent) = []
+receipts_of_call (receipt.Load m loading.Spent) = []
+receipts_of_call (receipt.Unload base removed.Spent) = []
+receipts_of_call r = r ∷ []
 
--- the same of a removal of what is registered
-abbrev pub receipts_of_deregister : ℕ → Removed → List Receipt
-receipts_of_deregister base removed.Spent = []
-receipts_of_deregister base answer = receipt.Deregister base answer ∷ []
+-- What an update of the tree asks of its caller: it is one of these words, and holds nothing.
+pub record MayUpdate (w : WordsData) (k : CallerData) : Type 0 where
+  pub table : k.table ≡ w.table
+  pub idle : IsIdle k.log
 
--- the same of a replacement
-abbrev pub receipts_of_replace : Member → Replaced → List Receipt
-receipts_of_replace m replaced.Spent = []
-receipts_of_replace m answer = receipt.Replace m answer ∷ []
-
--- the receipts of a load
-abbrev pub receipts_of_load : Member → Loading → List Receipt
-receipts_of_load m loading.Spent = []
-receipts_of_load m answer = receipt.Load m answer ∷ []
-
--- the same of an unload
-abbrev pub receipts_of_unload : ℕ → Removed → List Receipt
-receipts_of_unload base removed.Spent = []
-receipts_of_unload base answer = receipt.Unload base answer ∷ []
+-- An update call that waits was answered so, with its receipt. The caller's terms are those of the
+-- words, where an update call was left.
+pub record EndsCall (w : WordsData) (r : Receipt) (k k' : CallerData) : Type 0 where
+  pub terms : 0 < k.left → k.log.terms ≡ w.terms
+  pub answered : Answered (receipts_of_call r) k k'

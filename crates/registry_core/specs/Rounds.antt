@@ -6,7 +6,7 @@ use Rattle.reg_model.specs.Chain.{IsBetween, made_count}
 use Rattle.reg_model.specs.declared.answer.Receipt.{Receipt}
 use Rattle.word_rule.specs.CallerData.{CallerData}
 use Rattle.word_rule.specs.Callers.{IsAlone, IsIdle, IsRecord, IsWhole}
-use Rattle.word_rule.specs.Logs.{after_join, after_split, split_off}
+use Rattle.word_rule.specs.Logs.{after_join, after_split, reader_of, split_off}
 use Rattle.word_rule.specs.declared.log.Log.{Log}
 use Rattle.word_rule.specs.declared.log.ReceiptList.{ReceiptList}
 use Rattle.word_rule.specs.declared.log.Receipts.{Receipts}
@@ -75,6 +75,11 @@ pub record IsSplitOff (k : CallerData) (give : ℕ) (c : CallerData) : Type 0 wh
       ≡ record { since = length k.log.past; own = []; joined = []; heard = [] }
   pub idle : IsIdle c.log
   pub made : c.log.made ≡ 0
+
+-- A reader that has seen what a caller or a reader has was split off it, which stays as it was.
+pub record SplitsReader (k k' reader : CallerData) : Type 0 where
+  pub seen : reader ≡ record { table = k.table; left = 0; log = reader_of k.log }
+  pub same : k' ≡ k
 
 -- Each caller's calls were answered with the receipts of its place.
 abbrev pub AreAnswered : List (List Receipt) → List CallerData → List CallerData → Type 0

@@ -1,7 +1,8 @@
 //! Readers: they look up, and owe nothing.
 ghost use Rattle.std.specs.Prelude.{◌≡◌, List};
 ghost use Rattle.reg_model.specs.declared.answer.Update.{Update};
-ghost use Rattle.word_rule.specs.Logs.{reader_log, reader_of};
+ghost use Rattle.word_rule.specs.Logs.{reader_log};
+ghost use Rattle.registry_core.specs.Rounds.{SplitsReader};
 
 use crate::registry::Registry;
 use word_rule::{Caller, Reader};
@@ -10,9 +11,7 @@ impl Registry {
     /// A reader that has seen what a caller has. The caller stays as it was, alone if it was alone.
     pub fn reader_of(&self, me: &mut Caller) -> Reader
         requires { me.old.table ≡ self.now.table }
-        ensures reader { result
-            ≡ record { table = me.old.table; left = 0; log = reader_of me.old.log } }
-        ensures same { me.new ≡ me.old }
+        ensures splits { SplitsReader me.old me.new result }
     {
         self.words().reader_of(me)
     }
@@ -20,9 +19,7 @@ impl Registry {
     /// Another reader, which has seen what one has.
     pub fn another_reader(&self, me: &mut Reader) -> Reader
         requires { me.old.table ≡ self.now.table }
-        ensures reader { result
-            ≡ record { table = me.old.table; left = 0; log = reader_of me.old.log } }
-        ensures same { me.new ≡ me.old }
+        ensures splits { SplitsReader me.old me.new result }
     {
         self.words().another_reader(me)
     }

@@ -1,32 +1,27 @@
 //! The registry, and its calls.
-ghost use Rattle.std.specs.Prelude.{◌≡◌, ◌<◌, ◌≤◌, ◌↔◌, [], length, None, IfOk, IfErr};
-ghost use Rattle.std.specs.Prelude.{IsOk, OnErr, OnOk, true};
+ghost use Rattle.std.specs.Prelude.{◌≡◌, ◌<◌, ◌≤◌, ◌↔◌, [], length, IfOk, IsOk};
 ghost use Rattle.std.specs.List.{AllByRecursion};
 ghost use Rattle.array_publish.specs.Lookup.{LooksUp};
-ghost use Rattle.array_publish.specs.Update.{IsFreeAgain, LoadsMember, UnloadsMember};
+ghost use Rattle.array_publish.specs.Update.{LoadsMember, MayLoad, UnloadsMember};
 ghost use Rattle.btree_change.specs.Insertion.{Inserts, TriesInsertion};
 ghost use Rattle.btree_change.specs.Removal.{Removes, TriesRemoval};
 ghost use Rattle.btree_change.specs.Replacement.{MakesReplacement, TriesReplacement};
-ghost use Rattle.btree_change.specs.Updates.{GivesUp};
 ghost use Rattle.btree_lookup.specs.Tries.{TriesTree};
-ghost use Rattle.node_store.specs.Locking.{IsBusyAt, UnlessLost};
 ghost use Rattle.reg_model.specs.Chain.{Chain};
 ghost use Rattle.reg_model.specs.Receipt.{IsPlace, receipts_of_place};
 ghost use Rattle.reg_model.specs.SpanData.{IsSpan};
 ghost use Rattle.reg_model.specs.declared.answer.Inserted.TheVariants as inserted;
 ghost use Rattle.reg_model.specs.declared.answer.Loading.TheVariants as loading;
+ghost use Rattle.reg_model.specs.declared.answer.Receipt.TheVariants as receipt;
 ghost use Rattle.reg_model.specs.declared.answer.Removed.TheVariants as removed;
 ghost use Rattle.reg_model.specs.declared.answer.Replaced.TheVariants as replaced;
 ghost use Rattle.segment_array.specs.Ascending.{AscendFrom};
-ghost use Rattle.word_rule.specs.CallerData.{due, surplus};
+ghost use Rattle.word_rule.specs.CallerData.{due};
 ghost use Rattle.word_rule.specs.Callers.{IsAlone, IsIdle, IsWhole};
 ghost use Rattle.word_rule.specs.Logs.{first_log};
-ghost use Rattle.word_rule.specs.Places.{ALLOWANCE, CALL_CREDIT};
-ghost use Rattle.word_rule.specs.declared.log.LockId.TheVariants as lock;
-ghost use Rattle.registry_core.specs.Begun.{TriesLoad, TriesUnload};
-ghost use Rattle.registry_core.specs.Calls.{Answered, Receives, receipts_of_deregister};
-ghost use Rattle.registry_core.specs.Calls.{receipts_of_load, receipts_of_register};
-ghost use Rattle.registry_core.specs.Calls.{receipts_of_replace, receipts_of_unload};
+ghost use Rattle.word_rule.specs.Places.{ALLOWANCE};
+ghost use Rattle.registry_core.specs.Begun.{TriesLoad, TriesLoading, TriesUnload, TriesUpdate};
+ghost use Rattle.registry_core.specs.Calls.{EndsCall, MayUpdate, Receives};
 ghost use Rattle.registry_core.specs.Queries.{IsKnownPlace, Queries};
 ghost use Rattle.registry_core.specs.Rounds.{IsBetweenRounds};
 
@@ -98,12 +93,10 @@ impl Registry {
     /// locks of nodes.
     #[tactic(auto, using(crate::proofs::Updating::inserted_spent))]
     pub fn register<R: Wait>(&self, rt: &R, me: &mut Caller, member: Member) -> Inserted
-        requires table { me.old.table ≡ self.now.table }
-        requires idle { IsIdle me.old.log }
+        requires caller { MayUpdate self.now me.old }
         requires payload { member.payload < self.now.terms.payloads }
         ensures answer { Inserts self.now.terms member me.old me.new result }
-        ensures terms { 0 < me.old.left → me.old.log.terms ≡ self.now.terms }
-        ensures answered { Answered (receipts_of_register member result) me.old me.new }
+        ensures call { EndsCall self.now (receipt.Register member result) me.old me.new }
         ensures spent { (result ≡ inserted.Spent) ↔ (me.old.left ≡ 0) }
         ensures idle { IsIdle me.new.log }
     {
@@ -114,11 +107,9 @@ impl Registry {
     /// caller may begin no more update calls. It waits for the locks of nodes.
     #[tactic(auto, using(crate::proofs::Updating::removed_spent))]
     pub fn deregister<R: Wait>(&self, rt: &R, me: &mut Caller, base: u64) -> Removed
-        requires table { me.old.table ≡ self.now.table }
-        requires idle { IsIdle me.old.log }
+        requires caller { MayUpdate self.now me.old }
         ensures answer { Removes self.now.terms base me.old me.new result }
-        ensures terms { 0 < me.old.left → me.old.log.terms ≡ self.now.terms }
-        ensures answered { Answered (receipts_of_deregister base result) me.old me.new }
+        ensures call { EndsCall self.now (receipt.Deregister base result) me.old me.new }
         ensures spent { (result ≡ removed.Spent) ↔ (me.old.left ≡ 0) }
         ensures idle { IsIdle me.new.log }
     {
@@ -130,12 +121,10 @@ impl Registry {
     /// nodes.
     #[tactic(auto, using(crate::proofs::Updating::replaced_spent))]
     pub fn replace<R: Wait>(&self, rt: &R, me: &mut Caller, member: Member) -> Replaced
-        requires table { me.old.table ≡ self.now.table }
-        requires idle { IsIdle me.old.log }
+        requires caller { MayUpdate self.now me.old }
         requires payload { member.payload < self.now.terms.payloads }
         ensures answer { MakesReplacement self.now.terms member me.old me.new result }
-        ensures terms { 0 < me.old.left → me.old.log.terms ≡ self.now.terms }
-        ensures answered { Answered (receipts_of_replace member result) me.old me.new }
+        ensures call { EndsCall self.now (receipt.Replace member result) me.old me.new }
         ensures spent { (result ≡ replaced.Spent) ↔ (me.old.left ≡ 0) }
         ensures idle { IsIdle me.new.log }
     {
@@ -151,18 +140,11 @@ impl Registry {
         me: &mut Caller,
         member: Member,
     ) -> Result<Inserted, Busy>
-        requires table { me.old.table ≡ self.now.table }
-        requires idle { IsIdle me.old.log }
+        requires caller { MayUpdate self.now me.old }
         requires begun { 0 < due me.old }
         requires payload { member.payload < self.now.terms.payloads }
         ensures answer { IfOk result (TriesInsertion self.now.terms member me.old me.new) }
-        ensures terms { CALL_CREDIT ≤ surplus me.old → me.old.log.terms ≡ self.now.terms }
-        ensures busy { IfErr result (λ e. (CALL_CREDIT ≤ surplus me.old)
-            × GivesUp e me.old me.new × (L.gives_up ≡ true)) }
-        ensures table { me.new.table ≡ me.old.table }
-        ensures idle { OnOk result (IsIdle me.new.log) }
-        ensures again { IfErr result (λ e. UnlessLost e (IsIdle me.new.log)) }
-        ensures due { OnErr result (0 < due me.new) }
+        ensures call { TriesUpdate self.now L.gives_up result me.old me.new }
     {
         if !me.may_try() {
             return Ok(Inserted::Spent);
@@ -179,17 +161,10 @@ impl Registry {
         me: &mut Caller,
         base: u64,
     ) -> Result<Removed, Busy>
-        requires table { me.old.table ≡ self.now.table }
-        requires idle { IsIdle me.old.log }
+        requires caller { MayUpdate self.now me.old }
         requires begun { 0 < due me.old }
         ensures answer { IfOk result (TriesRemoval self.now.terms base me.old me.new) }
-        ensures terms { CALL_CREDIT ≤ surplus me.old → me.old.log.terms ≡ self.now.terms }
-        ensures busy { IfErr result (λ e. (CALL_CREDIT ≤ surplus me.old)
-            × GivesUp e me.old me.new × (L.gives_up ≡ true)) }
-        ensures table { me.new.table ≡ me.old.table }
-        ensures idle { OnOk result (IsIdle me.new.log) }
-        ensures again { IfErr result (λ e. UnlessLost e (IsIdle me.new.log)) }
-        ensures due { OnErr result (0 < due me.new) }
+        ensures call { TriesUpdate self.now L.gives_up result me.old me.new }
     {
         if !me.may_try() {
             return Ok(Removed::Spent);
@@ -206,18 +181,11 @@ impl Registry {
         me: &mut Caller,
         member: Member,
     ) -> Result<Replaced, Busy>
-        requires table { me.old.table ≡ self.now.table }
-        requires idle { IsIdle me.old.log }
+        requires caller { MayUpdate self.now me.old }
         requires begun { 0 < due me.old }
         requires payload { member.payload < self.now.terms.payloads }
         ensures answer { IfOk result (TriesReplacement self.now.terms member me.old me.new) }
-        ensures terms { CALL_CREDIT ≤ surplus me.old → me.old.log.terms ≡ self.now.terms }
-        ensures busy { IfErr result (λ e. (CALL_CREDIT ≤ surplus me.old)
-            × GivesUp e me.old me.new × (L.gives_up ≡ true)) }
-        ensures table { me.new.table ≡ me.old.table }
-        ensures idle { OnOk result (IsIdle me.new.log) }
-        ensures again { IfErr result (λ e. UnlessLost e (IsIdle me.new.log)) }
-        ensures due { OnErr result (0 < due me.new) }
+        ensures call { TriesUpdate self.now L.gives_up result me.old me.new }
     {
         if !me.may_try() {
             return Ok(Replaced::Spent);
@@ -228,12 +196,10 @@ impl Registry {
     /// Loads a member. Spent where the caller may begin no more update calls. It waits for the
     /// loader's lock.
     pub fn load<R: Wait>(&self, rt: &R, me: &mut Caller, member: Member) -> Loading
-        requires table { me.old.table ≡ self.now.table }
-        requires free { me.old.log.loader ≡ None }
+        requires caller { MayLoad self.now me.old }
         requires payload { member.payload < self.now.terms.payloads }
         ensures answer { LoadsMember self.now.terms member me.old me.new result }
-        ensures terms { 0 < me.old.left → me.old.log.terms ≡ self.now.terms }
-        ensures answered { Answered (receipts_of_load member result) me.old me.new }
+        ensures call { EndsCall self.now (receipt.Load member result) me.old me.new }
         ensures spent { (result ≡ loading.Spent) ↔ (me.old.left ≡ 0) }
     {
         array_publish::load(rt, &self.words, me, member)
@@ -248,16 +214,11 @@ impl Registry {
         me: &mut Caller,
         member: Member,
     ) -> Result<Loading, Busy>
-        requires table { me.old.table ≡ self.now.table }
-        requires free { me.old.log.loader ≡ None }
+        requires caller { MayLoad self.now me.old }
         requires begun { 0 < due me.old }
         requires payload { member.payload < self.now.terms.payloads }
         ensures answer { IfOk result (TriesLoad self.now.terms member me.old me.new) }
-        ensures terms { OnOk result (CALL_CREDIT ≤ surplus me.old
-            → me.old.log.terms ≡ self.now.terms) }
-        ensures busy { IfErr result (λ e. (CALL_CREDIT ≤ surplus me.old)
-            × IsBusyAt lock.Loader e me.old me.new × (L.gives_up ≡ true)) }
-        ensures free { IsFreeAgain me.old me.new }
+        ensures call { TriesLoading self.now L.gives_up result me.old me.new }
     {
         if !me.may_try() {
             return Ok(Loading::Spent);
@@ -269,11 +230,9 @@ impl Registry {
     /// unloaded. Spent where the caller may begin no more update calls. It waits for the loader's
     /// lock.
     pub fn unload<R: Wait>(&self, rt: &R, me: &mut Caller, base: u64) -> Removed
-        requires table { me.old.table ≡ self.now.table }
-        requires free { me.old.log.loader ≡ None }
+        requires caller { MayLoad self.now me.old }
         ensures answer { UnloadsMember self.now.terms base me.old me.new result }
-        ensures terms { 0 < me.old.left → me.old.log.terms ≡ self.now.terms }
-        ensures answered { Answered (receipts_of_unload base result) me.old me.new }
+        ensures call { EndsCall self.now (receipt.Unload base result) me.old me.new }
         ensures spent { (result ≡ removed.Spent) ↔ (me.old.left ≡ 0) }
     {
         array_publish::unload(rt, &self.words, me, base)
@@ -288,15 +247,10 @@ impl Registry {
         me: &mut Caller,
         base: u64,
     ) -> Result<Removed, Busy>
-        requires table { me.old.table ≡ self.now.table }
-        requires free { me.old.log.loader ≡ None }
+        requires caller { MayLoad self.now me.old }
         requires begun { 0 < due me.old }
         ensures answer { IfOk result (TriesUnload self.now.terms base me.old me.new) }
-        ensures terms { OnOk result (CALL_CREDIT ≤ surplus me.old
-            → me.old.log.terms ≡ self.now.terms) }
-        ensures busy { IfErr result (λ e. (CALL_CREDIT ≤ surplus me.old)
-            × IsBusyAt lock.Loader e me.old me.new × (L.gives_up ≡ true)) }
-        ensures free { IsFreeAgain me.old me.new }
+        ensures call { TriesLoading self.now L.gives_up result me.old me.new }
     {
         if !me.may_try() {
             return Ok(Removed::Spent);

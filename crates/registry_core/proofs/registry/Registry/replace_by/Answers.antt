@@ -1,8 +1,6 @@
-use Rattle.registry_core.proofs.Begun.{busy_again, replacement_idle}
+use Rattle.registry_core.proofs.Begun.{tree_tried}
 use Rattle.registry_core.proofs.registry.Registry.replace_by.Goals as goal
 
-pub returns-clause-idle : goal.returns-clause-idle
-returns-clause-idle g c = replacement_idle _ _ c.args.me.now c.replace_by.new.me c.replace_by.result c.requires.idle c.replace_by.ensures.answer
-
-pub returns-clause-again : goal.returns-clause-again
-returns-clause-again g c = busy_again _ c.args.me.now c.replace_by.new.me c.replace_by.result c.requires.idle c.replace_by.ensures.busy
+pub returns-clause-call : goal.returns-clause-call
+returns-clause-call g c =
+    rw (← c.self.view_is) (tree_tried c.self.inside.words _ c.args.me.now c.replace_by.new.me c.replace_by.result _ c.requires.caller.idle c.requires.begun (c.may_try.ensures.0 c.if-not-may_try.false) c.replace_by.ensures.terms c.replace_by.ensures.answer (λ answer a. (a.call.caller, a.call.nothing)) c.replace_by.ensures.busy)

@@ -6,7 +6,7 @@ use Rattle.sole_writer.proofs.writer.Writer.deregister.Goals as goal
 
 come : (c : After-is_err-self-inside) → ComesTo (receipt.Deregister c.args.base) c.deregister_by-answer.result c.args.self.now (record { words = arc_value c.self.inside.registry; me = c.confirm.new.me; stuck = c.is_err-self-inside.result })
 come c =
-    comes_to _ c.args.self.now c.self.invariant c.self.view_is c.requires.free c.requires.left _ c.deref.ensures _ _ _ c.begin.ensures.after c.begin.ensures.may c.confirm.ensures.same c.confirm.ensures.room c.confirm.ensures.whole (receipt.Deregister c.args.base) c.deregister_by-answer.result c.is_err-self-inside.result c.is_err-self-inside.ensures.value _ (λ idle enough. deregistered _ _ _ idle enough c.args.base) c.deregister_by-answer.ensures.answer _ _ (λ idle why gives_up. gives_up) c.deregister_by-answer.ensures.busy
+    comes_to _ c.args.self.now c.self.invariant c.self.view_is c.requires.free c.requires.left _ c.deref.ensures _ _ _ c.begin.ensures.after c.begin.ensures.may c.confirm.ensures.same c.confirm.ensures.room c.confirm.ensures.whole (receipt.Deregister c.args.base) c.deregister_by-answer.result c.is_err-self-inside.result c.is_err-self-inside.ensures.value _ (λ idle enough. deregistered _ _ _ idle enough c.args.base) c.deregister_by-answer.ensures.answer _ _ (λ idle why gives_up. gives_up) c.deregister_by-answer.ensures.call.busy
 
 pub invariant_of-self : goal.invariant_of-self
 invariant_of-self c = (come (goal.at.invariant_of-self c).After-is_err-self-inside).writer
