@@ -13,7 +13,7 @@ invariant_of-self c =
 
 pub invariant_of-self-in-Err-load_by : goal.invariant_of-self-in-Err-load_by
 invariant_of-self-in-Err-load_by c =
-    let adds = adds_none c.self-2.inside.me c.load_by.new.me (ap (λ (k : CallerData). k.log.receipts.own) c.in-Err-load_by.ensures.busy.1.1.1.1) in
+    let adds = adds_none c.self-2.inside.me c.load_by.new.me (ap (λ (k : CallerData). k.log.receipts.own) c.in-Err-load_by.ensures.call.busy.1.1.1.1) in
     (goes_on c.caches_go_on_to_fit.ensures _ c.load_by.new.me _ _ adds c.self-2.invariant.0 (search rules) (search rules) (search rules) (search rules) (search rules), c.self-2.invariant.1)
 
 pub returns-in-Ok-load_by : goal.returns-in-Ok-load_by

@@ -8,11 +8,11 @@ use Rattle.registry_c.proofs.client.Client.register.Goals as goal
 pub invariant_of-self : goal.invariant_of-self
 invariant_of-self c =
     let adds = by_insertion _ _ c.self-2.inside.me c.register_by.new.me c.in-Ok-register_by.inserted c.in-Ok-register_by.ensures.answer in
-    (goes_on c.caches_go_on_to_fit.ensures _ c.register_by.new.me _ _ adds c.self-2.invariant.0 (search rules) (search rules) (search rules) (λ kept. c.in-Ok-register_by.ensures.idle.out) (search rules), c.self-2.invariant.1)
+    (goes_on c.caches_go_on_to_fit.ensures _ c.register_by.new.me _ _ adds c.self-2.invariant.0 (search rules) (search rules) (search rules) (λ kept. c.in-Ok-register_by.ensures.call.idle.out) (search rules), c.self-2.invariant.1)
 
 pub invariant_of-self-in-Err-register_by : goal.invariant_of-self-in-Err-register_by
 invariant_of-self-in-Err-register_by c =
-    (rw c.is_lost-self-inside.ensures (gave_up c.caches_go_on_to_fit.ensures _ c.in-Err-register_by.why c.register_by.new.me c.self-2.invariant.0 c.in-Err-register_by.ensures.busy.1 c.in-Err-register_by.ensures.due), c.self-2.invariant.1)
+    (rw c.is_lost-self-inside.ensures (gave_up c.caches_go_on_to_fit.ensures _ c.in-Err-register_by.why c.register_by.new.me c.self-2.invariant.0 c.in-Err-register_by.ensures.call.busy.1 c.in-Err-register_by.ensures.call.begun), c.self-2.invariant.1)
 
 pub returns-in-Ok-register_by : goal.returns-in-Ok-register_by
 returns-in-Ok-register_by c =

@@ -8,11 +8,11 @@ use Rattle.registry_c.proofs.client.Client.replace.Goals as goal
 pub invariant_of-self : goal.invariant_of-self
 invariant_of-self c =
     let adds = by_replacement _ _ c.self-2.inside.me c.replace_by.new.me c.in-Ok-replace_by.replaced c.in-Ok-replace_by.ensures.answer in
-    (goes_on c.caches_go_on_to_fit.ensures _ c.replace_by.new.me _ _ adds c.self-2.invariant.0 (search rules) (search rules) (search rules) (λ kept. c.in-Ok-replace_by.ensures.idle.out) (search rules), c.self-2.invariant.1)
+    (goes_on c.caches_go_on_to_fit.ensures _ c.replace_by.new.me _ _ adds c.self-2.invariant.0 (search rules) (search rules) (search rules) (λ kept. c.in-Ok-replace_by.ensures.call.idle.out) (search rules), c.self-2.invariant.1)
 
 pub invariant_of-self-in-Err-replace_by : goal.invariant_of-self-in-Err-replace_by
 invariant_of-self-in-Err-replace_by c =
-    (rw c.is_lost-self-inside.ensures (gave_up c.caches_go_on_to_fit.ensures _ c.in-Err-replace_by.why c.replace_by.new.me c.self-2.invariant.0 c.in-Err-replace_by.ensures.busy.1 c.in-Err-replace_by.ensures.due), c.self-2.invariant.1)
+    (rw c.is_lost-self-inside.ensures (gave_up c.caches_go_on_to_fit.ensures _ c.in-Err-replace_by.why c.replace_by.new.me c.self-2.invariant.0 c.in-Err-replace_by.ensures.call.busy.1 c.in-Err-replace_by.ensures.call.begun), c.self-2.invariant.1)
 
 pub returns-in-Ok-replace_by : goal.returns-in-Ok-replace_by
 returns-in-Ok-replace_by c =

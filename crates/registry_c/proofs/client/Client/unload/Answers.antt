@@ -10,5 +10,5 @@ invariant_of-self c =
 
 pub invariant_of-self-in-Err : goal.invariant_of-self-in-Err
 invariant_of-self-in-Err c =
-    let adds = adds_none c.self.inside.me c.unload_by.new.me (ap (λ (k : CallerData). k.log.receipts.own) c.in-Err.ensures.busy.1.1.1.1) in
+    let adds = adds_none c.self.inside.me c.unload_by.new.me (ap (λ (k : CallerData). k.log.receipts.own) c.in-Err.ensures.call.busy.1.1.1.1) in
     (goes_on c.caches_go_on_to_fit.ensures _ c.unload_by.new.me _ _ adds c.self.invariant.0 (search rules) (search rules) (search rules) (search rules) (search rules), c.self.invariant.1)
