@@ -226,20 +226,20 @@ fn the_lowest_overlap_is_named(rt: HostRuntime) {
     assert!(rt; names_the_lowest(&mut another, &low, &high));
 }
 
-/// A registry with a fixed member, in which so many more may be loaded.
-fn beside(alloc: Global, fixed: &Member, loads: u32) -> Option<PlainRegistry> {
-    let mut members = Vec::new(alloc);
-    members.push(*fixed).ok()?;
-    Some(PlainRegistry::new(alloc, members, loads))
+/// A fixed member of so many addresses, and a registry in which so many more may be loaded.
+fn beside(alloc: Global, size: u64, loads: u32) -> Option<(Member, PlainRegistry)> {
+    let (fixed, same) = (image(0, 0x1000, size)?, image(0, 0x1000, size)?);
+    let members = Vec::from_array(alloc, [same]).ok()?;
+    Some((fixed, PlainRegistry::new(alloc, members, loads)))
 }
 
 #[test]
 fn fixed_members_are_found_after_the_registered_ones(rt: HostRuntime) {
-    let (Some(fixed), Some(own)) = (image(0, 0x1000, 0x100), image(1, 0x1010, 0x10)) else {
-        panic!(rt; "spans")
-    };
-    let Some(mut registry) = beside(rt.alloc(), &fixed, 8) else {
+    let Some((fixed, mut registry)) = beside(rt.alloc(), 0x100, 8) else {
         panic!(rt; "no memory")
+    };
+    let Some(own) = image(1, 0x1010, 0x10) else {
+        panic!(rt; "a span")
     };
     assert!(rt;
         is_loaded(&registry, 0x1010, &fixed, 0)
@@ -251,30 +251,30 @@ fn fixed_members_are_found_after_the_registered_ones(rt: HostRuntime) {
 
 /// Two more members are loaded, and there is no room for a third. What overlaps is named also then,
 /// the lowest of both lists.
-fn loads_till_full(registry: &mut PlainRegistry, fixed: &Member, third: &Member) -> bool {
-    let (Some(over), Some(fourth)) = (image(1, 0x1010, 0x20), image(3, 0x4000, 0x10)) else {
+fn loads_till_full(registry: &mut PlainRegistry, fixed: &Member) -> bool {
+    let (Some(over), Some(third)) = (image(1, 0x1010, 0x20), image(2, 0x3000, 0x10)) else {
         return false;
     };
     let (Some(fifth), Some(wide)) = (image(4, 0x5000, 0x10), image(5, 0x1010, 0x3000)) else {
         return false;
     };
-    let Some(above) = image(6, 0x2000, 0x3000) else {
+    let (Some(fourth), Some(above)) = (image(3, 0x4000, 0x10), image(6, 0x2000, 0x3000)) else {
         return false;
     };
     loads(registry, &over, load_overlaps(fixed, 0))
-        && loads(registry, third, Loading::Done { number: 1 })
+        && loads(registry, &third, Loading::Done { number: 1 })
         && loads(registry, &fourth, Loading::Done { number: 2 })
         && loads(registry, &fifth, Loading::LoadFull { stamp: 2 })
         && loads(registry, &wide, load_overlaps(fixed, 2))
-        && loads(registry, &above, load_overlaps(third, 2))
+        && loads(registry, &above, load_overlaps(&third, 2))
 }
 
 /// One of them is unloaded, which makes room, and the fixed one can't be.
-fn unloads_one(registry: &mut PlainRegistry, third: &Member) -> bool {
-    let Some(fifth) = image(4, 0x5000, 0x10) else {
+fn unloads_one(registry: &mut PlainRegistry) -> bool {
+    let (Some(third), Some(fifth)) = (image(2, 0x3000, 0x10), image(4, 0x5000, 0x10)) else {
         return false;
     };
-    unloads(registry, 0x3000, removed(3, third))
+    unloads(registry, 0x3000, removed(3, &third))
         && loads(registry, &fifth, Loading::Done { number: 4 })
         && unloads(registry, 0x1000, Removed::NotFound { stamp: 4 })
 }
@@ -293,13 +293,10 @@ fn registers_over(registry: &mut PlainRegistry, fixed: &Member) -> bool {
 
 #[test]
 fn loaded_members_beside_a_fixed_one(rt: HostRuntime) {
-    let (Some(fixed), Some(third)) = (image(0, 0x1000, 0x20), image(2, 0x3000, 0x10)) else {
-        panic!(rt; "spans")
-    };
-    let Some(mut registry) = beside(rt.alloc(), &fixed, 2) else {
+    let Some((fixed, mut registry)) = beside(rt.alloc(), 0x20, 2) else {
         panic!(rt; "no memory")
     };
-    assert!(rt; loads_till_full(&mut registry, &fixed, &third));
-    assert!(rt; unloads_one(&mut registry, &third));
+    assert!(rt; loads_till_full(&mut registry, &fixed));
+    assert!(rt; unloads_one(&mut registry));
     assert!(rt; registers_over(&mut registry, &fixed));
 }
