@@ -27,9 +27,12 @@ module _ (row : PlacedRow) (cfa : ℕ) (memory : List RegionData) where
   restored_one i before Rare after rule below is restored fails stays = λ bytes old so_far same. tt
 
   -- more columns behind those that were restored
-  pub goes_on : (from mid to to' : ℕ) (before between : List ℕ) (result : Followed) (after : List ℕ) → to ≡ to' → Restores from mid row cfa memory before Frame between → Restores mid to row cfa memory between result after → Restores from to' row cfa memory before result after
-  goes_on from mid to to' before between result after is half rest =
-      subst (λ n. Restores from n row cfa memory before result after) is (λ bytes old so_far same. let restored = half bytes old so_far same in rest bytes old restored.0 restored.1)
+  pub goes_on : (from mid n m : ℕ) (before between : List ℕ) (result : Followed) (after : List ℕ) → mid ≡ from + n → Restores from (from + n) row cfa memory before Frame between → Restores mid (mid + m) row cfa memory between result after
+      → Restores from (from + (n + m)) row cfa memory before result after
+  goes_on from mid n m before between result after behind some others =
+      let to : mid + m ≡ from + (n + m) = omega arith in
+      let rest = subst (λ k. Restores k (from + (n + m)) row cfa memory between result after) behind (subst (λ k. Restores mid k row cfa memory between result after) to others) in λ bytes old so_far same.
+      let restored = some bytes old so_far same in rest bytes old restored.0 restored.1
 
   -- none of those behind one that wasn't
   pub stops : (from mid to : ℕ) (before : List ℕ) (result : Followed) (after : List ℕ) → result ≢ Frame → Restores from mid row cfa memory before result after → Restores from to row cfa memory before result after

@@ -1,4 +1,4 @@
--- Searching by quarters and halves among starts that ascend.
+-- Searching by quarters, and at the end one by one, among starts that ascend.
 use Rattle.std.proofs.Common.{◌≡◌, ℕ, ◌+◌, ◌-◌, ◌*◌, ◌<◌, ◌≤◌, List, get_or, cond, Bool, true, false, nat_le, refl, sym, subst, arith, inl, inr, add-zero}
 use Rattle.std.proofs.lemmas.Bool.{leb-true, leb-false, cases_lt}
 
@@ -21,28 +21,26 @@ above starts pc from end j k up ge le lt h =
       | inr more ↦ let same : k ≡ j = omega arith in rw same h
     ]
 
-halved : (starts : List ℕ) (pc from end base size half : ℕ) (b : Bool) → IsAscending starts from end → IsLeft starts pc from end base size → 0 < half → half < size → half ≤ size - half → nat_le (get_or starts (base + half) 0) pc ≡ b
-    → IsLeft starts pc from end (base + cond b half 0) (size - half)
-halved starts pc from end base size half true up left some less le e = record {
+last_tried : (starts : List ℕ) (pc from end base size : ℕ) (b : Bool) → IsAscending starts from end → IsLeft starts pc from end base size → 1 < size → nat_le (get_or starts (base + 1) 0) pc ≡ b → IsLeft starts pc from end (base + cond b 1 0) (size - 1)
+last_tried starts pc from end base size true up left more e = record {
   from_on = omega (arith, left.from_on);
   some = omega arith;
   inside = omega (arith, left.inside);
   reached = leb-true _ _ e;
   past = λ k ge lt. left.past k (omega arith) lt;
 }
-halved starts pc from end base size half false up left some less le e =
+last_tried starts pc from end base size false up left more e =
     let inside = left.inside in
     let from_on = left.from_on in record {
       from_on = omega arith;
       some = omega arith;
       inside = omega arith;
       reached = rw (add-zero base) left.reached;
-      past = λ k ge lt. above starts pc from end (base + half) k up (omega arith) (omega arith) lt (leb-false _ _ e);
+      past = λ k ge lt. above starts pc from end (base + 1) k up (omega arith) (omega arith) lt (leb-false _ _ e);
     }
 
-pub half_left : (starts : List ℕ) (pc from end base size half : ℕ) → IsAscending starts from end → IsLeft starts pc from end base size → 0 < half → half < size → half ≤ size - half
-    → IsLeft starts pc from end (base + cond (nat_le (get_or starts (base + half) 0) pc) half 0) (size - half)
-half_left starts pc from end base size half up left some less le = halved starts pc from end base size half (nat_le (get_or starts (base + half) 0) pc) up left some less le refl
+pub last_left : (starts : List ℕ) (pc from end base size : ℕ) → IsAscending starts from end → IsLeft starts pc from end base size → 1 < size → IsLeft starts pc from end (base + cond (nat_le (get_or starts (base + 1) 0) pc) 1 0) (size - 1)
+last_left starts pc from end base size up left more = last_tried starts pc from end base size (nat_le (get_or starts (base + 1) 0) pc) up left more refl
 
 pub all_left : (starts : List ℕ) (pc from end : ℕ) → from < end → get_or starts from 0 ≤ pc → IsLeft starts pc from end from (end - from)
 all_left starts pc from end some reached = record { from_on = omega arith; some = omega arith; inside = omega arith; reached = reached; past = λ k ge lt. absurd (omega arith) }

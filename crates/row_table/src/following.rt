@@ -3,7 +3,7 @@
 //! copied, and a register without a rule isn't touched. A match of more kinds would jump through a
 //! table for each column.
 
-ghost use Rattle.std.specs.Prelude.{◌≡◌, ◌≢◌, ◌<◌, List, ℕ, Ok, Err, slice_index};
+ghost use Rattle.std.specs.Prelude.{◌≡◌, ◌≢◌, ◌<◌, ◌≤◌, List, ℕ, Ok, Err, slice_index};
 ghost use Rattle.std.specs.Prelude.{◌+◌, IfSome, length, slice_index_or};
 ghost use Rattle.frame_expr.specs.Regions.{RegionData};
 ghost use Rattle.frame_parse.specs.Blocks.{block_in};
@@ -17,6 +17,7 @@ ghost use Rattle.row_table.specs.declared.following.Followed.TheVariants.{Frame,
 use crate::lent_row::LentRow;
 use frame_expr::{Regs, WordSource};
 use frame_rows::{PlacedCfaRule, PlacedRow, PlacedRule};
+use std::marker::PhantomData;
 
 /// What came of registers by frequent rules.
 #[derive(Clone, Copy, Debug, PartialEq, Eq)]
@@ -75,111 +76,72 @@ fn rule_of(row: &PlacedRow, column: usize) -> &PlacedRule
     &row.columns[column]
 }
 
-/// Restores the next column.
-#[inline(always)]
-fn restore_one<M: WordSource>(
-    row: &PlacedRow,
-    column: usize,
+/// What columns are restored by: a row, the CFA that it tells, and the memory.
+#[derive(Drop)]
+struct Setting<'r, M> {
+    row: &'r PlacedRow,
     cfa: u64,
-    memory: &M,
-    regs: &mut Regs,
-) -> Followed
-    requires { column < 17 }
-    ensures restores { Restores column (column + 1) row.now cfa (M.regions memory.now)
-        regs.old.columns result regs.new.columns }
-    ensures count { length regs.new.columns ≡ 17 }
-{
-    restore(column, rule_of(row, column), cfa, memory, regs)
+    memory: &'r M,
 }
 
-/// Restores the next two columns.
-#[inline(always)]
-fn restore_two<M: WordSource>(
-    row: &PlacedRow,
-    column: usize,
-    cfa: u64,
-    memory: &M,
-    regs: &mut Regs,
-) -> Followed
-    requires { column + 1 < 17 }
-    ensures restores { Restores column (column + 2) row.now cfa (M.regions memory.now)
-        regs.old.columns result regs.new.columns }
-    ensures count { length regs.new.columns ≡ 17 }
-{
-    match restore_one(row, column, cfa, memory, regs) {
-        Followed::Frame => restore_one(row, column + 1, cfa, memory, regs),
-        other => other,
+/// So many columns one after another. By no loop: so each has branches of its own, and what one of
+/// them does need not be guessed for all.
+trait Columns {
+    // How many they are.
+    ghost count: { ℕ };
+
+    /// Restores them from one on, and goes on behind them.
+    fn restore<M: WordSource>(by: &Setting<'_, M>, at: &mut usize, regs: &mut Regs) -> Followed
+        requires { at.old + count ≤ 17 }
+        ensures restores { Restores at.old (at.old + count) by.now.row.now by.now.cfa
+            (M.regions by.now.memory.now) regs.old.columns result regs.new.columns }
+        ensures behind { result ≡ Frame → at.new ≡ at.old + count }
+        ensures length { length regs.new.columns ≡ 17 };
+}
+
+/// A column.
+struct OneColumn;
+
+impl Columns for OneColumn {
+    ghost count = { 1 };
+
+    #[inline(always)]
+    fn restore<M: WordSource>(by: &Setting<'_, M>, at: &mut usize, regs: &mut Regs) -> Followed {
+        let column = *at;
+        *at = column + 1;
+        restore(column, rule_of(by.row, column), by.cfa, by.memory, regs)
     }
 }
 
-/// Restores the next four columns.
-#[inline(always)]
-fn restore_four<M: WordSource>(
-    row: &PlacedRow,
-    column: usize,
-    cfa: u64,
-    memory: &M,
-    regs: &mut Regs,
-) -> Followed
-    requires { column + 3 < 17 }
-    ensures restores { Restores column (column + 4) row.now cfa (M.regions memory.now)
-        regs.old.columns result regs.new.columns }
-    ensures count { length regs.new.columns ≡ 17 }
-{
-    match restore_two(row, column, cfa, memory, regs) {
-        Followed::Frame => restore_two(row, column + 2, cfa, memory, regs),
-        other => other,
+/// Twice as many columns.
+struct Twice<C> {
+    half: PhantomData<C>,
+}
+
+impl<C: Columns> Columns for Twice<C> {
+    ghost count = { C.count + C.count };
+
+    #[inline(always)]
+    fn restore<M: WordSource>(by: &Setting<'_, M>, at: &mut usize, regs: &mut Regs) -> Followed {
+        match C::restore(by, at, regs) {
+            Followed::Frame => C::restore(by, at, regs),
+            other => other,
+        }
     }
 }
 
-/// Restores the next eight columns.
-#[inline(always)]
-fn restore_eight<M: WordSource>(
-    row: &PlacedRow,
-    column: usize,
-    cfa: u64,
-    memory: &M,
-    regs: &mut Regs,
-) -> Followed
-    requires { column + 7 < 17 }
-    ensures restores { Restores column (column + 8) row.now cfa (M.regions memory.now)
-        regs.old.columns result regs.new.columns }
-    ensures count { length regs.new.columns ≡ 17 }
-{
-    match restore_four(row, column, cfa, memory, regs) {
-        Followed::Frame => restore_four(row, column + 4, cfa, memory, regs),
-        other => other,
-    }
-}
-
-/// Restores sixteen columns. By no loop: so each has branches of its own, and what one of them
-/// does need not be guessed for all.
-#[inline(always)]
-fn restore_sixteen<M: WordSource>(
-    row: &PlacedRow,
-    cfa: u64,
-    memory: &M,
-    regs: &mut Regs,
-) -> Followed
-    ensures restores { Restores 0 16 row.now cfa (M.regions memory.now)
-        regs.old.columns result regs.new.columns }
-    ensures count { length regs.new.columns ≡ 17 }
-{
-    match restore_eight(row, 0, cfa, memory, regs) {
-        Followed::Frame => restore_eight(row, 8, cfa, memory, regs),
-        other => other,
-    }
-}
+type SixteenColumns = Twice<Twice<Twice<Twice<OneColumn>>>>;
 
 /// Restores all columns by frequent rules, from the first one on.
 #[inline(always)]
-fn restore_all<M: WordSource>(row: &PlacedRow, cfa: u64, memory: &M, regs: &mut Regs) -> Followed
-    ensures restores { Restores 0 17 row.now cfa (M.regions memory.now)
+fn restore_all<M: WordSource>(by: &Setting<'_, M>, regs: &mut Regs) -> Followed
+    ensures restores { Restores 0 17 by.now.row.now by.now.cfa (M.regions by.now.memory.now)
         regs.old.columns result regs.new.columns }
-    ensures count { length regs.new.columns ≡ 17 }
+    ensures length { length regs.new.columns ≡ 17 }
 {
-    match restore_sixteen(row, cfa, memory, regs) {
-        Followed::Frame => restore_one(row, 16, cfa, memory, regs),
+    let mut at = 0;
+    match SixteenColumns::restore(by, &mut at, regs) {
+        Followed::Frame => OneColumn::restore(by, &mut at, regs),
         other => other,
     }
 }
@@ -225,7 +187,12 @@ pub(crate) fn follow<M: WordSource>(row: &LentRow<'_>, memory: &M, regs: &mut Re
         return Followed::Rare;
     };
     let kept = *regs;
-    match restore_all(placed, cfa, memory, regs) {
+    let by = Setting {
+        row: placed,
+        cfa,
+        memory,
+    };
+    match restore_all(&by, regs) {
         Followed::Frame => Followed::Frame,
         Followed::NoBytes { address } => {
             *regs = kept;

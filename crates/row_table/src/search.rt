@@ -1,19 +1,10 @@
 //! The row of an address among those of an FDE.
 
-ghost use Rattle.std.specs.Prelude.{◌≡◌, ◌+◌, ◌<◌, ◌≤◌, ◌^◌, ℕ, length, get_or, if◌then◌else◌};
+ghost use Rattle.std.specs.Prelude.{◌≡◌, ◌+◌, ◌<◌, ◌≤◌, ℕ, length, get_or, if◌then◌else◌};
 ghost use Rattle.std.specs.Prelude.{nat_le};
 
-/// All of a number where something holds, else 0, without a branch: the processor would guess wrong
+/// 1 where a start is up to the address, else 0, without a branch: the processor would guess wrong
 /// half of the time.
-#[inline(always)]
-fn where_holds(number: usize, holds: bool) -> usize
-    requires { number < 2 ^ 63 }
-    ensures { result ≡ (if holds then number else 0) }
-{
-    (number << u32::from(holds)) - number
-}
-
-/// 1 where a start is up to the address, else 0.
 #[inline(always)]
 fn begun(start: u64, pc: u64) -> usize
     ensures { result ≡ (if nat_le start pc then 1 else 0) }
@@ -23,7 +14,7 @@ fn begun(start: u64, pc: u64) -> usize
 
 /// The place of the greatest start up to an address, of those that ascend from one place up to
 /// another; the first is up to it. Three quarters of those that it may be are passed by at a time,
-/// by loads of which none waits for another, and at the end a half.
+/// by loads of which none waits for another, and at the end one.
 pub(crate) fn last_start(starts: &[u64], from: usize, end: usize, pc: u64) -> usize
     requires some { from < end }
     requires within { end ≤ length starts.now }
@@ -45,10 +36,9 @@ pub(crate) fn last_start(starts: &[u64], from: usize, end: usize, pc: u64) -> us
         base += (first + second + third) * quarter;
         size -= 3 * quarter;
     }
-    'halves: while size > 1 {
-        let half = size / 2;
-        base += where_holds(half, starts[base + half] <= pc);
-        size -= half;
+    'last: while size > 1 {
+        base += begun(starts[base + 1], pc);
+        size -= 1;
     }
     base
 }

@@ -62,8 +62,8 @@ impl StepSource for SectionRows<'_> {
     ghost refused = { λ _. [] };
 
     #[inline(always)]
-    fn claim_at(&self, _pc: u64) -> Option<RefusedRecord> {
-        None
+    fn claim_at(&self, pc: u64) -> Option<RefusedRecord> {
+        self.section.claim_at(pc)
     }
 
     fn step_at<M: WordSource>(&self, look: u64, regs: &Regs, memory: &M) -> Option<FoundStep> {

@@ -9,7 +9,7 @@ returns-in-Frame g c =
     let cfa = c.in-Some.ensures in
     let memory = g.M.WordSource.regions c.args.memory.now in
     frame_followed lent.0 c.args.row.now c.placed-placed.result.now c.in-Some.cfa c.args.regs.now.columns memory c.restore_all.new.regs.columns lent.1 (cfa.leads lent.0) (cfa.cfa lent.0 memory) (all_restored c.placed-placed.result.now c.in-Some.cfa memory lent.0 c.args.regs.now.columns c.restore_all.new.regs.columns (rw c.in-Frame.is at c.restore_all.ensures.restores))
-    c.restore_all.ensures.count
+    c.restore_all.ensures.length
 
 pub returns-in-NoBytes : goal.returns-in-NoBytes
 returns-in-NoBytes g c =
