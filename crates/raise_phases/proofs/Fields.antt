@@ -1,5 +1,5 @@
 -- The header and a call site are exact, part by part.
-use Rattle.std.proofs.Common.{◌≡◌, ℕ, ◌≤◌, List, [], ◌∷◌, ◌++◌, length, Bool, arith}
+use Rattle.std.proofs.Common.{ℕ, ◌≤◌, List, [], ◌∷◌, length, arith}
 use Rattle.std.specs.Prelude.{◌==◌}
 use Rattle.eh_bytes.specs.declared.fault.ByteFault.{ByteFault}
 use Rattle.eh_bytes.specs.PointerEncodings.{DW_EH_PE_omit}
@@ -10,8 +10,10 @@ use Rattle.eh_bytes.proofs.Exact.{IsExact, then_exact, give_exact, here_exact, w
 use Rattle.eh_bytes.proofs.Fields.{fixed_exact, uleb_exact}
 use Rattle.eh_bytes.proofs.Pointers.{encoded_number_exact, encoded_pointer_exact}
 use Rattle.raise_phases.specs.declared.call_sites.CallSite.{CallSite}
+use Rattle.raise_phases.specs.declared.call_sites.Encoded.{Encoded}
+use Rattle.raise_phases.specs.declared.call_sites.Encoded.TheVariants as encoded
 use Rattle.raise_phases.specs.declared.fault.LsdaFault.TheVariants.{Encoding}
-use Rattle.raise_phases.specs.CallSites.{lsda_fault, lsda_field, accepted_encoding, is_pad_encoding, is_type_encoding, is_site_encoding, pad_start, type_table, types_told, table_header, call_site}
+use Rattle.raise_phases.specs.CallSites.{lsda_fault, lsda_field, accepts, accepted_encoding, pad_start, type_table, types_told, table_header, call_site}
 use Rattle.frame_parse.proofs.OneAnswer.{grows, behind}
 
 field_exact : {A : Type 0} (g : Part ByteFault A) → IsExact g → IsExact (lsda_field g)
@@ -20,17 +22,17 @@ field_exact g e = lift_exact lsda_fault g e
 number_exact : (e : ℕ) → IsExact (lsda_field (encoded_number e))
 number_exact e = field_exact (encoded_number e) (encoded_number_exact e)
 
-accepted_exact : (accepts : ℕ → Bool) → IsExact (accepted_encoding accepts)
+accepted_exact : (field : Encoded) → IsExact (accepted_encoding field)
 unfolding accepted_encoding
-accepted_exact accepts =
+accepted_exact field =
     then_exact _ _ here_exact (λ at.
     then_exact _ _ (field_exact _ (fixed_exact 1)) (λ e.
-    then_exact _ _ (check_exact (accepts e) (Encoding at e)) (λ _. give_exact e)))
+    then_exact _ _ (check_exact (accepts field e) (Encoding at e)) (λ _. give_exact e)))
 
 pad_start_exact : (first address : ℕ) → IsExact (pad_start first address)
 unfolding pad_start
 pad_start_exact first address =
-    then_exact _ _ (accepted_exact is_pad_encoding) (λ e.
+    then_exact _ _ (accepted_exact encoded.Pads) (λ e.
     when_exact (e == DW_EH_PE_omit) _ _ (give_exact first) (field_exact _ (encoded_pointer_exact e address)))
 
 type_table_exact : (e : ℕ) → IsExact (type_table e)
@@ -42,7 +44,7 @@ type_table_exact e =
 types_exact : IsExact types_told
 unfolding types_told
 types_exact =
-    then_exact _ _ (accepted_exact is_type_encoding) (λ e.
+    then_exact _ _ (accepted_exact encoded.Types) (λ e.
     when_exact (e == DW_EH_PE_omit) _ _ (give_exact _) (type_table_exact e))
 
 pub table_header_exact : (first address : ℕ) → IsExact (table_header first address)
@@ -50,7 +52,7 @@ unfolding table_header
 table_header_exact first address =
     then_exact _ _ (pad_start_exact first address) (λ start.
     then_exact _ _ types_exact (λ types.
-    then_exact _ _ (accepted_exact is_site_encoding) (λ e.
+    then_exact _ _ (accepted_exact encoded.Sites) (λ e.
     then_exact _ _ (field_exact _ uleb_exact) (λ n. give_exact _))))
 
 pub call_site_exact : (e : ℕ) → IsExact (call_site e)

@@ -17,6 +17,8 @@ use Rattle.frame_parse.specs.Fields.{is_code_encoding}
 use Rattle.raise_phases.specs.declared.fault.LsdaFault.{LsdaFault}
 use Rattle.raise_phases.specs.declared.fault.LsdaFault.TheVariants.{Short, TooWide, Encoding}
 use Rattle.raise_phases.specs.declared.call_sites.CallSite.{CallSite}
+use Rattle.raise_phases.specs.declared.call_sites.Encoded.{Encoded}
+use Rattle.raise_phases.specs.declared.call_sites.Encoded.TheVariants as encoded
 use Rattle.raise_phases.specs.declared.call_sites.TableHeader.{TableHeader}
 use Rattle.raise_phases.specs.declared.call_sites.TypeTable.{TypeTable}
 
@@ -32,26 +34,22 @@ lsda_field g = lift lsda_fault g
 
 -- ---- encodings
 
--- of where pads count from: those of code, or none
-abbrev pub is_pad_encoding : ℕ → Bool
-is_pad_encoding e = is_code_encoding e || e == DW_EH_PE_omit
-
--- of types: a number of fixed width, with nothing or the field's address added, also of a pointer's
--- address; or none
-abbrev pub is_type_encoding : ℕ → Bool
-is_type_encoding e =
+-- Of where pads count from: those of code, or none. Of types: a number of fixed width, with nothing
+-- or the field's address added, also of a pointer's address; or none. Of the numbers of call sites:
+-- they have no sign, and nothing is added.
+abbrev pub accepts : Encoded → ℕ → Bool
+accepts encoded.Pads e = is_code_encoding e || e == DW_EH_PE_omit
+accepts encoded.Types e =
     is_pointer e && not (e % 16 == DW_EH_PE_uleb128) && not (e % 16 == DW_EH_PE_sleb128)
     || e == DW_EH_PE_omit
+accepts encoded.Sites e = nat_le DW_EH_PE_uleb128 e && nat_le e DW_EH_PE_udata8
 
--- of the numbers of call sites: they have no sign, and nothing is added
-abbrev pub is_site_encoding : ℕ → Bool
-is_site_encoding e = nat_le DW_EH_PE_uleb128 e && nat_le e DW_EH_PE_udata8
-
-unfoldable pub accepted_encoding : (ℕ → Bool) → Part LsdaFault ℕ
-accepted_encoding accepts = do
+-- one that is accepted
+unfoldable pub accepted_encoding : Encoded → Part LsdaFault ℕ
+accepted_encoding field = do
   at ← here
   e ← lsda_field (fixed 1)
-  _ ← check (accepts e) (Encoding at e)
+  _ ← check (accepts field e) (Encoding at e)
   give e
 
 -- ---- the header, of a table at an address for a function that starts at `first`
@@ -59,7 +57,7 @@ accepted_encoding accepts = do
 -- what pads count from: the function's first address, or that which a pointer tells
 unfoldable pub pad_start : ℕ → ℕ → Part LsdaFault ℕ
 pad_start first address = do
-  e ← accepted_encoding is_pad_encoding
+  e ← accepted_encoding encoded.Pads
   when (e == DW_EH_PE_omit) (give first) (lsda_field (encoded_pointer e address))
 
 -- where the types end: so far behind the distance
@@ -71,14 +69,14 @@ type_table e = do
 
 unfoldable pub types_told : Part LsdaFault (Option TypeTable)
 types_told = do
-  e ← accepted_encoding is_type_encoding
+  e ← accepted_encoding encoded.Types
   when (e == DW_EH_PE_omit) (give None) (type_table e)
 
 unfoldable pub table_header : ℕ → ℕ → Part LsdaFault TableHeader
 table_header first address = do
   start ← pad_start first address
   types ← types_told
-  e ← accepted_encoding is_site_encoding
+  e ← accepted_encoding encoded.Sites
   n ← lsda_field uleb
   give (record { pad_start = start; types = types; encoding = e; length = n })
 

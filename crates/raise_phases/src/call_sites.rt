@@ -5,9 +5,8 @@ ghost use Rattle.eh_bytes.specs.CursorData.{Gives};
 ghost use Rattle.eh_bytes.specs.Fields.{fixed, uleb, sleb};
 ghost use Rattle.eh_bytes.specs.Pointer.{encoded_number, encoded_pointer};
 ghost use Rattle.eh_bytes.specs.Results.{with_fault};
-ghost use Rattle.raise_phases.specs.CallSites.{lsda_fault, lsda_field, accepted_encoding};
-ghost use Rattle.raise_phases.specs.CallSites.{is_pad_encoding, is_type_encoding};
-ghost use Rattle.raise_phases.specs.CallSites.{is_site_encoding, pad_start, type_table};
+ghost use Rattle.raise_phases.specs.CallSites.{lsda_fault, lsda_field, accepts};
+ghost use Rattle.raise_phases.specs.CallSites.{accepted_encoding, pad_start, type_table};
 ghost use Rattle.raise_phases.specs.CallSites.{types_told, table_header, call_site, site_covers};
 ghost use Rattle.raise_phases.specs.CallSites.{covering_read, sized_sites};
 
@@ -111,36 +110,52 @@ fn byte(cursor: &mut Cursor) -> Result<u8, LsdaFault>
     lsda_field(cursor.u8())
 }
 
-fn is_pad_encoding(encoding: u8) -> bool
-    ensures { result ≡ is_pad_encoding encoding }
-{
-    is_pointer(encoding) && encoding < DW_EH_PE_indirect || encoding == DW_EH_PE_omit
+/// What a byte of an encoding is of.
+#[derive(Clone, Copy)]
+pub(crate) enum Encoded {
+    /// Where pads count from.
+    Pads,
+    Types,
+    /// The numbers of call sites.
+    Sites,
 }
 
-fn is_type_encoding(encoding: u8) -> bool
-    ensures { result ≡ is_type_encoding encoding }
+fn accepts(encoded: Encoded, encoding: u8) -> bool
+    ensures { result ≡ accepts encoded encoding }
 {
     let format = encoding % 16;
-    is_pointer(encoding) && format != DW_EH_PE_uleb128 && format != DW_EH_PE_sleb128
-        || encoding == DW_EH_PE_omit
+    match encoded {
+        Encoded::Pads => {
+            is_pointer(encoding) && encoding < DW_EH_PE_indirect || encoding == DW_EH_PE_omit
+        }
+        Encoded::Types => {
+            is_pointer(encoding) && format != DW_EH_PE_uleb128 && format != DW_EH_PE_sleb128
+                || encoding == DW_EH_PE_omit
+        }
+        Encoded::Sites => DW_EH_PE_uleb128 <= encoding && encoding <= DW_EH_PE_udata8,
+    }
 }
 
-fn is_site_encoding(encoding: u8) -> bool
-    ensures { result ≡ is_site_encoding encoding }
-{
-    DW_EH_PE_uleb128 <= encoding && encoding <= DW_EH_PE_udata8
-}
-
-/// What pads count from.
-#[tactic(auto, unfolding(crate::specs::CallSites::pad_start, crate::specs::CallSites::accepted_encoding))]
-fn pad_start(cursor: &mut Cursor, first: u64, address: u64) -> Result<u64, LsdaFault>
-    ensures { Gives (λ x. x) (pad_start first address).read cursor.old result cursor.new }
+/// An encoding that is accepted.
+#[tactic(auto, unfolding(crate::specs::CallSites::accepted_encoding))]
+fn accepted_encoding(cursor: &mut Cursor, encoded: Encoded) -> Result<u8, LsdaFault>
+    ensures { Gives (λ x. x) (accepted_encoding encoded).read cursor.old result cursor.new }
 {
     let at = cursor.at();
     let encoding = byte(cursor)?;
-    if !is_pad_encoding(encoding) {
-        return Err(LsdaFault::Encoding { at, byte: encoding });
+    if accepts(encoded, encoding) {
+        Ok(encoding)
+    } else {
+        Err(LsdaFault::Encoding { at, byte: encoding })
     }
+}
+
+/// What pads count from.
+#[tactic(auto, unfolding(crate::specs::CallSites::pad_start))]
+fn pad_start(cursor: &mut Cursor, first: u64, address: u64) -> Result<u64, LsdaFault>
+    ensures { Gives (λ x. x) (pad_start first address).read cursor.old result cursor.new }
+{
+    let encoding = accepted_encoding(cursor, Encoded::Pads)?;
     if encoding == DW_EH_PE_omit {
         Ok(first)
     } else {
@@ -158,34 +173,15 @@ fn type_table(cursor: &mut Cursor, encoding: u8) -> Result<Option<TypeTable>, Ls
     Ok(Some(TypeTable { encoding, end }))
 }
 
-#[tactic(auto, unfolding(crate::specs::CallSites::types_told, crate::specs::CallSites::accepted_encoding))]
+#[tactic(auto, unfolding(crate::specs::CallSites::types_told))]
 fn types(cursor: &mut Cursor) -> Result<Option<TypeTable>, LsdaFault>
     ensures { Gives (λ x. x) types_told.read cursor.old result cursor.new }
 {
-    let at = cursor.at();
-    let encoding = byte(cursor)?;
-    if !is_type_encoding(encoding) {
-        return Err(LsdaFault::Encoding { at, byte: encoding });
-    }
+    let encoding = accepted_encoding(cursor, Encoded::Types)?;
     if encoding == DW_EH_PE_omit {
         Ok(None)
     } else {
         type_table(cursor, encoding)
-    }
-}
-
-/// The encoding of the call sites' numbers.
-#[tactic(auto, unfolding(crate::specs::CallSites::accepted_encoding))]
-fn site_encoding(cursor: &mut Cursor) -> Result<u8, LsdaFault>
-    ensures { Gives (λ x. x) (accepted_encoding is_site_encoding).read
-        cursor.old result cursor.new }
-{
-    let at = cursor.at();
-    let encoding = byte(cursor)?;
-    if is_site_encoding(encoding) {
-        Ok(encoding)
-    } else {
-        Err(LsdaFault::Encoding { at, byte: encoding })
     }
 }
 
@@ -200,7 +196,7 @@ pub(crate) fn table_header(
 {
     let pad_start = pad_start(cursor, first, address)?;
     let types = types(cursor)?;
-    let encoding = site_encoding(cursor)?;
+    let encoding = accepted_encoding(cursor, Encoded::Sites)?;
     let length = uleb(cursor)?;
     Ok(TableHeader {
         pad_start,
