@@ -3,7 +3,9 @@
 use crate::playing::words_of;
 use run_engine::{MemorySink, MemorySource, NoGate, Status, run};
 use std::alloc::Global;
+use std::sync::Wait;
 use std::test::Fail;
+use std::thread::Threads;
 
 /// The case program_library_and_generated_code of the built program, and its journal.
 const SCRIPT: &str = "\
@@ -62,14 +64,25 @@ const READS: [u32; 3] = [1, 429, 859];
 
 const WRITES: [u32; 3] = [1, 298, 597];
 
+/// A run of the script where these reads and writes fail.
+fn played(
+    rt: &(impl Threads + Wait + Sync),
+    alloc: Global,
+    reads: Vec<u32>,
+    writes: Vec<u32>,
+) -> Result<(Status, MemorySink), Fail> {
+    let words = words_of(alloc, "run")?;
+    let bytes = SCRIPT.as_bytes().to_vec(alloc)?;
+    let mut source = MemorySource::in_pieces(bytes, reads, 1);
+    let mut sink = MemorySink::in_pieces(alloc, writes, 1);
+    let status = run(rt, alloc, &words, &mut source, &mut sink, &NoGate);
+    Ok((status, sink))
+}
+
 #[test]
 fn a_byte_at_a_call_is_as_good_as_all(rt: HostRuntime) -> Result<(), Fail> {
     let alloc = rt.alloc();
-    let words = words_of(alloc, "run")?;
-    let bytes = SCRIPT.as_bytes().to_vec(alloc)?;
-    let mut source = MemorySource::in_pieces(bytes, Vec::new(alloc), 1);
-    let mut sink = MemorySink::in_pieces(alloc, Vec::new(alloc), 1);
-    let status = run(&rt, alloc, &words, &mut source, &mut sink, &NoGate);
+    let (status, sink) = played(&rt, alloc, Vec::new(alloc), Vec::new(alloc))?;
     assert!(rt; status == Status::Done, "{status:?}");
     assert!(rt; sink.bytes() == JOURNAL.as_bytes(), "another journal");
     Ok(())
@@ -78,12 +91,8 @@ fn a_byte_at_a_call_is_as_good_as_all(rt: HostRuntime) -> Result<(), Fail> {
 #[test]
 fn a_failed_read_of_a_byte_writes_nothing(rt: HostRuntime) -> Result<(), Fail> {
     let alloc = rt.alloc();
-    let words = words_of(alloc, "run")?;
     for read in READS {
-        let bytes = SCRIPT.as_bytes().to_vec(alloc)?;
-        let mut source = MemorySource::in_pieces(bytes, vec![in alloc; read]?, 1);
-        let mut sink = MemorySink::in_pieces(alloc, Vec::new(alloc), 1);
-        let status = run(&rt, alloc, &words, &mut source, &mut sink, &NoGate);
+        let (status, sink) = played(&rt, alloc, vec![in alloc; read]?, Vec::new(alloc))?;
         assert!(rt; status == Status::ReadFault, "with read {read} failing");
         assert!(rt; sink.bytes().is_empty(), "with read {read} failing");
     }
@@ -93,12 +102,8 @@ fn a_failed_read_of_a_byte_writes_nothing(rt: HostRuntime) -> Result<(), Fail> {
 #[test]
 fn a_failed_write_of_a_byte_leaves_those_before(rt: HostRuntime) -> Result<(), Fail> {
     let alloc = rt.alloc();
-    let words = words_of(alloc, "run")?;
     for write in WRITES {
-        let bytes = SCRIPT.as_bytes().to_vec(alloc)?;
-        let mut source = MemorySource::in_pieces(bytes, Vec::new(alloc), 1);
-        let mut sink = MemorySink::in_pieces(alloc, vec![in alloc; write]?, 1);
-        let status = run(&rt, alloc, &words, &mut source, &mut sink, &NoGate);
+        let (status, sink) = played(&rt, alloc, Vec::new(alloc), vec![in alloc; write]?)?;
         assert!(rt; status == Status::WriteFault, "with write {write} failing");
         let taken = sink.bytes();
         assert!(rt;

@@ -5,8 +5,8 @@
 ghost use Rattle.std.specs.Prelude.{◌<◌, ◌≤◌};
 
 use crate::history::history_of;
-use crate::judged::{judged, most_frames};
-use crate::side_by_side::{ALONE, SECTION, SNAPSHOT, STACK_FRAMES};
+use crate::judged::judged;
+use crate::side_by_side::{ALONE, SECTION, SNAPSHOT};
 use crate::tree_changes::{Kind, kinds_of};
 use std::alloc::Global;
 use std::fmt::Write;
@@ -106,10 +106,8 @@ fn script_of(alloc: Global) -> Result<String, Fail> {
 #[test]
 fn sixteen_threads_register_for_64_rounds(rt: HostRuntime) -> Result<(), Fail> {
     let alloc = rt.alloc();
-    let text = script_of(alloc)?;
-    let (script, journal) = judged(&rt, alloc, text.as_str())?;
+    let (script, journal) = judged(&rt, alloc, script_of(alloc)?)?;
     assert_eq!(rt; journal.rounds.len(), 64);
-    assert_eq!(rt; most_frames(&journal), STACK_FRAMES);
     let history = history_of(alloc, &script, &journal)?;
     let kinds = kinds_of(&rt, alloc, &history)?;
     for kind in [

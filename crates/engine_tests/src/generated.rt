@@ -2,12 +2,10 @@
 
 use crate::held_back::HeldBack;
 use crate::playing::run_text;
-use event_script::{Answer, print_script};
-use reg_model::{Found, Inserted, Loading, Place, Removed, Replaced};
-use run_engine::{Gate, Status};
+use event_script::print_script;
+use run_engine::Status;
 use script_generator::generate;
-use std::sync::Wait;
-use std::sync::atomic::{AtomicU64, Ordering};
+use std::sync::atomic::Ordering;
 use std::test::Fail;
 
 /// The script for two images a thread, as another program wrote it by `docs/FORMATS.md`. Here stand
@@ -58,119 +56,24 @@ fn two_images_a_thread(rt: HostRuntime) -> Result<(), Fail> {
     Ok(())
 }
 
-/// Counts what passes, and holds event 1 of thread 1 back until event 1 of thread 2 was answered.
-#[derive(Drop)]
-struct Counting {
-    held_back: HeldBack,
-    passes: AtomicU64,
-    /// Of each number of an update, how often it was answered: a decimal digit for each, the first
-    /// one's to the right.
-    numbers: AtomicU64,
-    hits: AtomicU64,
-    misses: AtomicU64,
-    /// The backtraces, and those of three frames.
-    traces: AtomicU64,
-    traces_of_three: AtomicU64,
-}
-
-impl Counting {
-    fn new() -> Self {
-        Counting {
-            held_back: HeldBack::new(),
-            passes: AtomicU64::new(0),
-            numbers: AtomicU64::new(0),
-            hits: AtomicU64::new(0),
-            misses: AtomicU64::new(0),
-            traces: AtomicU64::new(0),
-            traces_of_three: AtomicU64::new(0),
-        }
-    }
-
-    fn see_number(&self, number: u32) {
-        let mut digit: u64 = 1;
-        for _ in 1..number.min(20) {
-            digit = digit.wrapping_mul(10);
-        }
-        self.numbers.fetch_add(digit, Ordering::SeqCst);
-    }
-
-    fn see_place(&self, place: &Place) {
-        let found = match (place.registered, place.loaded) {
-            (Found::Hit { .. }, _) => &self.hits,
-            (_, Some(Found::Hit { .. })) => &self.hits,
-            _ => &self.misses,
-        };
-        found.fetch_add(1, Ordering::SeqCst);
-    }
-
-    fn see(&self, answer: &Answer) {
-        match answer {
-            Answer::Register {
-                answer: Inserted::Done { number },
-                ..
-            } => self.see_number(*number),
-            Answer::Replace {
-                answer: Replaced::Done { number, .. },
-                ..
-            } => self.see_number(*number),
-            Answer::Load {
-                answer: Loading::Done { number },
-                ..
-            } => self.see_number(*number),
-            Answer::Deregister {
-                answer: Removed::Done { number, .. },
-                ..
-            }
-            | Answer::Unload {
-                answer: Removed::Done { number, .. },
-                ..
-            } => self.see_number(*number),
-            Answer::Find { place, .. } => self.see_place(place),
-            Answer::Unwind { trace, .. } => {
-                self.traces.fetch_add(1, Ordering::SeqCst);
-                if trace.frames.len() == 3 {
-                    self.traces_of_three.fetch_add(1, Ordering::SeqCst);
-                }
-            }
-            _ => {}
-        }
-    }
-}
-
-impl Gate for Counting {
-    fn pass<R: Wait>(
-        &self,
-        _rt: &R,
-        _round: u32,
-        thread: u32,
-        event: u32,
-        answer: Option<&Answer>,
-    ) {
-        self.passes.fetch_add(1, Ordering::SeqCst);
-        if let Some(answer) = answer {
-            self.see(answer);
-        }
-        self.held_back.pass_event(thread, event, answer.is_some());
-    }
-}
-
 const SUMMARY_OF_ONE: &str = "threads 4\nevents 24\nupdates 8\nhits 4\nmisses 8\nframes 12\n";
 
 #[test]
 fn the_generated_script_is_run(rt: HostRuntime) -> Result<(), Fail> {
     let alloc = rt.alloc();
-    let gate = Counting::new();
+    let gate = HeldBack::new();
     let (status, sink) = run_text(&rt, alloc, "gen 1", "", &gate)?;
     assert!(rt; status == Status::Done);
     assert!(rt; sink.bytes() == SUMMARY_OF_ONE.as_bytes());
-    assert!(rt; !gate.held_back.gave_up());
+    assert!(rt; !gate.gave_up());
+    let counts = &gate.counts;
     for (seen, wanted) in [
-        (&gate.passes, 48),
-        (&gate.numbers, 11_111_111),
-        (&gate.hits, 4),
-        (&gate.misses, 8),
-        (&gate.traces, 4),
-        (&gate.traces_of_three, 4),
+        (&counts.passes, 48),
+        (&counts.numbers, 11_111_111),
+        (&counts.hits, 4),
+        (&counts.misses, 8),
+        (&counts.traces, 4),
+        (&counts.traces_of_three, 4),
     ] {
         assert_eq!(rt; seen.load(Ordering::SeqCst), wanted);
     }

@@ -1,5 +1,6 @@
 //! Threads that run side by side: a gate holds one back until another was answered.
 
+use crate::counts::Counts;
 use crate::playing::run_text;
 use event_script::Answer;
 use run_engine::{Gate, Status};
@@ -11,9 +12,10 @@ use std::thread::yield_now;
 /// For how many turns a thread is held back at the most.
 const TURNS: u64 = 1_000_000_000;
 
-/// Holds event 1 of thread 1 back until event 1 of thread 2 was answered.
+/// Holds event 1 of thread 1 back until event 1 of thread 2 was answered, and counts what passes.
 #[derive(Drop)]
 pub struct HeldBack {
+    pub counts: Counts,
     answered: AtomicU64,
     used_up: AtomicU64,
 }
@@ -21,6 +23,7 @@ pub struct HeldBack {
 impl HeldBack {
     pub fn new() -> Self {
         HeldBack {
+            counts: Counts::new(),
             answered: AtomicU64::new(0),
             used_up: AtomicU64::new(0),
         }
@@ -43,14 +46,6 @@ impl HeldBack {
         }
         self.used_up.store(1, Ordering::SeqCst);
     }
-
-    pub fn pass_event(&self, thread: u32, event: u32, is_answered: bool) {
-        match (thread, event, is_answered) {
-            (1, 1, false) => self.wait(),
-            (2, 1, true) => self.answered.store(1, Ordering::SeqCst),
-            _ => {}
-        }
-    }
 }
 
 impl Gate for HeldBack {
@@ -62,7 +57,12 @@ impl Gate for HeldBack {
         event: u32,
         answer: Option<&Answer>,
     ) {
-        self.pass_event(thread, event, answer.is_some())
+        self.counts.see(answer);
+        match (thread, event, answer.is_some()) {
+            (1, 1, false) => self.wait(),
+            (2, 1, true) => self.answered.store(1, Ordering::SeqCst),
+            _ => {}
+        }
     }
 }
 

@@ -14,38 +14,48 @@ fn member_of(script: &Script, image: u32) -> Option<Member> {
     })
 }
 
-/// The update that an answer says was accepted, and its number.
-fn update_of(script: &Script, answer: &Answer) -> Option<(u32, Update)> {
+/// The update that is answered.
+fn update_of(script: &Script, answer: &Answer) -> Option<Update> {
+    let update = match answer {
+        Answer::Register { image, .. } => Update::Register {
+            member: member_of(script, *image)?,
+        },
+        Answer::Deregister { base, .. } => Update::Deregister { base: *base },
+        Answer::Replace { image, .. } => Update::Replace {
+            member: member_of(script, *image)?,
+        },
+        Answer::Load { image, .. } => Update::Load {
+            member: member_of(script, *image)?,
+        },
+        Answer::Unload { base, .. } => Update::Unload { base: *base },
+        _ => return None,
+    };
+    Some(update)
+}
+
+/// Its number, where it was accepted.
+pub fn number_of(answer: &Answer) -> Option<u32> {
     match answer {
         Answer::Register {
-            image,
             answer: Inserted::Done { number },
-        } => {
-            let member = member_of(script, *image)?;
-            Some((*number, Update::Register { member }))
-        }
-        Answer::Deregister {
-            base,
-            answer: Removed::Done { number, .. },
-        } => Some((*number, Update::Deregister { base: *base })),
+            ..
+        } => Some(*number),
         Answer::Replace {
-            image,
             answer: Replaced::Done { number, .. },
-        } => {
-            let member = member_of(script, *image)?;
-            Some((*number, Update::Replace { member }))
-        }
+            ..
+        } => Some(*number),
         Answer::Load {
-            image,
             answer: Loading::Done { number },
-        } => {
-            let member = member_of(script, *image)?;
-            Some((*number, Update::Load { member }))
-        }
-        Answer::Unload {
-            base,
+            ..
+        } => Some(*number),
+        Answer::Deregister {
             answer: Removed::Done { number, .. },
-        } => Some((*number, Update::Unload { base: *base })),
+            ..
+        }
+        | Answer::Unload {
+            answer: Removed::Done { number, .. },
+            ..
+        } => Some(*number),
         _ => None,
     }
 }
@@ -59,7 +69,8 @@ pub fn history_of(alloc: Global, script: &Script, journal: &Journal) -> Result<V
     for round in &journal.rounds {
         for thread in round {
             for answer in thread {
-                if let Some((number, update)) = update_of(script, answer) {
+                if let Some(number) = number_of(answer) {
+                    let update = update_of(script, answer).ok_or("no such image")?;
                     put_update(&mut places, number, update)?;
                 }
             }

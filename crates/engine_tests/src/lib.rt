@@ -11,6 +11,8 @@ mod byte_by_byte;
 #[cfg(test)]
 mod churn;
 #[cfg(test)]
+mod counts;
+#[cfg(test)]
 mod failing_devices;
 #[cfg(test)]
 mod gates;

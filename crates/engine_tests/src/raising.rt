@@ -4,8 +4,10 @@ ghost use Rattle.reg_model.specs.Receipt.{IsPlace};
 ghost use Rattle.unwind_step.specs.Backtrace.{IsBelow};
 
 use event_script::read;
-use raise_phases::{RaiseEnd, raise};
+use raise_phases::{RaiseEnd, Raised, raise};
 use reg_model::{Found, Member, Place, Span};
+use std::alloc::Global;
+use std::process::Abort;
 use std::sync::Wait;
 use std::test::Fail;
 use unwind_step::Finder;
@@ -81,23 +83,22 @@ fn image_at(pc: u64) -> Place
     }
 }
 
-#[test]
-fn a_handler_is_found_and_its_frames_are_asked_for_again(rt: HostRuntime) -> Result<(), Fail> {
-    let alloc = rt.alloc();
+/// What becomes of a raise over the stack where so many queries find an image, and how many of them
+/// are left then.
+fn raised_after(rt: &(impl Abort + Wait), alloc: Global, left: u32) -> Result<(Raised, u32), Fail> {
     let script = read(alloc, CAUGHT.as_bytes())?;
     let sections = script.sections.as_slice();
     assert!(rt; sections.len() >= 3);
     let snapshot = script.snapshots.first().ok_or("a snapshot")?;
-    let mut finder = Forgetful { left: 4 };
-    let raised = raise(
-        &rt,
-        alloc,
-        &mut finder,
-        sections,
-        &snapshot.regs,
-        &snapshot.memory,
-        0x1234,
-    )?;
+    let (regs, memory) = (&snapshot.regs, &snapshot.memory);
+    let mut finder = Forgetful { left };
+    let raised = raise(rt, alloc, &mut finder, sections, regs, memory, 0x1234)?;
+    Ok((raised, finder.left))
+}
+
+#[test]
+fn a_handler_is_found_and_its_frames_are_asked_for_again(rt: HostRuntime) -> Result<(), Fail> {
+    let (raised, left) = raised_after(&rt, rt.alloc(), 4)?;
     let end = RaiseEnd::Caught {
         frame: 1,
         pad: 0x8030,
@@ -105,27 +106,13 @@ fn a_handler_is_found_and_its_frames_are_asked_for_again(rt: HostRuntime) -> Res
     };
     assert!(rt; raised.end == end);
     assert_eq!(rt; (raised.search.len(), raised.cleanup.len()), (2, 2));
-    assert_eq!(rt; finder.left, 0);
+    assert_eq!(rt; left, 0);
     Ok(())
 }
 
 #[test]
 fn a_raise_ends_where_the_second_answer_is_another(rt: HostRuntime) -> Result<(), Fail> {
-    let alloc = rt.alloc();
-    let script = read(alloc, CAUGHT.as_bytes())?;
-    let sections = script.sections.as_slice();
-    assert!(rt; sections.len() >= 3);
-    let snapshot = script.snapshots.first().ok_or("a snapshot")?;
-    let mut finder = Forgetful { left: 2 };
-    let raised = raise(
-        &rt,
-        alloc,
-        &mut finder,
-        sections,
-        &snapshot.regs,
-        &snapshot.memory,
-        0x1234,
-    )?;
+    let (raised, _) = raised_after(&rt, rt.alloc(), 2)?;
     let end = RaiseEnd::Changed {
         frame: 0,
         first: image_at(0x50008),

@@ -1,10 +1,16 @@
 //! One thread replaces what two others look up and unwind through. Their journal is judged, so each
 //! answer is right at its stamp.
 
-use crate::judged::{judged, most_frames};
-use crate::side_by_side::{SECTION, SNAPSHOT, STACK_FRAMES};
+use crate::judged::judged;
+use crate::side_by_side::{SECTION, SNAPSHOT};
 use std::alloc::Global;
 use std::test::Fail;
+
+const SIZES: &str = "\
+frames 2
+nodes 16
+loads 1
+";
 
 /// Two more images: one with the first one's span and no section, one with a shorter span.
 const OTHERS: &str = "\
@@ -28,11 +34,9 @@ const PAIRS: u32 = 32;
 
 fn script_of(alloc: Global) -> Result<String, Fail> {
     let mut text = String::new(alloc);
-    text.push_str("frames 2\nnodes 16\nloads 1\n")?;
-    text.push_str(SECTION)?;
-    text.push_str(OTHERS)?;
-    text.push_str(SNAPSHOT)?;
-    text.push_str(ALONE)?;
+    for part in [SIZES, SECTION, OTHERS, SNAPSHOT, ALONE] {
+        text.push_str(part)?;
+    }
     for _ in 0..ROUNDS {
         text.push_str("round\nthread\n")?;
         for _ in 0..PAIRS {
@@ -58,9 +62,7 @@ fn put_reader(text: &mut String) -> Result<(), Fail> {
 #[test]
 fn two_threads_look_up_what_one_replaces(rt: HostRuntime) -> Result<(), Fail> {
     let alloc = rt.alloc();
-    let text = script_of(alloc)?;
-    let (_, journal) = judged(&rt, alloc, text.as_str())?;
+    let (_, journal) = judged(&rt, alloc, script_of(alloc)?)?;
     assert_eq!(rt; journal.updates, 1 + 2 * ROUNDS * PAIRS);
-    assert_eq!(rt; most_frames(&journal), STACK_FRAMES);
     Ok(())
 }
