@@ -1,9 +1,9 @@
 //! Sections, their FDEs and the instructions of these.
 
-use crate::rules::instruction;
+use crate::rules::{Tells, instruction};
 use crate::tables::Tables;
-use crate::words::{Refusal, Words};
-use frame_parse::{Fde, FrameFault, PlacedProgram, Program, Section};
+use crate::words::{Refusal, Wanted, Words, refuse};
+use frame_parse::{Fde, FrameFault, InstructionWith, PlacedProgram, Program, Section};
 
 /// `section NAME ADDRESS BYTES`: whether it is accepted, and how many FDEs it has.
 pub fn section(tables: &mut Tables, words: &Words<'_>, text: &mut String) -> Result<(), Refusal> {
@@ -83,63 +83,43 @@ pub fn fde(tables: &Tables, words: &Words<'_>, text: &mut String) -> Result<(), 
     }
 }
 
-/// `initial SECTION PC`: the initial instructions for the FDE of an address.
-pub fn initial(tables: &Tables, words: &Words<'_>, text: &mut String) -> Result<(), Refusal> {
-    match fde_of(tables, words)? {
-        Some(fde) => steps(fde.initial(), fde.bytes().len(), text),
-        None => Ok(text.push_str("none")?),
+/// `initial SECTION PC`: the initial instructions for the FDE of an address; `program SECTION PC`:
+/// its own. `placed-initial` and `placed-program`: with the places of expressions.
+pub fn instructions(tables: &Tables, words: &Words<'_>, text: &mut String) -> Result<(), Refusal> {
+    let Some(fde) = fde_of(tables, words)? else {
+        return Ok(text.push_str("none")?);
+    };
+    let most = fde.bytes().len();
+    match words.get(0) {
+        "initial" => steps(fde.initial(), most, text),
+        "program" => steps(fde.program(), most, text),
+        "placed-initial" => placed_steps(fde.placed_initial(), most, text),
+        "placed-program" => placed_steps(fde.placed_program(), most, text),
+        _ => Err(refuse(0, Wanted::Question)),
     }
 }
 
-/// `program SECTION PC`: the FDE's own.
-pub fn program(tables: &Tables, words: &Words<'_>, text: &mut String) -> Result<(), Refusal> {
-    match fde_of(tables, words)? {
-        Some(fde) => steps(fde.program(), fde.bytes().len(), text),
-        None => Ok(text.push_str("none")?),
-    }
-}
-
-/// `placed-initial SECTION PC`: with the places of expressions.
-pub fn placed_initial(
-    tables: &Tables,
-    words: &Words<'_>,
+/// Writes what stands between one step and the next, and a step.
+fn step<C: Tells, E: Tells>(
+    index: usize,
+    location: u64,
+    told: &InstructionWith<C, E>,
     text: &mut String,
 ) -> Result<(), Refusal> {
-    match fde_of(tables, words)? {
-        Some(fde) => placed_steps(fde.placed_initial(), fde.bytes().len(), text),
-        None => Ok(text.push_str("none")?),
-    }
-}
-
-/// `placed-program SECTION PC`
-pub fn placed_program(
-    tables: &Tables,
-    words: &Words<'_>,
-    text: &mut String,
-) -> Result<(), Refusal> {
-    match fde_of(tables, words)? {
-        Some(fde) => placed_steps(fde.placed_program(), fde.bytes().len(), text),
-        None => Ok(text.push_str("none")?),
-    }
-}
-
-/// Writes what stands between one step and the next, and a step's location.
-fn location(index: usize, location: u64, text: &mut String) -> Result<(), Refusal> {
     if index > 0 {
         text.push_str(", ")?;
     }
     write!(text, "{location:x}: ")?;
-    Ok(())
+    instruction(told, text)
 }
 
 /// Writes the steps of a program, of which a byte begins one at most.
 fn steps(mut program: Program<'_>, most: usize, text: &mut String) -> Result<(), Refusal> {
     for index in 0..most {
-        let Some(step) = program.next() else {
+        let Some(next) = program.next() else {
             return Ok(());
         };
-        location(index, step.location, text)?;
-        instruction(&step.instruction, text)?;
+        step(index, next.location, &next.instruction, text)?;
     }
     Ok(())
 }
@@ -150,11 +130,10 @@ fn placed_steps(
     text: &mut String,
 ) -> Result<(), Refusal> {
     for index in 0..most {
-        let Some(step) = program.next() else {
+        let Some(next) = program.next() else {
             return Ok(());
         };
-        location(index, step.location, text)?;
-        instruction(&step.instruction, text)?;
+        step(index, next.location, &next.instruction, text)?;
     }
     Ok(())
 }

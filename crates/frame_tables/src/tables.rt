@@ -88,10 +88,9 @@ impl Tables {
             "fdes" => sections::fdes(self, words, text),
             "fde" => sections::fde(self, words, text),
             "sound" => sound::sound(self, words, text),
-            "initial" => sections::initial(self, words, text),
-            "program" => sections::program(self, words, text),
-            "placed-initial" => sections::placed_initial(self, words, text),
-            "placed-program" => sections::placed_program(self, words, text),
+            "initial" | "program" | "placed-initial" | "placed-program" => {
+                sections::instructions(self, words, text)
+            }
             "row" => rows::row(self, words, text),
             "row-by-table" => rows::row_by_table(self, words, text),
             "row-by-number" => rows::row_by_number(self, words, text),
