@@ -1,3 +1,4 @@
 pub mod Ports
+pub mod Takers
 pub mod Devices
 pub mod Endings

@@ -20,7 +20,7 @@ pub use buffered::BufferedSink;
 pub use concluding::{conclude, conclude_made};
 pub use memory::{MemorySink, MemorySource, SureSink, SureSource};
 pub use ports::{Failed, Sink, SinkFault, Source};
-pub use reading::{SCRIPT_LIMIT, TakeFault, take_up_to};
+pub use reading::{SCRIPT_LIMIT, TakeFault, Taken, Taker, hand_up_to, take_up_to};
 pub use standard::{StandardInput, StandardOutput};
 pub use starting::start;
 pub use status::{Ending, ProgramStatus};
