@@ -32,7 +32,7 @@ use Rattle.event_script.proofs.FirstBad.{reads_good, reads_lines}
 -- ---- the first lines of a text
 
 -- no piece has a separator
-pieces_without : (separator : ℕ) (bytes : List ℕ) → AllByRecursion (Without separator) (pieces separator bytes)
+pub pieces_without : (separator : ℕ) (bytes : List ℕ) → AllByRecursion (Without separator) (pieces separator bytes)
 pieces_without separator [] = (tt, tt)
 pieces_without separator (b ∷ bytes) = by (eqb b separator) refl (some_pieces separator bytes) (pieces_without separator bytes)
   where
@@ -44,12 +44,12 @@ pieces_without separator (b ∷ bytes) = by (eqb b separator) refl (some_pieces 
     by true e p rest = (tt, rest)
     by false e p rest = subst (λ (x : List (List ℕ)). AllByRecursion (Without separator) (with_first b x)) (sym p.2) (first_more p.0 p.1 e (subst (AllByRecursion (Without separator)) p.2 rest))
 
-front_without : (front : List (List ℕ)) (line : List ℕ) (others : List (List ℕ)) → AllByRecursion (Without 10) (front ++ line ∷ others) → AllByRecursion (Without 10) front × Without 10 line
+pub front_without : (front : List (List ℕ)) (line : List ℕ) (others : List (List ℕ)) → AllByRecursion (Without 10) (front ++ line ∷ others) → AllByRecursion (Without 10) front × Without 10 line
 front_without [] line others all = (tt, all.0)
 front_without (first ∷ front) line others all = (let rest = front_without front line others all.1 in ((all.0, rest.0), rest.1))
 
 -- lines that are cut again
-lines_cut : (lines : List (List ℕ)) (others : List ℕ) → AllByRecursion (Without 10) lines → pieces 10 (lines_text lines ++ others) ≡ lines ++ pieces 10 others
+pub lines_cut : (lines : List (List ℕ)) (others : List ℕ) → AllByRecursion (Without 10) lines → pieces 10 (lines_text lines ++ others) ≡ lines ++ pieces 10 others
 lines_cut [] others all = refl
 lines_cut (line ∷ lines) others all =
     ap (pieces 10) (append_assoc (line ++ 10 ∷ []) (lines_text lines) others ∙ append_assoc line (10 ∷ []) (lines_text lines ++ others))

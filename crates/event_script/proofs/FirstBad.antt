@@ -79,7 +79,7 @@ judged_as : (known : DraftData) (text : LineText) (given other : Result DraftDat
 judged_as known text given other e judged = subst (Judged known text) e judged
 
 -- a good line, and what it makes known
-good_line : (known next : DraftData) (line : List ℕ) → after_line known line ≡ Ok next → (s : Statement) × Says (whole_line line) s × IsGood known (whole_line line) × (with_statement known s ≡ next)
+pub good_line : (known next : DraftData) (line : List ℕ) → after_line known line ≡ Ok next → (s : Statement) × Says (whole_line line) s × IsGood known (whole_line line) × (with_statement known s ≡ next)
 good_line known next line e =
     let r = line_read known next line e in
     (r.statement, r.says, judged_as known (whole_line line) (after_line known line) (ok next) e (judged_line known line), added_makes known next r.statement r.is)

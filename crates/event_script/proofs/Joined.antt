@@ -105,7 +105,7 @@ printable_again (field ∷ next ∷ fields) visible =
     list_all-append (λ b. leb 32 b && leb b 126) field (32 ∷ join 32 (next ∷ fields))
     ∙ and_from _ _ (visible_printable field visible.0) (printable_again (next ∷ fields) visible.1)
 
-without_append : (separator : ℕ) (xs ys : List ℕ) → Without separator xs → Without separator ys → Without separator (xs ++ ys)
+pub without_append : (separator : ℕ) (xs ys : List ℕ) → Without separator xs → Without separator ys → Without separator (xs ++ ys)
 without_append separator [] ys p q = q
 without_append separator (x ∷ xs) ys p q = (p.0, without_append separator xs ys p.1 q)
 

@@ -31,3 +31,4 @@ pub mod Complete
 pub mod FirstBad
 pub mod Begins
 pub mod Spelled
+pub mod Taken

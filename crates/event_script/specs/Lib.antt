@@ -10,6 +10,7 @@ pub mod Reasons
 pub mod Refusal
 pub mod Reading
 pub mod Fault
+pub mod Taken
 pub mod FaultText
 pub mod JournalData
 pub mod Lawful

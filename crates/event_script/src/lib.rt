@@ -28,5 +28,5 @@ pub use print::script::{print_script, put_event};
 pub use reader::fault::Reason;
 pub use reader::fields::place_of;
 pub use reader::numbers::{decimal_in, hex_in};
-pub use reader::{ScriptFault, read};
+pub use reader::{ScriptFault, ScriptReader, read};
 pub use script::{Event, Round, Script, Snapshot, Thread};

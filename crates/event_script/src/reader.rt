@@ -1,16 +1,15 @@
 //! The reader of scripts.
 
-ghost use Rattle.std.specs.Prelude.{Result, IfOk, IfErr};
+ghost use Rattle.std.specs.Prelude.{List, ℕ, [], ◌++◌, IfOk, IfErr};
 ghost use Rattle.event_script.specs.Spelling.{IsScript};
-ghost use Rattle.event_script.specs.declared.reader.fault.Reason.{Reason};
-ghost use Rattle.event_script.specs.Draft.{DraftData};
-ghost use Rattle.event_script.specs.Reading.{LeavesDraft, at_line, outcome};
-ghost use Rattle.event_script.specs.Fault.{Tells, IsOfScript, GivesDraft, LeavesLine};
+ghost use Rattle.event_script.specs.Fault.{Tells, IsOfScript};
+ghost use Rattle.event_script.specs.Taken.{HasTaken};
 
 mod draft;
 mod events;
 pub mod fault;
 pub mod fields;
+mod good_lines;
 mod images;
 mod kinds;
 pub mod numbers;
@@ -18,11 +17,12 @@ mod snapshot_draft;
 mod statement;
 mod totals;
 
-use crate::reader::draft::Draft;
-use crate::reader::fault::{LineFault, Reason};
-use crate::reader::fields::place_of;
+use crate::reader::fault::Reason;
+use crate::reader::good_lines::GoodLines;
 use crate::script::Script;
 use std::alloc::Global;
+use std::marker::Model;
+use std::mem::replace;
 
 /// Why bytes are not read as a script.
 #[derive(Clone, Copy, Debug, PartialEq, Eq)]
@@ -32,36 +32,66 @@ pub enum ScriptFault {
     NoMemory,
 }
 
-/// What a line gave, under its number.
-fn numbered(given: Result<(), LineFault>, line: u32) -> Result<(), ScriptFault>
-    ensures { (now : DraftData) (told : Result DraftData Reason) → LeavesDraft now given told
-        → LeavesLine now result (at_line line told) }
-{
-    match given {
-        Ok(()) => Ok(()),
-        Err(LineFault::Bad { reason }) => Err(ScriptFault::Bad { line, reason }),
-        Err(LineFault::NoMemory) => Err(ScriptFault::NoMemory),
-    }
+/// Reads a script whose bytes come in pieces. No more of them are kept than of the line that goes
+/// on. Behind a first bad line they are taken without being looked at.
+#[derive(Drop)]
+pub struct ScriptReader {
+    reading: Result<GoodLines, ScriptFault>,
 }
 
-/// What the lines make known, up to the first bad one.
-fn draft_of(alloc: Global, bytes: &[u8]) -> Result<Draft, ScriptFault>
-    ensures { GivesDraft result (outcome bytes.now) }
-{
-    let mut draft = Draft::new(alloc);
-    let mut rest = bytes;
-    let mut line = 1;
-    let mut end = place_of(rest, b'\n');
-    while end < rest.len() {
-        let (text, _) = rest.split_at(end);
-        let (_, next) = rest.split_at(end + 1);
-        numbered(draft.read_line(alloc, text), line)?;
-        line += 1;
-        rest = next;
-        end = place_of(rest, b'\n');
+impl Model for ScriptReader {
+    ghost use Rattle.std.specs.Prelude.{Result};
+    ghost use Rattle.event_script.specs.Taken.{LinesData};
+    ghost use Rattle.event_script.specs.declared.reader.ScriptFault.{ScriptFault};
+
+    ghost Value = { Result LinesData ScriptFault };
+
+    ghost view = { λ r. r.reading };
+}
+
+impl ScriptReader {
+    /// Before the first byte.
+    pub fn new(alloc: Global) -> Self
+        ensures { HasTaken [] result }
+    {
+        ScriptReader {
+            reading: Ok(GoodLines::new(alloc)),
+        }
     }
-    numbered(draft.check_end(rest), line)?;
-    Ok(draft)
+
+    /// Takes a piece behind the bytes before.
+    pub fn take(&mut self, piece: &[u8])
+        ensures { (bytes : List ℕ) → HasTaken bytes self.old
+            → HasTaken (bytes ++ piece.now) self.new }
+    {
+        let reading = replace(&mut self.reading, Err(ScriptFault::NoMemory));
+        self.reading = match reading {
+            Ok(lines) => lines.take(piece),
+            Err(fault) => Err(fault),
+        };
+    }
+
+    /// The script that the bytes spell.
+    pub fn finish(self) -> Result<Script, ScriptFault>
+        ensures ok { (bytes : List ℕ) → HasTaken bytes self
+            → IfOk result (λ script. IsScript bytes script) }
+        ensures bad { (bytes : List ℕ) → HasTaken bytes self
+            → IfErr result (λ fault. Tells bytes fault) }
+        ensures memory { (bytes : List ℕ) → HasTaken bytes self → IfErr result IsOfScript }
+    {
+        let ScriptReader { reading } = self;
+        let draft = reading?.finish()?;
+        Ok(Script {
+            version: draft.version,
+            nodes: draft.nodes,
+            loads: draft.loads,
+            images: draft.images,
+            sections: draft.sections,
+            fixed: draft.fixed,
+            snapshots: draft.snapshots,
+            rounds: draft.rounds,
+        })
+    }
 }
 
 /// The script that the bytes spell.
@@ -70,15 +100,7 @@ pub fn read(alloc: Global, bytes: &[u8]) -> Result<Script, ScriptFault>
     ensures bad { IfErr result (λ fault. Tells bytes.now fault) }
     ensures memory { IfErr result IsOfScript }
 {
-    let draft = draft_of(alloc, bytes)?;
-    Ok(Script {
-        version: draft.version,
-        nodes: draft.nodes,
-        loads: draft.loads,
-        images: draft.images,
-        sections: draft.sections,
-        fixed: draft.fixed,
-        snapshots: draft.snapshots,
-        rounds: draft.rounds,
-    })
+    let mut reader = ScriptReader::new(alloc);
+    reader.take(bytes);
+    reader.finish()
 }
