@@ -188,6 +188,16 @@ fn quarter(first: u32) -> Part
     Part { first, ranges: 500 }
 }
 
+// A half of them.
+fn half(first: u32) -> Part
+    ensures { result ≡ record { first = first; ranges = 1000 } }
+{
+    Part {
+        first,
+        ranges: 1_000,
+    }
+}
+
 // The changes of all threads by their numbers, none where two have the same, or one is above the
 // stamp, or a thread wanted for memory.
 fn by_number(alloc: Global, parts: &[Option<Vec<Step>>], stamp: u32) -> Option<Vec<Option<Step>>> {
@@ -292,37 +302,20 @@ fn accepted<R: Wait>(
     }
 }
 
-// What two threads come to that begin so far from one another.
-fn two_threads<R: Threads + Wait + Sync + Abort>(
-    rt: &R,
-    alloc: Global,
-    nodes: u32,
-    apart: u32,
-) -> Option<u32>
-    requires nodes { (4 ≤ nodes) × (nodes ≤ 16384) }
-    requires near { apart ≤ 1000 }
-{
-    let (registry, mut me) = registry_of(rt, alloc, nodes, RANGES);
-    let a = split_off(rt, &registry, &mut me, UPDATES);
-    let b = split_off(rt, &registry, &mut me, UPDATES);
-    let low = Part {
-        first: 0,
-        ranges: 1_000,
-    };
-    let high = Part {
-        first: apart,
-        ranges: 1_000,
-    };
-    let written = two_write(rt, alloc, &registry, (a, b), (low, high));
-    accepted(rt, alloc, &registry, &mut me, &[written.0, written.1])
+// How many threads write: two on a half of the ranges each, or four on a quarter.
+#[derive(Clone, Copy)]
+enum Crew {
+    Two,
+    Four,
 }
 
-// The same of four.
-fn four_threads<R: Threads + Wait + Sync + Abort>(
+// How many updates of threads were accepted whose quarters begin so far from one another.
+fn accepted_of<R: Threads + Wait + Sync + Abort>(
     rt: &R,
     alloc: Global,
     nodes: u32,
     apart: u32,
+    crew: Crew,
 ) -> Option<u32>
     requires nodes { (4 ≤ nodes) × (nodes ≤ 16384) }
     requires near { apart ≤ 500 }
@@ -330,32 +323,38 @@ fn four_threads<R: Threads + Wait + Sync + Abort>(
     let (registry, mut me) = registry_of(rt, alloc, nodes, RANGES);
     let a = split_off(rt, &registry, &mut me, UPDATES);
     let b = split_off(rt, &registry, &mut me, UPDATES);
-    let c = split_off(rt, &registry, &mut me, UPDATES);
-    let d = split_off(rt, &registry, &mut me, UPDATES);
-    let (low, high) = four_write(rt, alloc, &registry, ((a, b), (c, d)), apart);
-    accepted(
-        rt,
-        alloc,
-        &registry,
-        &mut me,
-        &[low.0, low.1, high.0, high.1],
-    )
+    match crew {
+        Crew::Two => {
+            let halves = (half(0), half(2 * apart));
+            let (low, high) = two_write(rt, alloc, &registry, (a, b), halves);
+            accepted(rt, alloc, &registry, &mut me, &[low, high])
+        }
+        Crew::Four => {
+            let c = split_off(rt, &registry, &mut me, UPDATES);
+            let d = split_off(rt, &registry, &mut me, UPDATES);
+            let (low, high) = four_write(rt, alloc, &registry, ((a, b), (c, d)), apart);
+            let parts = [low.0, low.1, high.0, high.1];
+            accepted(rt, alloc, &registry, &mut me, &parts)
+        }
+    }
 }
 
 #[test]
 fn threads_on_parts_of_their_own(rt: HostRuntime) {
-    assert!(rt; two_threads(&rt, rt.alloc(), 4_096, 1_000) == Some(UPDATES));
-    assert!(rt; four_threads(&rt, rt.alloc(), 4_096, 500) == Some(UPDATES));
+    for crew in [Crew::Two, Crew::Four] {
+        assert!(rt; accepted_of(&rt, rt.alloc(), 4_096, 500, crew) == Some(UPDATES));
+    }
 }
 
 #[test]
 fn threads_on_one_part(rt: HostRuntime) {
-    assert!(rt; two_threads(&rt, rt.alloc(), 4_096, 0).is_some());
-    assert!(rt; four_threads(&rt, rt.alloc(), 4_096, 0).is_some());
+    for crew in [Crew::Two, Crew::Four] {
+        assert!(rt; accepted_of(&rt, rt.alloc(), 4_096, 0, crew).is_some());
+    }
 }
 
 #[test]
 fn threads_with_few_nodes(rt: HostRuntime) {
-    assert!(rt; two_threads(&rt, rt.alloc(), 64, 1_000).is_some());
-    assert!(rt; four_threads(&rt, rt.alloc(), 64, 0).is_some());
+    assert!(rt; accepted_of(&rt, rt.alloc(), 64, 500, Crew::Two).is_some());
+    assert!(rt; accepted_of(&rt, rt.alloc(), 64, 0, Crew::Four).is_some());
 }
