@@ -10,3 +10,5 @@ pub mod Opening
 pub mod Lawfulness
 pub mod Endings
 pub mod Countable
+pub mod EnoughNodes
+pub mod NodeCounts

@@ -46,7 +46,7 @@ trace_queries [] = refl
 trace_queries (line ∷ lines) =
     count_both is_of_update (receipts_of_place line.look line.place) (receipts_of_trace lines) ∙ (let here = place_queries line.look line.place in let rest = trace_queries lines in omega (arith, here, rest))
 
-event_updates : (images : List SpanData) (happens : Event) (answer : Answer) → AnswersEvent happens answer → count_by is_of_update (receipts_of images answer) ≤ updates_of happens
+pub event_updates : (images : List SpanData) (happens : Event) (answer : Answer) → AnswersEvent happens answer → count_by is_of_update (receipts_of images answer) ≤ updates_of happens
 event_updates images (event.Register image) (Register asked answer) is = omega arith
 event_updates images (event.Deregister base) (Deregister asked answer) is = omega arith
 event_updates images (event.Replace image) (Replace asked answer) is = omega arith

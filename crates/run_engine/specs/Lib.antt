@@ -4,3 +4,4 @@ pub mod Settings
 pub mod Played
 pub mod Kept
 pub mod Shared
+pub mod Nodes

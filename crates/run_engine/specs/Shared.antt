@@ -83,11 +83,15 @@ new_caller registry = record {
   log = first_log registry.terms;
 }
 
--- with what the registry of a script is made
-abbrev pub script_terms : ScriptData → Terms
-script_terms script = record {
-  nodes = script.nodes;
+-- with what a registry of so many nodes is made for a script
+abbrev pub terms_with : ScriptData → ℕ → Terms
+terms_with script nodes = record {
+  nodes = nodes;
   loads = script.loads;
   payloads = length script.images;
   fixed = fixed_members script;
 }
+
+-- the same with all nodes that the script may have
+abbrev pub script_terms : ScriptData → Terms
+script_terms script = terms_with script script.nodes

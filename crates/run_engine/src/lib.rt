@@ -9,6 +9,7 @@
 
 mod gate;
 mod kept;
+mod nodes;
 mod rounds;
 mod running;
 mod scripts;

@@ -37,7 +37,7 @@ fn updates_of(event: &Event) -> u32
 }
 
 /// How many updates the events of a thread ask for.
-fn updates_in(events: &[Event]) -> u32
+pub(crate) fn updates_in(events: &[Event]) -> u32
     requires { length events.now ≤ MOST_EVENTS }
     ensures { result ≡ updates_in events.now }
 {

@@ -5,10 +5,12 @@ ghost use Rattle.event_script.specs.Lawful.{IsLawfulJournal, thread_receipts};
 ghost use Rattle.registry_core.specs.Rounds.{IsBetweenRounds, joined_lists};
 ghost use Rattle.run_engine.specs.Kept.{IsKeptJournal, journal_told};
 ghost use Rattle.run_engine.specs.Played.{IsPlayed};
-ghost use Rattle.run_engine.specs.Shared.{new_caller, script_terms};
+ghost use Rattle.run_engine.specs.Nodes.{AreEnough};
+ghost use Rattle.run_engine.specs.Shared.{new_caller, script_terms, terms_with};
 
 use crate::gate::Gate;
 use crate::kept::KeptJournal;
+use crate::nodes::nodes_for;
 use crate::rounds::play_shared;
 use crate::setting::Setting;
 use crate::telling::tell_journal;
@@ -54,7 +56,8 @@ fn run_kept<R: Threads + Wait + Sync, G: Gate + Sync>(
     registry: &Registry,
     me: &mut Caller,
 ) -> Result<KeptJournal, NoMemory>
-    requires terms { registry.now.terms ≡ script_terms script.now }
+    requires terms { registry.now.terms ≡ terms_with script.now registry.now.terms.nodes }
+    requires nodes { AreEnough script.now registry.now.terms.nodes }
     requires caller { me.old ≡ new_caller registry.now }
     requires between { IsBetweenRounds me.old }
     ensures kept { IfOk result (IsKeptJournal script.now) }
@@ -102,6 +105,7 @@ pub fn play_kept<R: Threads + Wait + Sync, G: Gate + Sync>(
 {
     let fixed = members_of(alloc, &script.images, &script.fixed)?;
     let images = script.images.len() as u32;
-    let (registry, mut me) = Registry::new(alloc, script.nodes, script.loads, images, fixed)?;
+    let nodes = nodes_for(script.nodes, &script.rounds);
+    let (registry, mut me) = Registry::new(alloc, nodes, script.loads, images, fixed)?;
     run_kept(rt, alloc, gate, script, &registry, &mut me)
 }

@@ -4,6 +4,7 @@ use Rattle.reg_model.specs.SpanData.{SpanData, IsSpan}
 use Rattle.reg_model.specs.declared.span.Member.{Member}
 use Rattle.segment_array.specs.Ascending.{AscendFrom}
 use Rattle.event_script.specs.Lawful.{image_member}
+use Rattle.run_engine.proofs.NodeCounts.{rounds_are_few}
 use Rattle.run_engine.proofs.Opening.{fixed_ascend, fixed_known}
 use Rattle.run_engine.proofs.scripts.play_kept.Goals as goal
 
@@ -23,3 +24,17 @@ new-requires-clause-members g c =
     let P : ℕ → Type 0 = λ n. AllByRecursion (λ (m : Member). IsSpan m.span × (m.payload < n)) c.in_ok-fixed.fixed.items in
     let Q : List Member → Type 0 = λ members. AllByRecursion (λ (m : Member). IsSpan m.span × (m.payload < length images)) members in
     subst P (sym count) (subst Q (sym fixed) (fixed_known images c.script.invariant.images.1 numbers c.script.invariant.fixed))
+
+pub nodes_for-nodes-requires : goal.nodes_for-nodes-requires
+nodes_for-nodes-requires g c =
+    let rounds = c.script.invariant.rounds in
+    rw c.deref-3.ensures.value (record {
+      nodes = c.script.invariant.nodes;
+      few = (rounds.0, rounds_are_few _ c.script.inside.rounds.items rounds.1);
+    })
+
+pub new-requires-clause-nodes : goal.new-requires-clause-nodes
+new-requires-clause-nodes g c =
+    let bounds = c.nodes_for-nodes.ensures.bounds in
+    let most = c.script.invariant.nodes.1 in
+    (bounds.0, (let within = bounds.1 in omega (arith, within, most)))
