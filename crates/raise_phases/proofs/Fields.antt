@@ -13,7 +13,7 @@ use Rattle.raise_phases.specs.declared.call_sites.CallSite.{CallSite}
 use Rattle.raise_phases.specs.declared.call_sites.Encoded.{Encoded}
 use Rattle.raise_phases.specs.declared.call_sites.Encoded.TheVariants as encoded
 use Rattle.raise_phases.specs.declared.fault.LsdaFault.TheVariants.{Encoding}
-use Rattle.raise_phases.specs.CallSites.{lsda_fault, lsda_field, accepts, accepted_encoding, pad_start, type_table, types_told, table_header, call_site}
+use Rattle.raise_phases.specs.CallSites.{lsda_fault, lsda_field, is_encoding_of, accepted_encoding, pad_start, type_table, types_told, table_header, call_site}
 use Rattle.frame_parse.proofs.OneAnswer.{grows, behind}
 
 field_exact : {A : Type 0} (g : Part ByteFault A) → IsExact g → IsExact (lsda_field g)
@@ -27,7 +27,7 @@ unfolding accepted_encoding
 accepted_exact field =
     then_exact _ _ here_exact (λ at.
     then_exact _ _ (field_exact _ (fixed_exact 1)) (λ e.
-    then_exact _ _ (check_exact (accepts field e) (Encoding at e)) (λ _. give_exact e)))
+    then_exact _ _ (check_exact (is_encoding_of field e) (Encoding at e)) (λ _. give_exact e)))
 
 pad_start_exact : (first address : ℕ) → IsExact (pad_start first address)
 unfolding pad_start

@@ -37,19 +37,19 @@ lsda_field g = lift lsda_fault g
 -- Of where pads count from: those of code, or none. Of types: a number of fixed width, with nothing
 -- or the field's address added, also of a pointer's address; or none. Of the numbers of call sites:
 -- they have no sign, and nothing is added.
-abbrev pub accepts : Encoded → ℕ → Bool
-accepts encoded.Pads e = is_code_encoding e || e == DW_EH_PE_omit
-accepts encoded.Types e =
+abbrev pub is_encoding_of : Encoded → ℕ → Bool
+is_encoding_of encoded.Pads e = is_code_encoding e || e == DW_EH_PE_omit
+is_encoding_of encoded.Types e =
     is_pointer e && not (e % 16 == DW_EH_PE_uleb128) && not (e % 16 == DW_EH_PE_sleb128)
     || e == DW_EH_PE_omit
-accepts encoded.Sites e = nat_le DW_EH_PE_uleb128 e && nat_le e DW_EH_PE_udata8
+is_encoding_of encoded.Sites e = nat_le DW_EH_PE_uleb128 e && nat_le e DW_EH_PE_udata8
 
 -- one that is accepted
 unfoldable pub accepted_encoding : Encoded → Part LsdaFault ℕ
 accepted_encoding field = do
   at ← here
   e ← lsda_field (fixed 1)
-  _ ← check (accepts field e) (Encoding at e)
+  _ ← check (is_encoding_of field e) (Encoding at e)
   give e
 
 -- ---- the header, of a table at an address for a function that starts at `first`

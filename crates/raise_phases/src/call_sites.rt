@@ -5,7 +5,7 @@ ghost use Rattle.eh_bytes.specs.CursorData.{Gives};
 ghost use Rattle.eh_bytes.specs.Fields.{fixed, uleb, sleb};
 ghost use Rattle.eh_bytes.specs.Pointer.{encoded_number, encoded_pointer};
 ghost use Rattle.eh_bytes.specs.Results.{with_fault};
-ghost use Rattle.raise_phases.specs.CallSites.{lsda_fault, lsda_field, accepts};
+ghost use Rattle.raise_phases.specs.CallSites.{lsda_fault, lsda_field, is_encoding_of};
 ghost use Rattle.raise_phases.specs.CallSites.{accepted_encoding, pad_start, type_table};
 ghost use Rattle.raise_phases.specs.CallSites.{types_told, table_header, call_site, site_covers};
 ghost use Rattle.raise_phases.specs.CallSites.{covering_read, sized_sites};
@@ -120,8 +120,8 @@ pub(crate) enum Encoded {
     Sites,
 }
 
-fn accepts(encoded: Encoded, encoding: u8) -> bool
-    ensures { result ≡ accepts encoded encoding }
+fn is_encoding_of(encoded: Encoded, encoding: u8) -> bool
+    ensures { result ≡ is_encoding_of encoded encoding }
 {
     let format = encoding % 16;
     match encoded {
@@ -143,7 +143,7 @@ fn accepted_encoding(cursor: &mut Cursor, encoded: Encoded) -> Result<u8, LsdaFa
 {
     let at = cursor.at();
     let encoding = byte(cursor)?;
-    if accepts(encoded, encoding) {
+    if is_encoding_of(encoded, encoding) {
         Ok(encoding)
     } else {
         Err(LsdaFault::Encoding { at, byte: encoding })

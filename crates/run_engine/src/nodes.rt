@@ -1,5 +1,5 @@
-//! How many nodes the registry of a script takes: no more than its updates may fill, so that a short
-//! script doesn't pay for the most that it may have.
+//! How many nodes the registry of a script takes: no more than its updates can fill, so that a
+//! short script doesn't pay for the most that it may have.
 
 ghost use Rattle.std.specs.Prelude.{◌≡◌, ◌⊎◌, ◌+◌, ◌-◌, ◌*◌, ◌<◌, ◌≤◌, length, All};
 ghost use Rattle.std.specs.List.{sum_by};
