@@ -1,14 +1,18 @@
 -- How runs end.
 use Rattle.std.proofs.Common.{◌≡◌, ◌⊎◌, ℕ, ◌≤◌, List, length, Option, Some, None, IfSome, refl, sym, ap, ◌∙◌, subst, inl, inr, arith}
+use Rattle.event_script.specs.JournalData.{JournalData}
+use Rattle.event_script.specs.Lawful.{IsLawfulJournal}
 use Rattle.event_script.specs.ScriptData.{ScriptData}
 use Rattle.event_script.specs.Spelling.{IsScript}
 use Rattle.event_script.specs.Refusal.{HasOneReading}
+use Rattle.event_script.specs.Text.{journal_text}
 use Rattle.command_line.specs.CommandLine.{IsCommandLine}
 use Rattle.command_line.specs.declared.taking.Command.TheVariants.{Run, Generate}
 use Rattle.run_ports.specs.Endings.{Change}
 use Rattle.run_ports.specs.Ports.{Rose}
 use Rattle.run_ports.specs.declared.status.Ending.TheVariants as ending
-use Rattle.run_engine.specs.Outcome.{Ends, EndsGenerated}
+use Rattle.run_ports.proofs.Pieces.{IfSome-same}
+use Rattle.run_engine.specs.Outcome.{Ends, EndsGenerated, IsDue}
 use Rattle.run_engine.specs.Statuses.{ending_of}
 use Rattle.run_ports.specs.declared.reading.TheConstants.{SCRIPT_LIMIT}
 use Rattle.run_engine.specs.declared.status.Status.{Status}
@@ -23,6 +27,20 @@ write_told Script is = absurd cc
 write_told TooLong is = absurd cc
 write_told ReadFault is = absurd cc
 write_told NoMemory is = absurd cc
+
+-- The text of a lawful journal is due where the bytes that came spell its script.
+pub journal_due : (words : List (List ℕ)) (input : Option (List ℕ)) (bytes : List ℕ) (script : ScriptData) (journal : JournalData) → IsCommandLine words Run → (length bytes ≤ SCRIPT_LIMIT) × IfSome input (λ had. had ≡ bytes) → IsScript bytes script → IsLawfulJournal script journal → IsDue words input Done (journal_text journal)
+journal_due words input bytes script journal is came spelled lawful = (
+  Run,
+  is,
+  record {
+    script = script;
+    journal = journal;
+    spelled = IfSome-same input bytes (λ had. (length had ≤ SCRIPT_LIMIT) × IsScript had script) came.1 (came.0, spelled);
+    lawful = lawful;
+    text_is = refl;
+  },
+)
 
 -- A status that has been told is no other one.
 pub ends_at : (words : List (List ℕ)) (input : Option (List ℕ)) (change : Change) (end status : Status) → Ends words input change end → end ≡ status → Ends words input change status

@@ -12,6 +12,7 @@ mod kept;
 mod nodes;
 mod rounds;
 mod running;
+mod script_taker;
 mod scripts;
 mod setting;
 mod shared;

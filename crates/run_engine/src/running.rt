@@ -14,14 +14,15 @@ ghost use Rattle.run_engine.specs.Statuses.{ending_of};
 ghost use Rattle.run_ports.specs.declared.reading.TheConstants.{SCRIPT_LIMIT};
 
 use crate::gate::Gate;
+use crate::script_taker::ScriptTaker;
 use crate::scripts::{play_kept, play_script};
 use crate::status::Status;
 use crate::writing::{write_journal, write_summary};
 use command_line::{Command, command_of};
 use event_script::laws::bytes_have_one_answer;
-use event_script::{ScriptFault, print_fault, read};
+use event_script::{ScriptFault, ScriptReader, print_fault};
 use run_ports::{
-    SCRIPT_LIMIT, Sink, SinkFault, Source, TakeFault, conclude, conclude_made, take_up_to,
+    SCRIPT_LIMIT, Sink, SinkFault, Source, TakeFault, Taken, conclude, conclude_made, hand_up_to,
 };
 use script_generator::generate;
 use std::alloc::Global;
@@ -152,22 +153,22 @@ fn run_source<R: Threads + Wait + Sync, S: Source, K: Sink, G: Gate + Sync>(
         (sink_change K.faults K.written sink.old sink.new
         (S.faults source.old) (S.faults source.new)) result }
 {
-    let bytes = match take_up_to(alloc, source, SCRIPT_LIMIT) {
-        Ok(bytes) => bytes,
+    let mut taker = ScriptTaker {
+        reader: ScriptReader::new(alloc),
+    };
+    match hand_up_to(source, &mut taker, SCRIPT_LIMIT) {
+        Ok(Taken::Whole) => {}
+        Ok(Taken::TooLong) => return conclude(sink, b"script too long\n", Status::TooLong),
         Err(TakeFault::Failed) => return Status::ReadFault,
         Err(TakeFault::NoMemory) => return Status::NoMemory,
-    };
-    if bytes.len() > SCRIPT_LIMIT {
-        return conclude(sink, b"script too long\n", Status::TooLong);
     }
-    let script = match read(alloc, &bytes) {
+    let script = match taker.reader.finish() {
         Ok(script) => script,
         Err(ScriptFault::Bad { line, reason }) => {
             return conclude_made(sink, print_fault(alloc, line, reason), Status::Script);
         }
         Err(ScriptFault::NoMemory) => return Status::NoMemory,
     };
-    drop(bytes);
     let kept = match play_kept(rt, alloc, gate, &script) {
         Ok(kept) => kept,
         Err(_) => return Status::NoMemory,
