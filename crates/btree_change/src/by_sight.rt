@@ -221,17 +221,17 @@ pub(crate) fn hold_by_sight<L: Locking>(
     let _some = words.nodes();
     // By this load it is known that the caller's terms are those of the words.
     words.load_version(me, LockId::Node { node: 0 }, Ask::Nothing);
-    let pause = Backoff::new();
+    let backoff = Backoff::new();
     let mut lowest = 0;
     for _ in 0..ATTEMPTS {
         match seek(words, me, request, lowest) {
             Ok(Some(seen)) => match hold_seen(locking, words, me, seen, request) {
                 Attempt::Holds(at) => return Some(at),
                 Attempt::Beyond { level } => lowest = level as u64 + 1,
-                Attempt::Raced => pause.spin(),
+                Attempt::Raced => locking.pause(&backoff),
             },
             Ok(None) => return None,
-            Err(_) => pause.spin(),
+            Err(_) => locking.pause(&backoff),
         }
     }
     None

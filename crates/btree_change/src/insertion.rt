@@ -1,5 +1,5 @@
 //! The insertion of a member.
-ghost use Rattle.std.specs.Prelude.{◌≡◌, ◌<◌, ◌≤◌, true, IfOk, IfErr};
+ghost use Rattle.std.specs.Prelude.{◌≡◌, ◌<◌, ◌≤◌, true, false, IfOk, IfErr};
 ghost use Rattle.btree_change.specs.Below.{CALL_CREDIT, IsIdle, due, surplus};
 ghost use Rattle.btree_change.specs.Insertion.{AnswersInsertion, Inserts};
 ghost use Rattle.btree_change.specs.Paths.{HoldsNothing};
@@ -52,9 +52,15 @@ pub fn insert_by<L: Locking>(
     at_held_root(locking, words, me, &member, root)
 }
 
-/// Registers a member. Spent where the caller may begin no more update calls. It waits for the
-/// locks on the way.
-pub fn insert<R: Wait>(rt: &R, words: &Words, me: &mut Caller, member: Member) -> Inserted
+/// Registers a member. Spent where the caller may begin no more update calls. It takes its
+/// locks by a way that never gives up.
+pub fn insert_waiting<L: Locking>(
+    locking: &L,
+    words: &Words,
+    me: &mut Caller,
+    member: Member,
+) -> Inserted
+    requires waits { L.gives_up ≡ false }
     requires table { me.old.table ≡ words.now.table }
     requires idle { IsIdle me.old.log }
     requires payload { member.payload < words.now.terms.payloads }
@@ -65,8 +71,21 @@ pub fn insert<R: Wait>(rt: &R, words: &Words, me: &mut Caller, member: Member) -
     if !me.use_one() {
         return Inserted::Spent;
     }
-    match insert_by(&Waiting { rt }, words, me, member) {
+    match insert_by(locking, words, me, member) {
         Ok(answer) => answer,
         Err(_) => unreachable!(),
     }
+}
+
+/// Registers a member. Spent where the caller may begin no more update calls. It waits for the
+/// locks on the way.
+pub fn insert<R: Wait>(rt: &R, words: &Words, me: &mut Caller, member: Member) -> Inserted
+    requires table { me.old.table ≡ words.now.table }
+    requires idle { IsIdle me.old.log }
+    requires payload { member.payload < words.now.terms.payloads }
+    ensures answer { Inserts words.now.terms member me.old me.new result }
+    ensures nothing { HoldsNothing me.new.log.holdings }
+    ensures terms { 0 < me.old.left → me.old.log.terms ≡ words.now.terms }
+{
+    insert_waiting(&Waiting { rt }, words, me, member)
 }

@@ -31,6 +31,6 @@ mod split;
 mod stand;
 mod walk;
 
-pub use insertion::{insert, insert_by};
-pub use removal::{remove, remove_by};
-pub use replacement::{replace, replace_by};
+pub use insertion::{insert, insert_by, insert_waiting};
+pub use removal::{remove, remove_by, remove_waiting};
+pub use replacement::{replace, replace_by, replace_waiting};

@@ -210,8 +210,9 @@ pub fn remove_by<L: Locking>(
 }
 
 /// Removes the member that begins at a base. NotFound where none begins there, and Spent where the
-/// caller may begin no more update calls. It waits for the locks on the way.
-pub fn remove<R: Wait>(rt: &R, words: &Words, me: &mut Caller, base: u64) -> Removed
+/// caller may begin no more update calls. It takes its locks by a way that never gives up.
+pub fn remove_waiting<L: Locking>(locking: &L, words: &Words, me: &mut Caller, base: u64) -> Removed
+    requires waits { L.gives_up ≡ false }
     requires table { me.old.table ≡ words.now.table }
     requires idle { IsIdle me.old.log }
     ensures answer { Removes words.now.terms base me.old me.new result }
@@ -221,8 +222,20 @@ pub fn remove<R: Wait>(rt: &R, words: &Words, me: &mut Caller, base: u64) -> Rem
     if !me.use_one() {
         return Removed::Spent;
     }
-    match remove_by(&Waiting { rt }, words, me, base) {
+    match remove_by(locking, words, me, base) {
         Ok(answer) => answer,
         Err(_) => unreachable!(),
     }
+}
+
+/// Removes the member that begins at a base. NotFound where none begins there, and Spent where the
+/// caller may begin no more update calls. It waits for the locks on the way.
+pub fn remove<R: Wait>(rt: &R, words: &Words, me: &mut Caller, base: u64) -> Removed
+    requires table { me.old.table ≡ words.now.table }
+    requires idle { IsIdle me.old.log }
+    ensures answer { Removes words.now.terms base me.old me.new result }
+    ensures nothing { HoldsNothing me.new.log.holdings }
+    ensures terms { 0 < me.old.left → me.old.log.terms ≡ words.now.terms }
+{
+    remove_waiting(&Waiting { rt }, words, me, base)
 }

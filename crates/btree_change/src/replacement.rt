@@ -1,5 +1,5 @@
 //! The replacement of the member that has a whole span.
-ghost use Rattle.std.specs.Prelude.{◌≡◌, ◌≤◌, ◌<◌, ◌+◌, true, IfOk, IfErr};
+ghost use Rattle.std.specs.Prelude.{◌≡◌, ◌≤◌, ◌<◌, ◌+◌, true, false, IfOk, IfErr};
 ghost use Rattle.tree_shape.specs.NodeData.{IsInFences};
 ghost use Rattle.node_store.specs.Locking.{FoundBusy};
 ghost use Rattle.word_rule.specs.CallerData.{due, surplus};
@@ -96,9 +96,15 @@ pub fn replace_by<L: Locking>(
 }
 
 /// Gives a member the place of the registered one that has its whole span. NotFound where none has
-/// it, and Spent where the caller may begin no more update calls. It waits for the locks on the
-/// way.
-pub fn replace<R: Wait>(rt: &R, words: &Words, me: &mut Caller, member: Member) -> Replaced
+/// it, and Spent where the caller may begin no more update calls. It takes its locks by a way that
+/// never gives up.
+pub fn replace_waiting<L: Locking>(
+    locking: &L,
+    words: &Words,
+    me: &mut Caller,
+    member: Member,
+) -> Replaced
+    requires waits { L.gives_up ≡ false }
     requires table { me.old.table ≡ words.now.table }
     requires idle { IsIdle me.old.log }
     requires payload { member.payload < words.now.terms.payloads }
@@ -109,8 +115,22 @@ pub fn replace<R: Wait>(rt: &R, words: &Words, me: &mut Caller, member: Member) 
     if !me.use_one() {
         return Replaced::Spent;
     }
-    match replace_by(&Waiting { rt }, words, me, member) {
+    match replace_by(locking, words, me, member) {
         Ok(answer) => answer,
         Err(_) => unreachable!(),
     }
+}
+
+/// Gives a member the place of the registered one that has its whole span. NotFound where none has
+/// it, and Spent where the caller may begin no more update calls. It waits for the locks on the
+/// way.
+pub fn replace<R: Wait>(rt: &R, words: &Words, me: &mut Caller, member: Member) -> Replaced
+    requires table { me.old.table ≡ words.now.table }
+    requires idle { IsIdle me.old.log }
+    requires payload { member.payload < words.now.terms.payloads }
+    ensures answer { MakesReplacement words.now.terms member me.old me.new result }
+    ensures nothing { HoldsNothing me.new.log.holdings }
+    ensures terms { 0 < me.old.left → me.old.log.terms ≡ words.now.terms }
+{
+    replace_waiting(&Waiting { rt }, words, me, member)
 }

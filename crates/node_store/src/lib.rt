@@ -22,7 +22,7 @@ mod writing;
 pub use entries::{Placed, begun_in, cut_in_place, entry_of, put_in_place};
 pub use free::{give_free, take_free};
 pub use held::{read_held, write_held};
-pub use locking::{Busy, Locking, Once, Trying, Waiting};
+pub use locking::{Busy, Locking, Once, Pausing, Trying, Waiting};
 pub use locks::{lock, unlock, unlock_same};
 pub use outline::{Outline, high_of, outline_of, pair_of, slot_of};
 pub use reading::{CONTENT_WORDS, node_of};

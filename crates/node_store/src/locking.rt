@@ -7,6 +7,7 @@ ghost use Rattle.word_rule.specs.VersionLocks.{after_release_same};
 ghost use Rattle.node_store.specs.Locking.{IsBusy, Locks};
 
 use crate::locks::{lock, unlock, unlock_same, wake_after};
+use crossbeam_utils::Backoff;
 use std::sync::Wait;
 use word_rule::{Caller, LockId, Words};
 
@@ -24,8 +25,14 @@ pub enum Busy {
 /// How often one that gives up tries to take the first free node.
 const ROUNDS: u64 = 16;
 
+/// What one does that found others in its way, before it tries again.
+pub trait Pausing {
+    /// It may spin, yield or wait. The backoff is that of the call that tries.
+    fn pause(&self, backoff: &Backoff);
+}
+
 /// How locks are taken and let go.
-pub trait Locking {
+pub trait Locking: Pausing {
     /// Whether it may say no.
     ghost gives_up: { Bool };
 
@@ -69,6 +76,12 @@ pub trait Locking {
 #[derive(Drop)]
 pub struct Waiting<'a, R> {
     pub rt: &'a R,
+}
+
+impl<'a, R: Wait> Pausing for Waiting<'a, R> {
+    fn pause(&self, backoff: &Backoff) {
+        backoff.snooze();
+    }
 }
 
 impl<'a, R: Wait> Locking for Waiting<'a, R> {
@@ -117,6 +130,12 @@ fn take_once(words: &Words, me: &mut Caller, id: LockId) -> bool
 #[derive(Drop)]
 pub struct Trying;
 
+impl Pausing for Trying {
+    fn pause(&self, backoff: &Backoff) {
+        backoff.spin();
+    }
+}
+
 impl Locking for Trying {
     ghost gives_up = { true };
 
@@ -146,6 +165,12 @@ impl Locking for Trying {
 /// Tries likewise, and wakes nobody: for words on which no caller ever waits.
 #[derive(Drop)]
 pub struct Once;
+
+impl Pausing for Once {
+    fn pause(&self, backoff: &Backoff) {
+        backoff.spin();
+    }
+}
 
 impl Locking for Once {
     ghost gives_up = { true };
