@@ -25,11 +25,9 @@ ghost use Rattle.registry_core.specs.Calls.{EndsCall, MayUpdate, Receives};
 ghost use Rattle.registry_core.specs.Queries.{IsKnownPlace, Queries};
 ghost use Rattle.registry_core.specs.Rounds.{IsBetweenRounds};
 
-use crate::lookup::{loaded_at, registered_at};
 use array_publish::try_object;
 use btree_lookup::try_find;
-use node_store::{Busy, Locking};
-use reg_model::laws::receipts_stay;
+use node_store::{Busy, Locking, Waiting};
 use reg_model::{Again, Found, Inserted, Loading, Member, NoMemory, Place, Removed, Replaced};
 use std::alloc::Global;
 use std::marker::Model;
@@ -39,7 +37,7 @@ use word_rule::{Caller, Looker, Words};
 /// The registry that threads share by `&`. Each has a caller of its own.
 #[derive(Drop)]
 pub struct Registry {
-    words: Words,
+    pub(crate) words: Words,
 }
 
 impl Model for Registry {
@@ -91,7 +89,6 @@ impl Registry {
 
     /// Registers a member. Spent where the caller may begin no more update calls. It waits for the
     /// locks of nodes.
-    #[tactic(auto, using(crate::proofs::Updating::inserted_spent))]
     pub fn register<R: Wait>(&self, rt: &R, me: &mut Caller, member: Member) -> Inserted
         requires caller { MayUpdate self.now me.old }
         requires payload { member.payload < self.now.terms.payloads }
@@ -100,12 +97,11 @@ impl Registry {
         ensures spent { (result ≡ inserted.Spent) ↔ (me.old.left ≡ 0) }
         ensures idle { IsIdle me.new.log }
     {
-        btree_change::insert(rt, &self.words, me, member)
+        self.register_waiting(&Waiting { rt }, me, member)
     }
 
     /// Removes the registered member that begins at an address, and names it. Spent where the
     /// caller may begin no more update calls. It waits for the locks of nodes.
-    #[tactic(auto, using(crate::proofs::Updating::removed_spent))]
     pub fn deregister<R: Wait>(&self, rt: &R, me: &mut Caller, base: u64) -> Removed
         requires caller { MayUpdate self.now me.old }
         ensures answer { Removes self.now.terms base me.old me.new result }
@@ -113,13 +109,12 @@ impl Registry {
         ensures spent { (result ≡ removed.Spent) ↔ (me.old.left ≡ 0) }
         ensures idle { IsIdle me.new.log }
     {
-        btree_change::remove(rt, &self.words, me, base)
+        self.deregister_waiting(&Waiting { rt }, me, base)
     }
 
     /// Gives a member the place of the registered one that has its whole span, whose payload it
     /// names. Spent where the caller may begin no more update calls. It waits for the locks of
     /// nodes.
-    #[tactic(auto, using(crate::proofs::Updating::replaced_spent))]
     pub fn replace<R: Wait>(&self, rt: &R, me: &mut Caller, member: Member) -> Replaced
         requires caller { MayUpdate self.now me.old }
         requires payload { member.payload < self.now.terms.payloads }
@@ -128,7 +123,7 @@ impl Registry {
         ensures spent { (result ≡ replaced.Spent) ↔ (me.old.left ≡ 0) }
         ensures idle { IsIdle me.new.log }
     {
-        btree_change::replace(rt, &self.words, me, member)
+        self.replace_waiting(&Waiting { rt }, me, member)
     }
 
     /// Registers a member as `register` does, for an update call that was begun. Spent where the
@@ -292,19 +287,7 @@ impl Registry {
         ensures calls { Chain Receives (L.known me.old) (receipts_of_place pc result)
             (L.known me.new) }
     {
-        // What the registered half answered goes on to hold; a law that takes no step.
-        receipts_stay();
-        let registered = registered_at(rt, &self.words, me, pc);
-        match registered {
-            Found::Hit { .. } => Place {
-                registered,
-                loaded: None,
-            },
-            Found::Miss { .. } => Place {
-                registered,
-                loaded: Some(loaded_at(rt, &self.words, me, pc)),
-            },
-        }
+        self.find_waiting(rt, &Waiting { rt }, me, pc)
     }
 
     /// Takes the registry apart, by a caller that is alone, and answers how many updates were

@@ -1,7 +1,7 @@
 use Rattle.std.proofs.Common.{refl}
 use Rattle.registry_core.proofs.Following.{query_received}
 use Rattle.registry_core.proofs.Asking.{queries_both}
-use Rattle.registry_core.proofs.registry.Registry.find.Goals as goal
+use Rattle.registry_core.proofs.registry.Registry.find_waiting.Goals as goal
 
 pub returns-in-Miss-clause-queries : goal.returns-in-Miss-clause-queries
 returns-in-Miss-clause-queries g c =
