@@ -39,6 +39,11 @@ impl Gate for Notes {
         // A call that finds no memory is missed at the end.
         let _ = passes.push(pass);
     }
+
+    // It waits for the lock of its notes.
+    fn holds_back(&self) -> bool {
+        true
+    }
 }
 
 /// Each event looks up an address of its own: its round, thread and number are the digits.

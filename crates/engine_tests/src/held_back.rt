@@ -64,6 +64,10 @@ impl Gate for HeldBack {
             _ => {}
         }
     }
+
+    fn holds_back(&self) -> bool {
+        true
+    }
 }
 
 /// Two scripts with the journals that they have where thread 2 comes first.

@@ -9,6 +9,9 @@ pub trait Gate {
     /// Called before an event with None, and after it with its answer. Rounds, threads and events
     /// count from 1.
     fn pass<R: Wait>(&self, rt: &R, round: u32, thread: u32, event: u32, answer: Option<&Answer>);
+
+    /// Whether it may wait there for other threads. Nobody keeps the turn through such a gate.
+    fn holds_back(&self) -> bool;
 }
 
 /// Lets every event pass.
@@ -24,4 +27,8 @@ impl Gate for NoGate {
         _event: u32,
         _answer: Option<&Answer>,
     ) {}
+
+    fn holds_back(&self) -> bool {
+        false
+    }
 }

@@ -19,6 +19,7 @@ mod shared;
 mod status;
 mod telling;
 mod threads;
+mod turns;
 mod writing;
 
 pub use gate::{Gate, NoGate};

@@ -15,6 +15,7 @@ use crate::gate::Gate;
 use crate::kept::KeptRound;
 use crate::setting::Setting;
 use crate::threads::{PlayedRound, Team, play_threads};
+use crate::turns::Turns;
 use event_script::{Event, Round, Thread};
 use reg_model::NoMemory;
 use registry_core::Registry;
@@ -101,7 +102,12 @@ fn play_round<R: Threads + Wait + Sync, G: Gate + Sync>(
     let NumberedRound { number, threads } = round;
     let gives = gives_of(alloc, threads)?;
     let callers = registry.split_each(alloc, me, &gives)?;
-    let team = Team { registry, callers };
+    let turns = Turns::new();
+    let team = Team {
+        registry,
+        turns: &turns,
+        callers,
+    };
     let played = play_threads(rt, alloc, gate, number, setting, team, threads)?;
     let PlayedRound { kept, callers } = played;
     registry.join_each(me, callers)?;

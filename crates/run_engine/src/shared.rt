@@ -13,6 +13,7 @@ ghost use Rattle.run_engine.specs.Settings.{AreImages, setting_counts};
 ghost use Rattle.run_engine.specs.Shared.{AnswersPlaying, AnswersShared, IsReady};
 
 use crate::setting::Setting;
+use crate::turns::{Turn, Turns};
 use event_script::{Answer, Event, member_of};
 use reg_model::{NoMemory, Place};
 use registry_core::Registry;
@@ -81,6 +82,7 @@ fn fitted(mut trace: Trace) -> Trace
 pub struct SharedPlayer<'a> {
     registry: &'a Registry,
     me: Caller,
+    turn: Turn<'a>,
 }
 
 impl<'a> Model for SharedPlayer<'a> {
@@ -96,13 +98,19 @@ impl<'a> Model for SharedPlayer<'a> {
 }
 
 impl<'a> SharedPlayer<'a> {
-    /// One that plays as this caller.
-    pub fn new(registry: &'a Registry, me: Caller) -> SharedPlayer<'a>
+    /// One that plays as this caller, and takes turns with the others of its round.
+    pub fn new(registry: &'a Registry, turns: &'a Turns, me: Caller) -> SharedPlayer<'a>
         requires table { me.table ≡ registry.now.table }
         requires terms { me.log.terms ≡ registry.now.terms }
         ensures { result ≡ record { registry = registry.now; me = me } }
     {
-        SharedPlayer { registry, me }
+        let turn = Turn::new(turns);
+        SharedPlayer { registry, me, turn }
+    }
+
+    /// This thread's part in the turns of its round.
+    pub fn turn(&self) -> &Turn<'a> {
+        &self.turn
     }
 
     /// The caller.
@@ -137,16 +145,19 @@ impl<'a> SharedPlayer<'a> {
         Ok(match event {
             Event::Register { image } => {
                 let member = member_of(setting.images, image);
-                let answer = self.registry.register(rt, &mut self.me, member);
+                let waits = self.turn.in_call(rt);
+                let answer = self.registry.register_waiting(&waits, &mut self.me, member);
                 Answer::Register { image, answer }
             }
             Event::Deregister { base } => {
-                let answer = self.registry.deregister(rt, &mut self.me, base);
+                let waits = self.turn.in_call(rt);
+                let answer = self.registry.deregister_waiting(&waits, &mut self.me, base);
                 Answer::Deregister { base, answer }
             }
             Event::Replace { image } => {
                 let member = member_of(setting.images, image);
-                let answer = self.registry.replace(rt, &mut self.me, member);
+                let waits = self.turn.in_call(rt);
+                let answer = self.registry.replace_waiting(&waits, &mut self.me, member);
                 Answer::Replace { image, answer }
             }
             Event::Load { image } => {
@@ -159,7 +170,7 @@ impl<'a> SharedPlayer<'a> {
                 Answer::Unload { base, answer }
             }
             Event::Find { pc } => {
-                let place = self.registry.find(rt, &mut self.me, pc);
+                let place = self.find(rt, pc);
                 Answer::Find { pc, place }
             }
             Event::Unwind { snapshot } => {
@@ -206,6 +217,7 @@ impl Finder for SharedPlayer<'_> {
     ghost bound = { λ p. p.me.log.terms.payloads };
 
     fn find<R: Wait>(&mut self, rt: &R, pc: u64) -> Place {
-        self.registry.find(rt, &mut self.me, pc)
+        let waits = self.turn.in_call(rt);
+        self.registry.find_waiting(rt, &waits, &mut self.me, pc)
     }
 }

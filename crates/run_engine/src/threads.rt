@@ -17,6 +17,7 @@ use crate::gate::Gate;
 use crate::kept::{KeptAnswer, KeptThread, keep};
 use crate::setting::Setting;
 use crate::shared::SharedPlayer;
+use crate::turns::Turns;
 use event_script::{Answer, Event, Thread};
 use reg_model::NoMemory;
 use registry_core::Registry;
@@ -40,6 +41,22 @@ struct NumberedEvent {
     thread: ThreadNumber,
     count: u32,
     event: Event,
+}
+
+/// Passes the gate. Nobody keeps the turn through one that may hold threads back.
+#[inline(always)]
+fn pass<R: Wait, G: Gate>(
+    rt: &R,
+    gate: &G,
+    player: &SharedPlayer<'_>,
+    event: &NumberedEvent,
+    answer: Option<&Answer>,
+) {
+    if gate.holds_back() {
+        player.turn().give_back();
+    }
+    let ThreadNumber { round, thread } = event.thread;
+    gate.pass(rt, round, thread, event.count, answer);
 }
 
 /// Plays an event, and keeps of its answer what is needed. That of a lookup, as most events of long
@@ -72,18 +89,17 @@ fn play_one<R: Wait, G: Gate>(
 {
     // The law that this rests on; it takes no step.
     calls_follow();
-    let ThreadNumber { round, thread } = event.thread;
-    gate.pass(rt, round, thread, event.count, None);
+    pass(rt, gate, player, &event, None);
     match event.event {
         Event::Find { pc } => {
             let place = player.find(rt, pc);
             let answer = Answer::Find { pc, place };
-            gate.pass(rt, round, thread, event.count, Some(&answer));
+            pass(rt, gate, player, &event, Some(&answer));
             keep(alloc, setting.images, answer)
         }
         _ => {
             let answer = player.play(rt, alloc, setting, event.event)?;
-            gate.pass(rt, round, thread, event.count, Some(&answer));
+            pass(rt, gate, player, &event, Some(&answer));
             keep(alloc, setting.images, answer)
         }
     }
@@ -93,6 +109,7 @@ fn play_one<R: Wait, G: Gate>(
 #[derive(Drop)]
 pub struct Team<'a> {
     pub registry: &'a Registry,
+    pub turns: &'a Turns,
     pub callers: Vec<Caller>,
 }
 
@@ -145,6 +162,7 @@ fn play_thread<R: Wait, G: Gate>(
         };
         let kept = play_one(rt, alloc, gate, setting, &mut player, event)?;
         answers.push(kept)?;
+        player.turn().end_event();
     }
     let kept = KeptThread { answers };
     let caller = player.into_caller();
@@ -185,6 +203,7 @@ pub fn play_threads<R: Threads + Wait + Sync, G: Gate + Sync>(
     } = setting;
     let Team {
         registry,
+        turns,
         mut callers,
     } = team;
     let [before @ .., thread] = threads else {
@@ -203,7 +222,7 @@ pub fn play_threads<R: Threads + Wait + Sync, G: Gate + Sync>(
     let events: &[Event] = &thread.events;
     if before.is_empty() {
         // Nobody plays beside this one.
-        let player = SharedPlayer::new(registry, me);
+        let player = SharedPlayer::new(registry, turns, me);
         let own = play_thread(rt, alloc, gate, number, setting, player, events)?;
         let mut kept = Vec::new(alloc);
         kept.push(own.kept)?;
@@ -232,7 +251,11 @@ pub fn play_threads<R: Threads + Wait + Sync, G: Gate + Sync>(
                 sections,
                 snapshots,
             };
-            let team = Team { registry, callers };
+            let team = Team {
+                registry,
+                turns,
+                callers,
+            };
             play_threads(rt, alloc, gate, round, setting, team, before)
         },
         || -> Result<PlayedThread, NoMemory>
@@ -255,7 +278,7 @@ pub fn play_threads<R: Threads + Wait + Sync, G: Gate + Sync>(
                 sections,
                 snapshots,
             };
-            let player = SharedPlayer::new(registry, me);
+            let player = SharedPlayer::new(registry, turns, me);
             play_thread(rt, alloc, gate, number, setting, player, events)
         },
     );
