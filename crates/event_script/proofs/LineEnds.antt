@@ -30,9 +30,20 @@ three_before a b c old one two three last middle first =
     first ∙ ap (λ (x : List ℕ). a ++ x) (middle ∙ ap (λ (x : List ℕ). b ++ x) last)
     ∙ sym (append_assoc a b (c ++ old)) ∙ sym (append_assoc (a ++ b) c old)
 
-glue : (number space find pc word image at stamp feed : List ℕ) → (number ++ space) ++ ((find ++ pc) ++ (((space ++ word) ++ image) ++ ((at ++ stamp) ++ feed))) ≡ number ++ space ++ (find ++ pc ++ space ++ (word ++ (image ++ at ++ stamp) ++ [])) ++ feed
-glue number space find pc word image at stamp feed = simp (append_assoc, append-nil)
+-- a line that was spelled in an emptied room, whose three parts say what it says
+pub line_spelled : (number first second third said : List ℕ) (cleared feed one two three whole : List ℕ) → cleared ≡ [] → feed ≡ codes "\n" ++ cleared → one ≡ third ++ feed → two ≡ second ++ one → three ≡ first ++ two → whole ≡ (number ++ codes " ") ++ three → (first ++ second) ++ third ≡ said → whole ≡ number ++ codes " " ++ said ++ codes "\n"
+line_spelled number first second third said cleared feed one two three whole empty end last middle begin numbered says =
+    let ended : feed ≡ codes "\n" = end ∙ ap (λ (x : List ℕ). codes "\n" ++ x) empty in
+    let parts = three_before first second third feed one two three last middle begin in
+    numbered ∙ (ap (λ (x : List ℕ). (number ++ codes " ") ++ x) (parts ∙ (ap (λ (x : List ℕ). x ++ feed) says ∙ ap (λ (x : List ℕ). said ++ x) ended)) ∙ sym (append_assoc (number ++ codes " ") said (codes "\n")))
 
--- the line of an address that a registered image has
-pub registered_before : (number pc image stamp : List ℕ) → (number ++ codes " ") ++ ((codes "find " ++ pc) ++ ((codes " registered " ++ image) ++ ((codes " at " ++ stamp) ++ codes "\n"))) ≡ number ++ codes " " ++ (codes "find " ++ pc ++ codes " " ++ (codes "registered " ++ (image ++ codes " at " ++ stamp) ++ [])) ++ codes "\n"
-registered_before number pc image stamp = glue number (codes " ") (codes "find ") pc (codes "registered ") image (codes " at ") stamp (codes "\n")
+-- what the line of an address that a registered image has says
+pub registered_said : (pc image stamp : List ℕ) → (pc ++ (codes " registered " ++ image)) ++ (codes " at " ++ stamp) ≡ pc ++ codes " " ++ (codes "registered " ++ (image ++ codes " at " ++ stamp) ++ [])
+registered_said pc image stamp = simp (append_assoc, append-nil)
+
+-- what the lines of updates that were made say
+pub registration_said : (image done : List ℕ) → (image ++ (codes " done " ++ done)) ++ [] ≡ image ++ codes " " ++ (codes "done " ++ done)
+registration_said image done = append-nil _ ∙ sym (append_assoc image (codes " ") (codes "done " ++ done))
+
+pub removal_said : (base done image : List ℕ) → (base ++ (codes " done " ++ done)) ++ (codes " image " ++ image) ≡ base ++ codes " " ++ (codes "done " ++ done ++ codes " image " ++ image)
+removal_said base done image = simp (append_assoc)

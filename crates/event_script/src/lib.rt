@@ -21,10 +21,11 @@ pub use members::{member_of, members_of};
 pub use print::fault::print_fault;
 pub use print::journal::{
     EventNumber, line_count, print_answer, print_journal, print_updates, put_end, put_event_line,
-    put_frame, spell_event_line, spell_registered,
+    put_frame, spell_event_line,
 };
 pub use print::line::LineEnd;
 pub use print::script::{print_script, put_event};
+pub use print::usual::{spell_registered, spell_registration, spell_removal};
 pub use reader::fault::Reason;
 pub use reader::fields::place_of;
 pub use reader::numbers::{decimal_in, hex_in};

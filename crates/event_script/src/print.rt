@@ -5,3 +5,4 @@ pub mod journal;
 pub mod line;
 mod numbers;
 pub mod script;
+pub mod usual;

@@ -1,6 +1,6 @@
 //! The text of a journal.
 
-ghost use Rattle.std.specs.Prelude.{◌≡◌, ◌+◌, ◌<◌, ◌≤◌, [], ◌++◌, None, length};
+ghost use Rattle.std.specs.Prelude.{◌≡◌, ◌+◌, ◌<◌, ◌≤◌, [], ◌++◌, length};
 ghost use Rattle.std.specs.Prelude.{slice_index_or, IfOk, OnOk, All, codes, decimal};
 ghost use Rattle.std.specs.String.{string_bytes};
 ghost use Rattle.event_script.specs.Digits.{hex};
@@ -12,9 +12,6 @@ ghost use Rattle.event_script.specs.Text.{answer_line, answer_lines, event_line,
 ghost use Rattle.event_script.specs.Text.{event_number};
 ghost use Rattle.event_script.specs.Text.{answer_text, numbered, thread_text, updates_text};
 ghost use Rattle.event_script.specs.Text.{journal_text};
-ghost use Rattle.event_script.specs.declared.journal.Answer.TheVariants as answer;
-ghost use Rattle.reg_model.specs.SpanData.{SpanData};
-ghost use Rattle.reg_model.specs.declared.answer.Found.TheVariants.{Hit};
 
 use crate::journal::{Answer, Journal};
 use crate::print::line::LineEnd;
@@ -95,25 +92,8 @@ pub fn spell_event_line(end: &mut LineEnd, number: EventNumber, answer: &Answer,
     prepend_number(end, number);
 }
 
-/// Spells the line of a lookup that finds an address in a registered image, as nearly all do.
-pub fn spell_registered(end: &mut LineEnd, number: EventNumber, pc: u64, image: u32, stamp: u32)
-    ensures text { (span : SpanData) → end.new
-        ≡ event_line number.round number.thread number.event (answer_line
-        (answer.Find pc (record {
-          registered = Hit (record { span = span; payload = image }) stamp;
-          loaded = None;
-        }))) }
-{
-    end.clear();
-    end.prepend("\n");
-    prepend_number_after(end, " at ", stamp);
-    prepend_number_after(end, " registered ", image);
-    prepend_address(end, "find ", pc);
-    prepend_number(end, number);
-}
-
 /// Puts an event's number and a space before a line's end.
-fn prepend_number(end: &mut LineEnd, number: EventNumber)
+pub fn prepend_number(end: &mut LineEnd, number: EventNumber)
     requires { 63 + length end.old ≤ 272 }
     ensures { end.new ≡ (event_number number.round number.thread number.event ++ codes " ")
         ++ end.old }
@@ -247,7 +227,7 @@ pub fn put_end(text: &mut String, end: End) -> Result<(), AllocError>
 
 /// Puts a word and an address before a line's end.
 #[inline(always)]
-fn prepend_address(end: &mut LineEnd, word: &str, address: u64)
+pub fn prepend_address(end: &mut LineEnd, word: &str, address: u64)
     requires { length word.now + 16 + length end.old ≤ 272 }
     ensures text { end.new ≡ (word.now ++ hex address) ++ end.old }
     ensures short { length end.new ≤ length word.now + 16 + length end.old }
@@ -258,7 +238,7 @@ fn prepend_address(end: &mut LineEnd, word: &str, address: u64)
 
 /// Puts a word and a number before a line's end.
 #[inline(always)]
-fn prepend_number_after(end: &mut LineEnd, word: &str, number: u32)
+pub fn prepend_number_after(end: &mut LineEnd, word: &str, number: u32)
     requires { length word.now + 20 + length end.old ≤ 272 }
     ensures text { end.new ≡ (word.now ++ decimal number) ++ end.old }
     ensures short { length end.new ≤ length word.now + 20 + length end.old }
