@@ -1,7 +1,7 @@
 //! Writes a journal, a piece for each line.
 
 ghost use Rattle.std.specs.Prelude.{◌≡◌, ◌≢◌, ◌<◌, [], length, map, slice_index_or};
-ghost use Rattle.std.specs.Prelude.{OnOk, OnErr, Err};
+ghost use Rattle.std.specs.Prelude.{IsTrue, OnOk, OnErr, Err};
 ghost use Rattle.event_script.specs.Text.{IsPrintable, numbered, answer_text, thread_text};
 ghost use Rattle.event_script.specs.Text.{round_text};
 ghost use Rattle.event_script.specs.Text.{journal_text, answer_lines, event_line};
@@ -14,7 +14,7 @@ ghost use Rattle.run_engine.specs.Kept.{rounds_told, journal_told};
 use crate::kept::{KeptAnswer, KeptJournal, KeptRound, KeptThread, tell_short};
 use event_script::{
     Answer, Event, EventNumber, Journal, LineEnd, Round, Script, Thread, line_count, print_updates,
-    spell_event_line, spell_registered,
+    spell_event_line, spell_registered, spell_registration, spell_removal,
 };
 use reg_model::Span;
 use run_ports::{Sink, SinkFault, write_lines, write_piece};
@@ -83,8 +83,32 @@ struct KeptEvent<'a> {
     kept: &'a KeptAnswer,
 }
 
-/// Writes the lines of an event. A short form is told again for them, but of a lookup that found a
-/// registered image, as most did.
+/// Spells the line of an event that most are: a lookup that found a registered image, or a
+/// registration or a removal that was made. False for any other.
+#[inline(always)]
+fn spell_usual(room: &mut LineEnd, event_number: EventNumber, event: &KeptEvent<'_>) -> bool
+    ensures { IsTrue result → room.new
+        ≡ answer_text event_number.round event_number.thread event_number.event
+        (told event.now.images.now event.now.event event.now.kept.now) }
+{
+    match (event.event, event.kept) {
+        (Event::Find { pc }, KeptAnswer::Registered { image, stamp }) => {
+            spell_registered(room, event_number, pc, *image, *stamp);
+            true
+        }
+        (Event::Register { image }, KeptAnswer::Done { number }) => {
+            spell_registration(room, event_number, image, *number);
+            true
+        }
+        (Event::Deregister { base }, KeptAnswer::DoneWith { number, image }) => {
+            spell_removal(room, event_number, base, *image, *number);
+            true
+        }
+        _ => false,
+    }
+}
+
+/// Writes the lines of an event. A short form is told again for them where few events are so.
 fn write_event<K: Sink>(
     room: &mut LineEnd,
     sink: &mut K,
@@ -105,11 +129,8 @@ fn write_event<K: Sink>(
     ensures failed { result ≡ Err SinkFault.Failed → Rose (K.faults sink.old) (K.faults sink.new) }
     ensures sound { result ≢ Err SinkFault.Failed → K.faults sink.new ≡ K.faults sink.old }
 {
-    if let KeptAnswer::Registered { image, stamp } = event.kept {
-        if let Event::Find { pc } = event.event {
-            spell_registered(room, number, pc, *image, *stamp);
-            return write_piece(sink, room.as_str().as_bytes());
-        }
+    if spell_usual(room, number, &event) {
+        return write_piece(sink, room.as_str().as_bytes());
     }
     match event.kept {
         KeptAnswer::Whole { answer } => write_answer(room, sink, number, answer),

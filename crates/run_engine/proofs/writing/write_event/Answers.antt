@@ -1,5 +1,4 @@
-use Rattle.std.proofs.Common.{◌≡◌, ℕ, List, OnErr, OnOk, ap, append-nil, subst, sym, ◌∙◌}
-use Rattle.event_script.specs.ScriptData.{span_of}
+use Rattle.std.proofs.Common.{◌≡◌, ℕ, List, OnErr, OnOk, ap, refl, subst, sym, ◌∙◌}
 use Rattle.event_script.specs.Text.{answer_text}
 use Rattle.event_script.specs.declared.journal.Answer.{Answer}
 use Rattle.run_ports.specs.Ports.{Gains, GainsPart}
@@ -14,32 +13,25 @@ returns-in-Whole-clause-err g c =
     let P : Answer → Type 0 = λ answer. OnErr c.write_answer.result (GainsPart (g.K.Sink.written c.args.sink.now) (g.K.Sink.written c.write_answer.new.sink) (answer_text number.round number.thread number.event answer)) in
     subst P (sym tells) c.write_answer.ensures.err
 
-pub returns-in_default-kept : goal.returns-in_default-kept
-returns-in_default-kept g c =
+pub returns-in_default : goal.returns-in_default
+returns-in_default g c =
     let number = c.args.number in
-    let tells : told c.args.event.images.now c.args.event.event c.args.event.kept.now ≡ c.tell_short-told.result = short_is c.args.event.images.now c.args.event.event c.args.event.kept.now c.in_default-kept.not-Whole ∙ sym c.tell_short-told.ensures in
-    let P : Answer → Type 0 = λ answer. OnOk c.write_answer-in_default-kept.result (Gains (g.K.Sink.written c.args.sink.now) (g.K.Sink.written c.write_answer-in_default-kept.new.sink) (answer_text number.round number.thread number.event answer)) in
-    let Q : Answer → Type 0 = λ answer. OnErr c.write_answer-in_default-kept.result (GainsPart (g.K.Sink.written c.args.sink.now) (g.K.Sink.written c.write_answer-in_default-kept.new.sink) (answer_text number.round number.thread number.event answer)) in
+    let tells : told c.args.event.images.now c.args.event.event c.args.event.kept.now ≡ c.tell_short-told.result = short_is c.args.event.images.now c.args.event.event c.args.event.kept.now c.in_default.not-Whole ∙ sym c.tell_short-told.ensures in
+    let P : Answer → Type 0 = λ answer. OnOk c.write_answer-in_default.result (Gains (g.K.Sink.written c.args.sink.now) (g.K.Sink.written c.write_answer-in_default.new.sink) (answer_text number.round number.thread number.event answer)) in
+    let Q : Answer → Type 0 = λ answer. OnErr c.write_answer-in_default.result (GainsPart (g.K.Sink.written c.args.sink.now) (g.K.Sink.written c.write_answer-in_default.new.sink) (answer_text number.round number.thread number.event answer)) in
     record {
-      goes_on = c.write_answer-in_default-kept.ensures.goes_on;
-      ok = subst P (sym tells) c.write_answer-in_default-kept.ensures.ok;
-      err = subst Q (sym tells) c.write_answer-in_default-kept.ensures.err;
-      failed = c.write_answer-in_default-kept.ensures.failed;
-      sound = c.write_answer-in_default-kept.ensures.sound;
+      goes_on = c.write_answer-in_default.ensures.goes_on;
+      ok = subst P (sym tells) c.write_answer-in_default.ensures.ok;
+      err = subst Q (sym tells) c.write_answer-in_default.ensures.err;
+      failed = c.write_answer-in_default.ensures.failed;
+      sound = c.write_answer-in_default.ensures.sound;
     }
 
-pub returns-in-Find : goal.returns-in-Find
-returns-in-Find g c =
+pub returns-then-spell_usual-clause-err : goal.returns-then-spell_usual-clause-err
+returns-then-spell_usual-clause-err g c =
     let number = c.args.number in
     let text = answer_text number.round number.thread number.event (told c.args.event.images.now c.args.event.event c.args.event.kept.now) in
-    let spelled : c.spell_registered.new.end ≡ text = rw (c.in-Registered.is, c.in-Find.is) (c.spell_registered.ensures.text (span_of c.args.event.images.now c.in-Registered.image) ∙ sym (append-nil _)) in
+    let spelled : c.spell_usual.new.room ≡ text = c.if-spell_usual.ensures refl in
     let whole : c.as_bytes.result.now ≡ text = c.as_bytes.ensures.value ∙ (c.as_str.ensures ∙ spelled) in
-    let P : List ℕ → Type 0 = λ line. OnOk c.write_piece.result (Gains (g.K.Sink.written c.args.sink.now) (g.K.Sink.written c.write_piece.new.sink) line) in
     let Q : List ℕ → Type 0 = λ line. OnErr c.write_piece.result (GainsPart (g.K.Sink.written c.args.sink.now) (g.K.Sink.written c.write_piece.new.sink) line) in
-    record {
-      goes_on = c.write_piece.ensures.goes_on;
-      ok = subst P whole c.write_piece.ensures.ok;
-      err = subst Q whole c.write_piece.ensures.err;
-      failed = c.write_piece.ensures.failed;
-      sound = c.write_piece.ensures.sound;
-    }
+    subst Q whole c.write_piece.ensures.err
