@@ -234,6 +234,24 @@ pub fn keep(alloc: Global, images: &[Span], answer: Answer) -> Result<KeptAnswer
     }
 }
 
+/// Keeps of a place what a lookup of the address and the images don't tell.
+#[inline(always)]
+pub fn keep_place(
+    alloc: Global,
+    images: &[Span],
+    pc: u64,
+    place: &Place,
+) -> Result<KeptAnswer, NoMemory>
+    ensures { IfOk result (λ kept. told images.now (event.Find pc) kept ≡ given.Find pc place.now) }
+{
+    match short_of_place(images, place) {
+        Some(kept) => Ok(kept),
+        None => Ok(KeptAnswer::Whole {
+            answer: Box::new(alloc, Answer::Find { pc, place: *place })?,
+        }),
+    }
+}
+
 /// The member that is meant by a number, also where no image has it.
 fn member_at(images: &[Span], image: u32) -> Member
     ensures { result ≡ image_member images.now image }

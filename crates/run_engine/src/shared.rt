@@ -121,6 +121,7 @@ impl<'a> SharedPlayer<'a> {
     }
 
     /// Plays one event.
+    #[inline(always)]
     pub fn play<R: Wait>(
         &mut self,
         rt: &R,

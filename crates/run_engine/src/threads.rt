@@ -14,7 +14,7 @@ ghost use Rattle.run_engine.specs.Settings.{AreImages, setting_counts};
 ghost use Rattle.run_engine.specs.Shared.{AreManned, IsReady};
 
 use crate::gate::Gate;
-use crate::kept::{KeptAnswer, KeptThread, keep};
+use crate::kept::{KeptAnswer, KeptThread, keep, keep_place};
 use crate::setting::Setting;
 use crate::shared::SharedPlayer;
 use crate::turns::Turns;
@@ -95,7 +95,7 @@ fn play_one<R: Wait, G: Gate>(
             let place = player.find(rt, pc);
             let answer = Answer::Find { pc, place };
             pass(rt, gate, player, &event, Some(&answer));
-            keep(alloc, setting.images, answer)
+            keep_place(alloc, setting.images, pc, &place)
         }
         _ => {
             let answer = player.play(rt, alloc, setting, event.event)?;

@@ -21,10 +21,10 @@ returns-in-Find g c =
     let answered = c.calls_follow.ensures.chain _ _ _ asked.answered.1.calls in
     let P : Answer → Type 0 = λ answer. Chain Receives c.args.player.now.me (receipts_of images answer) c.find-place.new.self.me in
     record {
-      right = IfOk-weaker c.keep.result _ _ (λ kept tells. kept_right images setting.sections.now setting.snapshots.now happens answer kept right tells asked.halves) c.keep.ensures;
-      calls = IfOk-weaker c.keep.result _ _ (λ kept tells. subst P (sym (told_is images setting.sections.now setting.snapshots.now happens answer kept right tells)) asked.answered.1.calls) c.keep.ensures;
-      left = IfOk-weaker c.keep.result _ _ (λ kept tells. event_left images happens answer _ _ right.0 answered) c.keep.ensures;
-      ready = IfOk-weaker c.keep.result _ _ (λ kept tells. still_ready _ c.args.player.now.registry c.find-place.new.self.registry _ c.args.player.now.me c.find-place.new.self.me asked.answered.0 answered c.requires.ready) c.keep.ensures;
+      right = IfOk-weaker c.keep_place.result _ _ (λ kept tells. kept_right images setting.sections.now setting.snapshots.now happens answer kept right tells asked.halves) c.keep_place.ensures;
+      calls = IfOk-weaker c.keep_place.result _ _ (λ kept tells. subst P (sym (told_is images setting.sections.now setting.snapshots.now happens answer kept right tells)) asked.answered.1.calls) c.keep_place.ensures;
+      left = IfOk-weaker c.keep_place.result _ _ (λ kept tells. event_left images happens answer _ _ right.0 answered) c.keep_place.ensures;
+      ready = IfOk-weaker c.keep_place.result _ _ (λ kept tells. still_ready _ c.args.player.now.registry c.find-place.new.self.registry _ c.args.player.now.me c.find-place.new.self.me asked.answered.0 answered c.requires.ready) c.keep_place.ensures;
     }
 
 pub returns-in_ok-answer-in_default : goal.returns-in_ok-answer-in_default
@@ -37,8 +37,8 @@ returns-in_ok-answer-in_default g c =
     let answered = c.calls_follow.ensures.chain _ _ _ a.calls in
     let P : Answer → Type 0 = λ answer. Chain Receives c.args.player.now.me (receipts_of images answer) c.play.new.self.me in
     record {
-      right = IfOk-weaker c.keep-in_default.result _ _ (λ kept tells. kept_right images setting.sections.now setting.snapshots.now happens answer kept a.answered tells a.printable) c.keep-in_default.ensures;
-      calls = IfOk-weaker c.keep-in_default.result _ _ (λ kept tells. subst P (sym (told_is images setting.sections.now setting.snapshots.now happens answer kept a.answered tells)) a.calls) c.keep-in_default.ensures;
-      left = IfOk-weaker c.keep-in_default.result _ _ (λ kept tells. event_left images happens answer _ _ a.answered.0 answered) c.keep-in_default.ensures;
-      ready = IfOk-weaker c.keep-in_default.result _ _ (λ kept tells. still_ready _ c.args.player.now.registry c.play.new.self.registry _ c.args.player.now.me c.play.new.self.me a.registry answered c.requires.ready) c.keep-in_default.ensures;
+      right = IfOk-weaker c.keep.result _ _ (λ kept tells. kept_right images setting.sections.now setting.snapshots.now happens answer kept a.answered tells a.printable) c.keep.ensures;
+      calls = IfOk-weaker c.keep.result _ _ (λ kept tells. subst P (sym (told_is images setting.sections.now setting.snapshots.now happens answer kept a.answered tells)) a.calls) c.keep.ensures;
+      left = IfOk-weaker c.keep.result _ _ (λ kept tells. event_left images happens answer _ _ a.answered.0 answered) c.keep.ensures;
+      ready = IfOk-weaker c.keep.result _ _ (λ kept tells. still_ready _ c.args.player.now.registry c.play.new.self.registry _ c.args.player.now.me c.play.new.self.me a.registry answered c.requires.ready) c.keep.ensures;
     }
