@@ -6,7 +6,7 @@ use Rattle.std.proofs.lemmas.List.Elements.{All-weaker}
 use Rattle.std.proofs.lemmas.List.Sums.{count_by-le-length, length-filter, sum_by-cons, sum_by-le-sum_by}
 use Rattle.reg_model.specs.SpanData.{SpanData, is_same_span}
 use Rattle.reg_model.specs.State.{State}
-use Rattle.reg_model.specs.History.{after, state_after}
+use Rattle.reg_model.specs.History.{after, state_after, state_at}
 use Rattle.reg_model.specs.Chain.{made_count}
 use Rattle.reg_model.specs.Receipt.{AllHold, AreInOrder, HadRegistered, WasFilled, accepted, moment}
 use Rattle.reg_model.specs.declared.span.Member.{Member}
@@ -25,7 +25,7 @@ use Rattle.event_script.specs.JournalData.{JournalData}
 use Rattle.event_script.specs.Lawful.{AnswersEvent, RoundsHold, done_after, in_one, receipts_of, start_of, thread_receipts}
 use Rattle.event_script.specs.declared.script.Event.{Event}
 use Rattle.event_script.specs.declared.journal.Answer.{Answer}
-use Rattle.run_engine.specs.Nodes.{AreEnough, callers_asked, updates_asked}
+use Rattle.run_engine.specs.Nodes.{AreEnough, callers_asked, members_asked, updates_asked}
 use Rattle.run_engine.specs.Played.{updates_in, updates_of}
 use Rattle.run_engine.proofs.Lists.{AllZip-length}
 use Rattle.run_engine.proofs.Sharing.{event_updates}
@@ -47,13 +47,18 @@ registered_most : (history : List Update) (s : State) → length (state_after s 
 registered_most [] s = omega arith
 registered_most (u ∷ history) s = (let here = once_more u s in let rest = registered_most history (after u s) in omega (arith, here, rest))
 
-module _ (start : State) (none : length start.registered ≡ 0) (history : List Update) where
+most_at : (start : State) (history : List Update) (j : ℕ) → length start.registered ≡ 0 → length (state_at start history j).registered ≤ length history
+most_at start history j none =
+    let most = registered_most (take j history) start in
+    let front = length-take j history in
+    omega (arith, most, front, none)
+
+module _ (start : State) (history : List Update) (members : ℕ) (few_members : (j : ℕ) → length (state_at start history j).registered ≤ members) where
   -- more than that were never registered, so any number may be said of them
-  never : (least other since : ℕ) (r : Receipt) → length history < least → HadRegistered least start history since r → HadRegistered other start history since r
+  never : (least other since : ℕ) (r : Receipt) → members < least → HadRegistered least start history since r → HadRegistered other start history since r
   never least other since (receipt.Register m (inserted.Full stamp)) above (j, _, _, many) =
-      let most = registered_most (take j history) start in
-      let front = length-take j history in
-      absurd (omega (arith, above, many, most, front, none))
+      let few = few_members j in
+      absurd (omega (arith, above, many, few))
   never least other since (receipt.Register m (inserted.Done number)) above had = tt
   never least other since (receipt.Register m (inserted.Overlap found stamp)) above had = tt
   never least other since (receipt.Register m inserted.Spent) above had = tt
@@ -64,7 +69,7 @@ module _ (start : State) (none : length start.registered ≡ 0) (history : List 
   never least other since (receipt.Query half pc found) above had = tt
 
   -- of so few nodes, with so many callers at the most, what a Full says is never so
-  module _ (nodes others most : ℕ) (enough : length history + 2 < 2 * (nodes - 4 * most)) where
+  module _ (nodes others most : ℕ) (enough : members + 2 < 2 * (nodes - 4 * most)) where
     filled_of_others : (callers since : ℕ) (r : Receipt) → callers ≤ most → WasFilled start history nodes callers since r → WasFilled start history others callers since r
     filled_of_others callers since r few filled = record {
       ten = filled.ten;
@@ -129,15 +134,15 @@ made_beside R asked told each (a ∷ xs) (b ∷ ys) all =
 made_beside R asked told each [] (b ∷ ys) all = absurd all
 made_beside R asked told each (a ∷ xs) [] all = absurd all
 
-joined_map : {A B : Type 0} (f : A → B) (told : B → List Receipt) (xs : List A) → flat_map told (map f xs) ≡ flat_map (λ a. told (f a)) xs
+pub joined_map : {A B : Type 0} (f : A → B) (told : B → List Receipt) (xs : List A) → flat_map told (map f xs) ≡ flat_map (λ a. told (f a)) xs
 joined_map f told [] = refl
 joined_map f told (a ∷ xs) = ap (λ rest. told (f a) ++ rest) (joined_map f told xs)
 
 module _ (images : List SpanData) where
-  abbrev of_thread : List Answer → List Receipt
+  abbrev pub of_thread : List Answer → List Receipt
   of_thread answers = flat_map (receipts_of images) answers
 
-  abbrev of_round : List (List Answer) → List Receipt
+  abbrev pub of_round : List (List Answer) → List Receipt
   of_round round = flat_map (λ receipts. receipts) (map of_thread round)
 
   thread_made : (events : List Event) (answers : List Answer) → AllZip AnswersEvent events answers → made_count (of_thread answers) ≤ updates_in events
@@ -162,10 +167,12 @@ module _ (images : List SpanData) where
   threads_told [] (round ∷ answers) all = absurd all
   threads_told (threads ∷ rounds) [] all = absurd all
 
--- what holds of a registry with enough nodes holds of one with all that the script may have
-pub enough_hold : (script : ScriptData) (journal : JournalData) (nodes : ℕ) (history : List Update) → AreEnough script nodes → AllZip (AllZip (AllZip AnswersEvent)) script.rounds journal.rounds → length history ≡ made_count (in_one (thread_receipts script.images journal)) → RoundsHold (start_of script) history nodes 1 0 (thread_receipts script.images journal) → RoundsHold (start_of script) history script.nodes 1 0 (thread_receipts script.images journal)
-enough_hold script journal nodes history (inl same) answered count holds = subst (λ n. RoundsHold (start_of script) history n 1 0 (thread_receipts script.images journal)) same holds
-enough_hold script journal nodes history (inr enough) answered count holds =
+-- What holds of a registry with enough nodes holds of one with all that the script may have, where no more members are
+-- ever registered than there are images.
+pub enough_hold : (script : ScriptData) (journal : JournalData) (nodes : ℕ) (history : List Update) → AreEnough script nodes → AllZip (AllZip (AllZip AnswersEvent)) script.rounds journal.rounds → ((j : ℕ) → length (state_at (start_of script) history j).registered ≤ length script.images) → length history ≡ made_count (in_one (thread_receipts script.images journal)) → RoundsHold (start_of script) history nodes 1 0 (thread_receipts script.images journal) → RoundsHold (start_of script) history script.nodes 1 0 (thread_receipts script.images journal)
+enough_hold script journal nodes history (inl same) answered images count holds = subst (λ n. RoundsHold (start_of script) history n 1 0 (thread_receipts script.images journal)) same holds
+enough_hold script journal nodes history (inr enough) answered images count holds =
     let made = rounds_made script.images script.rounds journal.rounds answered in
     let told = threads_told script.images script.rounds journal.rounds answered in
-    rounds_of_others (start_of script) refl history nodes script.nodes (callers_asked script.rounds) (omega (arith, enough, count, made)) 1 0 (thread_receipts script.images journal) (omega (arith, told)) holds
+    let few : (j : ℕ) → length (state_at (start_of script) history j).registered ≤ members_asked script.rounds (length script.images) = λ j. (let most = most_at (start_of script) history j refl in let image = images j in omega (arith, most, image, count, made)) in
+    rounds_of_others (start_of script) history (members_asked script.rounds (length script.images)) few nodes script.nodes (callers_asked script.rounds) enough 1 0 (thread_receipts script.images journal) (omega (arith, told)) holds

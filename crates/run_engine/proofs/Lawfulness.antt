@@ -1,5 +1,5 @@
 -- What is a lawful journal: records that hold, in any order.
-use Rattle.std.proofs.Common.{◌≡◌, ℕ, ◌+◌, List, [], ◌∷◌, length, sym, ◌∙◌, ap, subst, max}
+use Rattle.std.proofs.Common.{◌≡◌, ℕ, ◌+◌, List, [], ◌∷◌, length, sym, ◌∙◌, ap, max}
 use Rattle.std.specs.List.{All, AllByRecursion, AllZip, flat_map}
 use Rattle.std.proofs.lemmas.List.Elements.{All-head, All-tail}
 use Rattle.reg_model.specs.State.{State}
@@ -35,21 +35,20 @@ threads_at start history nodes callers since (receipts ∷ threads) holds =
     (record_at start history nodes callers since receipts (All-head Record receipts threads holds).0)
     (threads_at start history nodes callers since threads (All-tail Record receipts threads holds))
 
-rounds_at : (start : State) (history : List Update) (nodes callers done : ℕ) (rounds : List (List (List Receipt))) → RoundsHold start history nodes callers done rounds → AllByRecursion (IsAtNumber history) (in_one rounds)
+pub rounds_at : (start : State) (history : List Update) (nodes callers done : ℕ) (rounds : List (List (List Receipt))) → RoundsHold start history nodes callers done rounds → AllByRecursion (IsAtNumber history) (in_one rounds)
 rounds_at start history nodes callers done [] holds = tt
 rounds_at start history nodes callers done (round ∷ rounds) holds =
     all_append (IsAtNumber history) (of_round round) (in_one rounds)
     (threads_at start history nodes (callers + length round) done round holds.0)
     (rounds_at start history nodes (callers + length round) (done_after done round) rounds holds.1)
 
--- Where every event is answered, there is one history with each number on one receipt, each thread's record holds in it, and
--- the rounds keep their bounds, the journal is lawful. Nothing is asked of the order in which the calls were made.
-pub records_lawful : ((history : List Update) (receipts : List Receipt) → AllByRecursion (IsAtNumber history) receipts → AreNumbered (length history) receipts → history_of receipts (length history) ≡ history) → (script : ScriptData) (journal : JournalData) (history : List Update) → AllZip (AllZip (AllZip AnswersEvent)) script.rounds journal.rounds → length history ≡ journal.updates → IsHistory (start_of script) history → AreNumbered journal.updates (in_one (thread_receipts script.images journal)) → RoundsHold (start_of script) history script.nodes 1 0 (thread_receipts script.images journal) → AreInRounds 0 (thread_receipts script.images journal) → All (All (All (IsUnfolded script.sections script.snapshots))) journal.rounds → IsLawfulJournal script journal
-records_lawful tell script journal history answered count is numbered holds rounds unfolded =
+-- Where every event is answered, there is one history with each number on one receipt, which the receipts tell, each
+-- thread's record holds in it, and the rounds keep their bounds, the journal is lawful. Nothing is asked of the order in
+-- which the calls were made.
+pub records_lawful : (script : ScriptData) (journal : JournalData) (history : List Update) → AllZip (AllZip (AllZip AnswersEvent)) script.rounds journal.rounds → length history ≡ journal.updates → IsHistory (start_of script) history → AreNumbered journal.updates (in_one (thread_receipts script.images journal)) → history_of (in_one (thread_receipts script.images journal)) (length history) ≡ history → RoundsHold (start_of script) history script.nodes 1 0 (thread_receipts script.images journal) → AreInRounds 0 (thread_receipts script.images journal) → All (All (All (IsUnfolded script.sections script.snapshots))) journal.rounds → IsLawfulJournal script journal
+records_lawful script journal history answered count is numbered tells holds rounds unfolded =
     let receipts = in_one (thread_receipts script.images journal) in
-    let P : ℕ → Type 0 = λ n. AreNumbered n receipts in
-    let told : history_of receipts journal.updates ≡ history =
-    ap (history_of receipts) (sym count) ∙ tell history receipts (rounds_at (start_of script) history script.nodes 1 0 (thread_receipts script.images journal) holds) (subst P (sym count) numbered) in
+    let told : history_of receipts journal.updates ≡ history = ap (history_of receipts) (sym count) ∙ tells in
     record {
       answered = answered;
       numbered = numbered;

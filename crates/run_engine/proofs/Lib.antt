@@ -11,4 +11,6 @@ pub mod Lawfulness
 pub mod Endings
 pub mod Countable
 pub mod EnoughNodes
+pub mod FewMembers
+pub mod NamedImages
 pub mod NodeCounts

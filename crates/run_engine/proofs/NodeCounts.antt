@@ -57,9 +57,9 @@ pub rounds_are_few : (counts : Counts) (rounds : List (List (List Event))) → A
 rounds_are_few counts rounds all = All-weaker (IsRound counts) IsFew (λ threads is. (is.0, All-weaker (IsThread counts) (λ (events : List Event). length events ≤ 4096) (λ events thread. thread.0) threads is.1)) rounds all
 
 -- the lesser of what is asked for and of the most
-pub enough_or_most : (most asked_callers asked_updates callers updates n : ℕ) → callers ≡ asked_callers → updates ≡ asked_updates → n ≡ min most (4 * callers + updates / 2 + 2) → (n ≡ most) ⊎ (asked_updates + 2 < 2 * (n - 4 * asked_callers))
-enough_or_most most asked_callers asked_updates callers updates n called asked is = by (cases_lt most (4 * callers + updates / 2 + 2))
+pub enough_or_most : (most asked_callers asked_updates callers updates images n : ℕ) → callers ≡ asked_callers → updates ≡ asked_updates → n ≡ min most (4 * callers + min updates images / 2 + 2) → (n ≡ most) ⊎ (min asked_updates images + 2 < 2 * (n - 4 * asked_callers))
+enough_or_most most asked_callers asked_updates callers updates images n called asked is = by (cases_lt most (4 * callers + min updates images / 2 + 2))
   where
-    by : (most < 4 * callers + updates / 2 + 2) ⊎ (4 * callers + updates / 2 + 2 ≤ most) → (n ≡ most) ⊎ (asked_updates + 2 < 2 * (n - 4 * asked_callers))
+    by : (most < 4 * callers + min updates images / 2 + 2) ⊎ (4 * callers + min updates images / 2 + 2 ≤ most) → (n ≡ most) ⊎ (min asked_updates images + 2 < 2 * (n - 4 * asked_callers))
     by (inl less) = inl (omega (arith, is, less))
     by (inr more) = inr (omega (arith, is, more, called, asked))

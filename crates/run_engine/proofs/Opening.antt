@@ -13,7 +13,7 @@ module _ (images : List SpanData) (spans : All IsSpan images) where
   abbrev IsNamed : ℕ → Type 0
   IsNamed image = image < length images
 
-  span_is : (image : ℕ) → IsNamed image → IsSpan (span_of images image)
+  pub span_is : (image : ℕ) → IsNamed image → IsSpan (span_of images image)
   span_is image named =
       let nowhere : SpanData = record { first = 0; last = 0 } in
       subst IsSpan (sym (unwrap_or-slice_get images image nowhere)) (spans image nowhere named)

@@ -1,5 +1,5 @@
 -- How many nodes the registry of a script takes.
-use Rattle.std.specs.Prelude.{◌≡◌, ◌⊎◌, ℕ, ◌+◌, ◌*◌, ◌-◌, ◌<◌, ◌≤◌, List, length, All}
+use Rattle.std.specs.Prelude.{◌≡◌, ◌⊎◌, ℕ, ◌+◌, ◌*◌, ◌-◌, ◌<◌, ◌≤◌, List, length, All, min}
 use Rattle.std.specs.List.{sum_by}
 use Rattle.event_script.specs.ScriptData.{ScriptData}
 use Rattle.event_script.specs.declared.script.Event.{Event}
@@ -19,8 +19,14 @@ updates_asked rounds = sum_by (λ threads. sum_by updates_in threads) rounds
 abbrev pub callers_asked : List (List (List Event)) → ℕ
 callers_asked rounds = 1 + sum_by (λ threads. length threads) rounds
 
--- All nodes that the script may have, or so many that its tree is never full: no more members are
--- registered than updates were made, and each node has two but the four that a caller may have out.
+-- No more members are ever registered than updates were made, nor than there are images: they are
+-- disjoint, and each has the span of an image.
+abbrev pub members_asked : List (List (List Event)) → ℕ → ℕ
+members_asked rounds images = min (updates_asked rounds) images
+
+-- All nodes that the script may have, or so many that its tree is never full: each node has two
+-- members but the four that a caller may have out.
 abbrev pub AreEnough : ScriptData → ℕ → Type 0
 AreEnough script nodes = (nodes ≡ script.nodes)
-    ⊎ (updates_asked script.rounds + 2 < 2 * (nodes - 4 * callers_asked script.rounds))
+    ⊎ (members_asked script.rounds (length script.images) + 2
+    < 2 * (nodes - 4 * callers_asked script.rounds))

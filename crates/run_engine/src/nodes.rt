@@ -1,11 +1,11 @@
-//! How many nodes the registry of a script takes: no more than its updates can fill, so that a
-//! short script doesn't pay for the most that it may have.
+//! How many nodes the registry of a script takes: no more than its updates or its images can fill,
+//! so that a small script doesn't pay for the most that it may have.
 
 ghost use Rattle.std.specs.Prelude.{◌≡◌, ◌⊎◌, ◌+◌, ◌-◌, ◌*◌, ◌<◌, ◌≤◌, length, All};
 ghost use Rattle.std.specs.List.{sum_by};
 ghost use Rattle.event_script.specs.declared.limits.TheConstants.{LEAST_NODES, MOST_NODES};
 ghost use Rattle.event_script.specs.declared.limits.TheConstants.{MOST_ROUNDS};
-ghost use Rattle.run_engine.specs.Nodes.{IsFew, callers_asked, updates_asked};
+ghost use Rattle.run_engine.specs.Nodes.{IsFew, callers_asked, members_asked};
 ghost use Rattle.run_engine.specs.Played.{updates_in};
 
 use crate::rounds::updates_in;
@@ -23,13 +23,14 @@ fn updates_in_round(threads: &[Thread]) -> u32
     count
 }
 
-/// Of the nodes that a script may have as many as the events of its rounds can fill.
-pub fn nodes_for(most: u32, rounds: &[Round]) -> u32
+/// Of the nodes that a script may have as many as its members can fill: no more are ever registered
+/// than there are updates, nor than there are images.
+pub fn nodes_for(most: u32, images: u32, rounds: &[Round]) -> u32
     requires nodes { (LEAST_NODES ≤ most) × (most ≤ MOST_NODES) }
     requires few { (length rounds.now ≤ MOST_ROUNDS) × All IsFew rounds.now }
     ensures bounds { (LEAST_NODES ≤ result) × (result ≤ most) }
     ensures enough { (result ≡ most)
-        ⊎ (updates_asked rounds.now + 2 < 2 * (result - 4 * callers_asked rounds.now)) }
+        ⊎ (members_asked rounds.now images + 2 < 2 * (result - 4 * callers_asked rounds.now)) }
 {
     let mut callers = 1;
     let mut updates = 0;
@@ -37,5 +38,6 @@ pub fn nodes_for(most: u32, rounds: &[Round]) -> u32
         callers += round.threads.len() as u32;
         updates += updates_in_round(&round.threads);
     }
-    most.min(4 * callers + updates / 2 + 2)
+    let members = updates.min(images);
+    most.min(4 * callers + members / 2 + 2)
 }

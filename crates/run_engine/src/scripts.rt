@@ -105,7 +105,7 @@ pub fn play_kept<R: Threads + Wait + Sync, G: Gate + Sync>(
 {
     let fixed = members_of(alloc, &script.images, &script.fixed)?;
     let images = script.images.len() as u32;
-    let nodes = nodes_for(script.nodes, &script.rounds);
+    let nodes = nodes_for(script.nodes, images, &script.rounds);
     let (registry, mut me) = Registry::new(alloc, nodes, script.loads, images, fixed)?;
     run_kept(rt, alloc, gate, script, &registry, &mut me)
 }

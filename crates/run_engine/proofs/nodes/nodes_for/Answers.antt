@@ -1,4 +1,4 @@
-use Rattle.std.proofs.Common.{ap, ◌∙◌, arith}
+use Rattle.std.proofs.Common.{◌+◌, ◌*◌, ◌/◌, min, ap, ◌∙◌, arith}
 use Rattle.std.proofs.lemmas.List.{take_all}
 use Rattle.run_engine.specs.Nodes.{callers_asked, updates_asked}
 use Rattle.run_engine.proofs.NodeCounts.{callers_few, callers_next, callers_within, enough_or_most, few_here, updates_few, updates_next, updates_within}
@@ -56,7 +56,8 @@ overflow_add-callers-2 c =
     let asked = c.loop-round.invariant.updates ∙ ap updates_asked all in
     let callers = callers_few c.args.rounds.now c.requires.few.0 c.requires.few.1 in
     let updates = updates_few c.args.rounds.now c.requires.few.0 c.requires.few.1 in
-    omega (arith, called, asked, callers, updates)
+    let members = c.min-members.ensures in
+    omega (arith, called, asked, callers, updates, members)
 
 pub overflow_add-callers-3 : goal.overflow_add-callers-3
 overflow_add-callers-3 c =
@@ -65,7 +66,8 @@ overflow_add-callers-3 c =
     let asked = c.loop-round.invariant.updates ∙ ap updates_asked all in
     let callers = callers_few c.args.rounds.now c.requires.few.0 c.requires.few.1 in
     let updates = updates_few c.args.rounds.now c.requires.few.0 c.requires.few.1 in
-    omega (arith, called, asked, callers, updates)
+    let members = c.min-members.ensures in
+    omega (arith, called, asked, callers, updates, members)
 
 pub returns-clause-bounds : goal.returns-clause-bounds
 returns-clause-bounds c =
@@ -78,4 +80,4 @@ returns-clause-bounds c =
 pub returns-clause-enough : goal.returns-clause-enough
 returns-clause-enough c =
     let all = take_all c.loop-round.round-index c.args.rounds.now (let end = c.loop-round-test.false in omega (arith, end)) in
-    enough_or_most c.args.most (callers_asked c.args.rounds.now) (updates_asked c.args.rounds.now) c.loop-round.callers c.loop-round.updates c.min.result (c.loop-round.invariant.callers ∙ ap callers_asked all) (c.loop-round.invariant.updates ∙ ap updates_asked all) c.min.ensures
+    enough_or_most c.args.most (callers_asked c.args.rounds.now) (updates_asked c.args.rounds.now) c.loop-round.callers c.loop-round.updates c.args.images c.min.result (c.loop-round.invariant.callers ∙ ap callers_asked all) (c.loop-round.invariant.updates ∙ ap updates_asked all) (c.min.ensures ∙ ap (λ n. min c.args.most (4 * c.loop-round.callers + n / 2 + 2)) c.min-members.ensures)

@@ -1,9 +1,12 @@
-use Rattle.std.proofs.Common.{◌≡◌, ◌<◌, ℕ, List, length, map, ap₂, subst, sym, ◌∙◌, arith}
+use Rattle.std.proofs.Common.{◌≡◌, ◌⊎◌, ◌+◌, ◌-◌, ◌*◌, ◌<◌, ℕ, List, length, map, ap, ap₂, subst, sym, ◌∙◌, arith}
 use Rattle.std.specs.List.{AllByRecursion}
 use Rattle.reg_model.specs.SpanData.{SpanData, IsSpan}
 use Rattle.reg_model.specs.declared.span.Member.{Member}
 use Rattle.segment_array.specs.Ascending.{AscendFrom}
+use Rattle.word_rule.specs.declared.log.Terms.{Terms}
 use Rattle.event_script.specs.Lawful.{image_member}
+use Rattle.event_script.specs.declared.script.Event.{Event}
+use Rattle.run_engine.specs.Nodes.{callers_asked, members_asked}
 use Rattle.run_engine.proofs.NodeCounts.{rounds_are_few}
 use Rattle.run_engine.proofs.Opening.{fixed_ascend, fixed_known}
 use Rattle.run_engine.proofs.scripts.play_kept.Goals as goal
@@ -38,3 +41,11 @@ new-requires-clause-nodes g c =
     let bounds = c.nodes_for-nodes.ensures.bounds in
     let most = c.script.invariant.nodes.1 in
     (bounds.0, (let within = bounds.1 in omega (arith, within, most)))
+
+pub run_kept-requires-clause-nodes : goal.run_kept-requires-clause-nodes
+run_kept-requires-clause-nodes g c κs outlive =
+    let images = c.script.inside.images.items in
+    let nodes : c.in_ok-registry.registry.terms.nodes ≡ c.nodes_for-nodes.result = ap (λ (t : Terms). t.nodes) c.in_ok-registry.ensures.terms in
+    let count : c.len-images.result ≡ length images = (let n = c.len-images.ensures in omega (arith, n, c.script.inside.images.ok.0)) in
+    let P : List (List (List Event)) → ℕ → Type 0 = λ rounds n. (c.nodes_for-nodes.result ≡ c.script.inside.nodes) ⊎ (members_asked rounds n + 2 < 2 * (c.nodes_for-nodes.result - 4 * callers_asked rounds)) in
+    rw (← c.script.view_is, nodes) (subst (P c.script.inside.rounds.items) count (subst (λ rounds. P rounds c.len-images.result) c.deref-3.ensures.value c.nodes_for-nodes.ensures.enough))

@@ -15,7 +15,7 @@ returns-clause-kept g c =
     let right : AllZip (AllZip (AllZip (IsKeptRight c.script.inside.images.items c.script.inside.sections.items c.script.inside.snapshots.items))) c.script.inside.rounds.items c.in_ok-rounds.rounds.items =
     rw (← c.deref.ensures.value, ← c.deref-2.ensures.value, ← c.deref-3.ensures.value, ← c.deref-4.ensures.value) c.in_ok-rounds.ensures.answered in
     rw (← c.script.view_is) (record {
-      lawful = shared_lawful c.numbers_tell_histories.ensures c.whole_logs_are_numbered.ensures.numbers _ _ (rounds_told c.script.inside.images.items c.script.inside.rounds.items c.in_ok-rounds.rounds.items) c.seen-updates.result c.args.me.now c.play_shared.new.me (rw (← c.script.view_is) at c.requires.nodes) (rw (← c.script.view_is) at first) (rounds_right _ _ _ _ _ right) (rw (← c.deref.ensures.value, ← c.deref-4.ensures.value) c.in_ok-rounds.ensures.after) c.seen-updates.ensures;
+      lawful = shared_lawful c.numbers_tell_histories.ensures c.whole_logs_are_numbered.ensures.numbers _ _ (rounds_told c.script.inside.images.items c.script.inside.rounds.items c.in_ok-rounds.rounds.items) c.seen-updates.result c.args.me.now c.play_shared.new.me c.script.invariant (rw (← c.script.view_is) at c.requires.nodes) (rw (← c.script.view_is) at first) (rounds_right _ _ _ _ _ right) (rw (← c.deref.ensures.value, ← c.deref-4.ensures.value) c.in_ok-rounds.ensures.after) c.seen-updates.ensures;
       played = rounds_played _ _ _ _ _ _ c.script.invariant.rounds right;
       printable = rounds_printable _ _ _ _ _ right;
     })
