@@ -67,7 +67,17 @@ pub fn try_find<L: Looker>(words: &Words, me: &mut L, pc: u64) -> Result<Found, 
     let mut visit = visit::root(words, me)?;
     while visit.level > 0 {
         let count = me.load_node(words, visit.node, COUNT);
-        visit = visit::descend(words, me, visit, count, pc)?;
+        let Visit {
+            node,
+            version,
+            level,
+        } = visit::descend(words, me, visit, count, pc)?;
+        // by its parts, as it was stored: one wide load over several stores waits for all of them
+        visit = Visit {
+            node,
+            version,
+            level,
+        };
     }
     leaf(words, me, visit, pc)
 }
