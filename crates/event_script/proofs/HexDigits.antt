@@ -85,18 +85,6 @@ hex_pair n big small =
 pub length_pair : (n : ℕ) → 256 ≤ n → n < 2 ^ 64 → length (hex n) ≡ length (hex (n / 256)) + 2
 length_pair n big small = ap length (hex_pair n big small) ∙ length-append _ _
 
-pub hex_four : (n : ℕ) → 65536 ≤ n → n < 2 ^ 64 → hex n ≡ hex (n / 65536) ++ (digit_glyph false (n % 65536 / 4096) ∷ digit_glyph false (n % 65536 / 256 % 16) ∷ digit_glyph false (n % 65536 / 16 % 16) ∷ digit_glyph false (n % 65536 % 16) ∷ [])
-hex_four n big small =
-    let first : n / 256 % 256 / 16 ≡ n % 65536 / 4096 = omega arith in
-    let second : n / 256 % 256 % 16 ≡ n % 65536 / 256 % 16 = omega arith in
-    let third : n % 256 / 16 ≡ n % 65536 / 16 % 16 = omega arith in
-    let fourth : n % 256 % 16 ≡ n % 65536 % 16 = omega arith in
-    let rest : n / 256 / 256 ≡ n / 65536 = omega arith in
-    rw (hex_pair n (omega (arith, big)) small, hex_pair (n / 256) (omega (arith, big)) (omega (arith, small)), append_assoc, rest, first, second, third, fourth)
-
-pub length_four : (n : ℕ) → 65536 ≤ n → n < 2 ^ 64 → length (hex n) ≡ length (hex (n / 65536)) + 4
-length_four n big small = ap length (hex_four n big small) ∙ length-append _ _
-
 pub hex_one : (n : ℕ) → n < 16 → hex n ≡ digit_glyph false n ∷ []
 hex_one n small = hex_one_digit false n small
 

@@ -35,35 +35,12 @@ pub fn write_hex(number: u64, room: &mut [u8], end: usize) -> usize
 {
     let mut left = number;
     let mut at = end;
-    while left >= 65_536 {
-        write_four((left % 65_536) as u16, room, at - 4);
-        left /= 65_536;
-        at -= 4;
+    while left >= 256 {
+        write_pair((left % 256) as u8, room, at - 2);
+        left /= 256;
+        at -= 2;
     }
-    if left < 256 {
-        return write_first(left as u8, room, at);
-    }
-    write_pair((left % 256) as u8, room, at - 2);
-    write_first((left / 256) as u8, room, at - 2)
-}
-
-/// Writes four digits at a place of the room by one store: a copy of the line, which comes soon
-/// after, waits for each.
-#[inline(always)]
-fn write_four(number: u16, room: &mut [u8], at: usize)
-    requires { at + 4 ≤ length room.old }
-    ensures { drop at room.new
-        ≡ digit_glyph false (number / 4096) ∷ digit_glyph false (number / 256 % 16)
-        ∷ digit_glyph false (number / 16 % 16) ∷ digit_glyph false (number % 16)
-        ∷ drop (at + 4) room.old }
-{
-    let digits = [
-        hex_digit((number / 4096) as u8),
-        hex_digit((number / 256 % 16) as u8),
-        hex_digit((number / 16 % 16) as u8),
-        hex_digit((number % 16) as u8),
-    ];
-    room[at..at + 4].copy_from_slice(&digits);
+    write_first(left as u8, room, at)
 }
 
 /// Writes the two digits of a byte at a place of the room.
