@@ -377,7 +377,10 @@ impl Draft {
         ensures { LeavesDraft self.new result (after_line self.old line.now) }
     {
         match event_of(self.version, line) {
-            Some(event) => self.event(event),
+            Some(event) => {
+                self.event(event)?;
+                Ok(())
+            }
             None => self.read_by_fields(alloc, line),
         }
     }
