@@ -1,6 +1,6 @@
 -- Hexadecimal digits that are written from the last one to the first.
-use Rattle.std.proofs.Common.{◌≡◌, ℕ, zero, suc, ◌+◌, ◌/◌, ◌%◌, ◌^◌, ◌<◌, ◌≤◌, Bool, true, false, cond, eqb, eq-eqb, ne_eqb, List, [], ◌∷◌, ◌++◌, length, refl, sym, ap, ◌∙◌, append_assoc, length-append, inl, inr, arith}
-use Rattle.std.proofs.lemmas.Bool.{cases_eq}
+use Rattle.std.proofs.Common.{◌≡◌, ℕ, zero, suc, ◌+◌, ◌*◌, ◌/◌, ◌%◌, ◌^◌, ◌<◌, ◌≤◌, Bool, true, false, cond, ◌&&◌, eqb, eq-eqb, ne_eqb, List, [], ◌∷◌, ◌++◌, length, get_or, refl, sym, ap, ◌∙◌, append_assoc, length-append, inl, inr, arith}
+use Rattle.std.proofs.lemmas.Bool.{agree_below_at, and_parts, cases_eq, eqb-true}
 use Rattle.std.proofs.lemmas.Fmt.{hex_one_digit, hex_two_digits}
 use Rattle.std.proofs.Math.Nat.{pow-suc}
 use Rattle.std.specs.Fmt.{digit_glyph, digits_onto, digits}
@@ -8,6 +8,7 @@ use Rattle.std.specs.List.{AllByRecursion}
 use Rattle.std.specs.Str.{IsAscii, IsUtf8}
 use Rattle.std.proofs.lemmas.Str.{IsUtf8-from_ascii}
 use Rattle.event_script.specs.Digits.{hex}
+use Rattle.event_script.specs.declared.print.numbers.TheConstants.{HEX_PAIRS}
 use Rattle.event_script.proofs.Numbers.{digits_number, hex_visible}
 
 -- ---- digits are text, and few
@@ -74,6 +75,14 @@ hex_step n big small =
 
 abbrev pub pair : ℕ → List ℕ
 pair byte = digit_glyph false (byte / 16) ∷ digit_glyph false (byte % 16) ∷ []
+
+abbrev has_its_digits : ℕ → Bool
+has_its_digits byte = eqb (get_or HEX_PAIRS (byte * 2) 0) (digit_glyph false (byte / 16)) && eqb (get_or HEX_PAIRS (byte * 2 + 1) 0) (digit_glyph false (byte % 16))
+
+pub pair_at : (byte : ℕ) → byte < 256 → (get_or HEX_PAIRS (byte * 2) 0 ≡ digit_glyph false (byte / 16)) × (get_or HEX_PAIRS (byte * 2 + 1) 0 ≡ digit_glyph false (byte % 16))
+pair_at byte within =
+    let both = and_parts (eqb (get_or HEX_PAIRS (byte * 2) 0) (digit_glyph false (byte / 16))) (eqb (get_or HEX_PAIRS (byte * 2 + 1) 0) (digit_glyph false (byte % 16))) (agree_below_at has_its_digits (λ _. true) 256 byte refl within) in
+    (eqb-true _ _ both.0, eqb-true _ _ both.1)
 
 pub hex_pair : (n : ℕ) → 256 ≤ n → n < 2 ^ 64 → hex n ≡ hex (n / 256) ++ pair (n % 256)
 hex_pair n big small =

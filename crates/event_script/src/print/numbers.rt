@@ -50,8 +50,10 @@ fn write_pair(byte: u8, room: &mut [u8], at: usize)
     ensures { drop at room.new
         ≡ digit_glyph false (byte / 16) ∷ digit_glyph false (byte % 16) ∷ drop (at + 2) room.old }
 {
-    let digits = [hex_digit(byte / 16), hex_digit(byte % 16)];
-    room[at..at + 2].copy_from_slice(&digits);
+    let from = byte as usize * 2;
+    let (high, low) = (HEX_PAIRS[from], HEX_PAIRS[from + 1]);
+    room[at] = high;
+    room[at + 1] = low;
 }
 
 /// Writes the first digits of a number, one or two.
@@ -62,20 +64,20 @@ fn write_first(byte: u8, room: &mut [u8], end: usize) -> usize
     ensures written { drop result room.new ≡ hex byte ++ drop end room.old }
 {
     if byte < 16 {
-        room[end - 1] = hex_digit(byte);
+        room[end - 1] = HEX_PAIRS[byte as usize * 2 + 1];
         return end - 1;
     }
     write_pair(byte, room, end - 2);
     end - 2
 }
 
-/// The digits in lower case.
-const HEX_DIGITS: [u8; 16] = *b"0123456789abcdef";
-
-/// The digit in lower case of a value below 16.
-fn hex_digit(value: u8) -> u8
-    requires { value < 16 }
-    ensures { result ≡ digit_glyph false value }
-{
-    HEX_DIGITS[value as usize]
-}
+/// The two digits of each byte, in lower case.
+static HEX_PAIRS: [u8; 512] = *b"\
+    000102030405060708090a0b0c0d0e0f101112131415161718191a1b1c1d1e1f\
+    202122232425262728292a2b2c2d2e2f303132333435363738393a3b3c3d3e3f\
+    404142434445464748494a4b4c4d4e4f505152535455565758595a5b5c5d5e5f\
+    606162636465666768696a6b6c6d6e6f707172737475767778797a7b7c7d7e7f\
+    808182838485868788898a8b8c8d8e8f909192939495969798999a9b9c9d9e9f\
+    a0a1a2a3a4a5a6a7a8a9aaabacadaeafb0b1b2b3b4b5b6b7b8b9babbbcbdbebf\
+    c0c1c2c3c4c5c6c7c8c9cacbcccdcecfd0d1d2d3d4d5d6d7d8d9dadbdcdddedf\
+    e0e1e2e3e4e5e6e7e8e9eaebecedeeeff0f1f2f3f4f5f6f7f8f9fafbfcfdfeff";

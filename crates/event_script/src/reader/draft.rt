@@ -377,6 +377,7 @@ impl Draft {
         ensures { LeavesDraft self.new result (after_line self.old line.now) }
     {
         match event_of(self.version, line) {
+            // What came of it isn't handed on whole: a copy would wait for the parts just stored.
             Some(event) => {
                 self.event(event)?;
                 Ok(())

@@ -1,6 +1,6 @@
-use Rattle.std.proofs.Common.{◌≡◌, ◌+◌, ◌-◌, arith}
+use Rattle.std.proofs.Common.{◌≡◌, ◌+◌, ◌-◌, ◌%◌, arith}
 use Rattle.std.proofs.lemmas.List.{drop-set}
-use Rattle.event_script.proofs.HexDigits.{hex_one, length_one, hex_two, length_two}
+use Rattle.event_script.proofs.HexDigits.{hex_one, length_one, hex_two, length_two, pair_at}
 use Rattle.event_script.proofs.print.numbers.write_first.Goals as goal
 
 pub overflow_sub-room : goal.overflow_sub-room
@@ -19,7 +19,8 @@ pub returns-then-byte-lt16-clause-written : goal.returns-then-byte-lt16-clause-w
 returns-then-byte-lt16-clause-written c =
     let long = length_one c.args.byte c.if-byte-lt16.true in
     let e : c.args.end - 1 + 1 ≡ c.args.end = omega arith in
-    rw (drop-set c.args.room.now (c.args.end - 1) _ (omega arith), e, c.hex_digit.ensures, hex_one c.args.byte c.if-byte-lt16.true)
+    let small : c.args.byte % 16 ≡ c.args.byte = omega (arith, c.if-byte-lt16.true) in
+    rw (drop-set c.args.room.now (c.args.end - 1) _ (omega arith), e, (pair_at c.args.byte (omega arith)).1, small, hex_one c.args.byte c.if-byte-lt16.true)
 
 pub overflow_sub-end : goal.overflow_sub-end
 overflow_sub-end c = omega (arith, length_two c.args.byte c.if-byte-lt16.false (omega arith))
