@@ -81,7 +81,7 @@ has_its_digits byte = eqb (get_or HEX_PAIRS (byte * 2) 0) (digit_glyph false (by
 
 pub pair_at : (byte : ℕ) → byte < 256 → (get_or HEX_PAIRS (byte * 2) 0 ≡ digit_glyph false (byte / 16)) × (get_or HEX_PAIRS (byte * 2 + 1) 0 ≡ digit_glyph false (byte % 16))
 pair_at byte within =
-    let both = and_parts (eqb (get_or HEX_PAIRS (byte * 2) 0) (digit_glyph false (byte / 16))) (eqb (get_or HEX_PAIRS (byte * 2 + 1) 0) (digit_glyph false (byte % 16))) (agree_below_at has_its_digits (λ _. true) 256 byte refl within) in
+    let both = and_parts _ _ (agree_below_at has_its_digits (λ _. true) 256 byte refl within) in
     (eqb-true _ _ both.0, eqb-true _ _ both.1)
 
 pub hex_pair : (n : ℕ) → 256 ≤ n → n < 2 ^ 64 → hex n ≡ hex (n / 256) ++ pair (n % 256)
