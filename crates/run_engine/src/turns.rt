@@ -8,6 +8,9 @@
 //! ask for it. Fewer threads at a contended place is how Dice and Kogan's "Avoiding Scalability
 //! Collapse by Restricting Concurrency" (Euro-Par 2019) keeps locks fast.
 //!
+//! Handing the turn on costs as much as many events, and nobody uses a processor whose threads all
+//! sleep. So a turn is short at first, and longer each time that its thread soon asks again.
+//!
 //! Whoever has the turn has no more right to the tree than the others, and nothing is stored
 //! because of it. So contracts don't speak of turns, and none promises that a thread gets on.
 ghost use Rattle.std.specs.Prelude.{false};
@@ -28,8 +31,17 @@ const TAKEN: u64 = 1;
 /// A thread has it, and others may sleep until it is given back.
 const AWAITED: u64 = 2;
 
-/// For how many events a thread keeps the turn.
-const EVENTS: u32 = 64;
+/// For how many events a thread keeps a turn at first.
+const SHORTEST: u32 = 16;
+
+/// How many times longer its next turn is, where it soon asks for one again.
+const GROWTH: u32 = 4;
+
+/// For how many events it keeps a turn at the most.
+const LONGEST: u32 = 1024;
+
+/// After so many events without a turn its next one is short again.
+const APART: u32 = 512;
 
 /// How often a call pauses before it waits for the turn.
 const PAUSES: u32 = 4;
@@ -81,6 +93,10 @@ pub struct Turn<'a> {
     turns: &'a Turns,
     /// For how many events the thread still has the turn.
     left: Cell<u32>,
+    /// For how many it will have the next one.
+    next: Cell<u32>,
+    /// How many it has played without one since its last.
+    apart: Cell<u32>,
 }
 
 impl<'a> Turn<'a> {
@@ -89,6 +105,8 @@ impl<'a> Turn<'a> {
         Turn {
             turns,
             left: Cell::new(0),
+            next: Cell::new(SHORTEST),
+            apart: Cell::new(0),
         }
     }
 
@@ -100,7 +118,12 @@ impl<'a> Turn<'a> {
     /// Waits for the turn, which the thread hasn't got.
     fn wait<R: Wait>(&self, rt: &R) {
         self.turns.take(rt);
-        self.left.set(EVENTS);
+        let length = self.next.get();
+        self.left.set(length);
+        if length < LONGEST {
+            self.next.set(length * GROWTH);
+        }
+        self.apart.set(0);
     }
 
     /// How one call of the thread waits.
@@ -114,11 +137,20 @@ impl<'a> Turn<'a> {
 
     /// Counts an event that was played. With the last of its turn the turn is given back.
     pub fn end_event(&self) {
-        let left = self.left.get();
-        if left > 1 {
-            self.left.set(left - 1);
+        match self.left.get() {
+            0 => self.end_apart(),
+            1 => self.give_back(),
+            left => self.left.set(left - 1),
+        }
+    }
+
+    /// Counts an event that was played without the turn.
+    fn end_apart(&self) {
+        let apart = self.apart.get();
+        if apart < APART {
+            self.apart.set(apart + 1);
         } else {
-            self.give_back();
+            self.next.set(SHORTEST);
         }
     }
 
@@ -134,7 +166,12 @@ impl<'a> Turn<'a> {
 impl Drop for Turn<'_> {
     fn drop(self) {
         self.give_back();
-        let Turn { turns: _, left: _ } = self;
+        let Turn {
+            turns: _,
+            left: _,
+            next: _,
+            apart: _,
+        } = self;
     }
 }
 
