@@ -154,6 +154,7 @@ fn play_thread<R: Wait, G: Gate>(
     // The law that this rests on; it takes no step.
     calls_follow();
     let mut answers = Vec::with_capacity(alloc, events.len())?;
+    player.turn().begin(rt);
     for (index, event) in events.iter().enumerate() {
         let event = NumberedEvent {
             thread: number,

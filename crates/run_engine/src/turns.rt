@@ -9,7 +9,8 @@
 //! Collapse by Restricting Concurrency" (Euro-Par 2019) keeps locks fast.
 //!
 //! Handing the turn on costs as much as many events, and nobody uses a processor whose threads all
-//! sleep. So a turn is short at first, and longer each time that its thread soon asks again.
+//! sleep. So a turn is short at first, and longer each time that its thread soon asks again. A
+//! thread that begins while others sleep would be in the way as they were, and waits as well.
 //!
 //! Whoever has the turn has no more right to the tree than the others, and nothing is stored
 //! because of it. So contracts don't speak of turns, and none promises that a thread gets on.
@@ -35,10 +36,10 @@ const AWAITED: u64 = 2;
 const SHORTEST: u32 = 16;
 
 /// How many times longer its next turn is, where it soon asks for one again.
-const GROWTH: u32 = 4;
+const GROWTH: u32 = 16;
 
 /// For how many events it keeps a turn at the most.
-const LONGEST: u32 = 1024;
+const LONGEST: u32 = 4096;
 
 /// After so many events without a turn its next one is short again.
 const APART: u32 = 512;
@@ -77,6 +78,11 @@ impl Turns {
             state.park(rt, AWAITED as u32);
         }
         unreachable!()
+    }
+
+    /// Whether others may sleep until it is given back.
+    fn is_awaited(&self) -> bool {
+        self.state.load(Ordering::SeqCst) == AWAITED
     }
 
     /// Gives the turn back, and wakes one that sleeps until then.
@@ -124,6 +130,13 @@ impl<'a> Turn<'a> {
             self.next.set(length * GROWTH);
         }
         self.apart.set(0);
+    }
+
+    /// Comes before the first event of the thread: where others sleep for the turn, it waits too.
+    pub fn begin<R: Wait>(&self, rt: &R) {
+        if self.turns.is_awaited() {
+            self.wait(rt);
+        }
     }
 
     /// How one call of the thread waits.
