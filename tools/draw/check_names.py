@@ -14,7 +14,7 @@ sys.path.append(str(pathlib.Path(__file__).resolve().parent.parent / "record"))
 from check import recorded_stacks
 from folded import frame_name, names_of
 from images import read_origins
-from journal import read_journal
+from journal import read_journal_of
 from script import read_script
 
 SYSTEM = ("/usr/", "/lib", "[vdso]")
@@ -46,10 +46,11 @@ def main(words):
                                        for word in words)
     outside = [number for number, origin in enumerate(read_origins(images))
                if not origin.path.startswith(SYSTEM)]
-    named, missing = names_of(words[2:3])
-    entries, _ = read_journal(journal)
+    named, missing, _ = names_of(words[2:3])
+    script = read_script(script)
+    entries, _ = read_journal_of(script, journal)
     pairs = [(name, gdbs[4])
-             for stack, theirs in zip(frames_of(read_script(script), entries, named, outside),
+             for stack, theirs in zip(frames_of(script, entries, named, outside),
                                       recorded_stacks(frames))
              for name, gdbs in zip(stack, theirs) if name is not None]
     wrong = [f"{name}, gdb: {gdbs}"

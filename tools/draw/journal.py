@@ -1,7 +1,7 @@
 """Journals as data: what each event of a script was answered, read from the text.
 
-The form is that of docs/FORMATS.md. A line that isn't of it is refused by its number; whether a
-journal is lawful isn't looked at.
+The form is that of docs/FORMATS.md. A line that isn't of it is refused by its number, and so is a
+journal of another script; whether a journal is lawful isn't looked at.
 """
 
 from typing import NamedTuple, Optional
@@ -9,11 +9,12 @@ from typing import NamedTuple, Optional
 REGISTERED = "registered"
 LOADED = "loaded"
 UPDATES = ("register", "deregister", "replace", "load", "unload")
+BY_ADDRESS = ("deregister", "unload", "find")
 REFUSALS = ("overlap", "absent", "full")
 
 
 class BadJournal(Exception):
-    """A line, counted from 1, that isn't one of a journal."""
+    """A line, counted from 1, that isn't one of a journal, or an event that isn't the script's."""
 
 
 class Look(NamedTuple):
@@ -25,8 +26,9 @@ class Look(NamedTuple):
 
 
 class Frame(NamedTuple):
-    """A frame of a backtrace: the address that was looked up, and both halves' answers."""
+    """A frame of a backtrace: its pc, the address that was looked up, and both halves' answers."""
 
+    pc: int
     look: int
     looks: list
 
@@ -104,7 +106,7 @@ def read_backtrace_line(entry, place, fields):
     if fields[0] == "end":
         entry.end = " ".join(fields[1:])
     else:
-        entry.frames.append(Frame(int(fields[7], 16), looks_of(fields[8:])))
+        entry.frames.append(Frame(int(fields[3], 16), int(fields[7], 16), looks_of(fields[8:])))
 
 
 def read_journal(text):
@@ -126,3 +128,50 @@ def read_journal(text):
     if len(lines) < 2 or lines[-1] or not lines[-2].startswith("updates "):
         raise BadJournal("its last line isn't `updates N`")
     return entries, int(lines[-2].split(" ")[1])
+
+
+def events_of(script):
+    """Each event of a script as its journal begins a line: its place, its word, its operand."""
+    for round_number, threads in enumerate(script.rounds, 1):
+        for thread_number, events in enumerate(threads, 1):
+            for event_number, (word, number) in enumerate(events, 1):
+                operand = f"{number:x}" if word in BY_ADDRESS else str(number)
+                yield (round_number, thread_number, event_number), word, operand
+
+
+def addresses_of(entry):
+    """Each address that was looked up, with what both halves answered."""
+    if entry.word == "find":
+        yield int(entry.operand, 16), entry.looks
+    for frame in entry.frames:
+        yield frame.look, frame.looks
+
+
+def check_images(script, entry):
+    """Refuses an answer by an image that the script hasn't, or that doesn't have the address."""
+    for address, looks in addresses_of(entry):
+        for look in looks:
+            known = look.image is None or look.image < len(script.images)
+            if not known or look.image is not None and not script.images[look.image].contains(address):
+                raise BadJournal(f"event {place_text(entry)}: image {look.image} of the script "
+                                 f"doesn't have {address:x}: this is another script's journal")
+
+
+def place_text(entry):
+    """The place of an entry as its line begins."""
+    return ".".join(map(str, entry.place))
+
+
+def read_journal_of(script, text):
+    """The entries and the number of updates of this script's journal; another's is refused."""
+    entries, updates = read_journal(text)
+    wanted = list(events_of(script))
+    for entry, event in zip(entries, wanted):
+        if (entry.place, entry.word, entry.operand) != event:
+            raise BadJournal(f"event {place_text(entry)} isn't the script's: this is another "
+                             "script's journal")
+        check_images(script, entry)
+    if len(entries) != len(wanted):
+        raise BadJournal(f"{len(entries)} events, and the script has {len(wanted)}: this is "
+                         "another script's journal")
+    return entries, updates

@@ -12,7 +12,7 @@ from xml.sax.saxutils import escape
 
 sys.path.append(str(pathlib.Path(__file__).resolve().parent.parent / "record"))
 
-from journal import LOADED, REGISTERED, BadJournal, read_journal
+from journal import LOADED, REGISTERED, BadJournal, read_journal_of
 from script import BadLine, read_script
 
 LANE = 34
@@ -166,13 +166,14 @@ def main(words):
         return 2
     try:
         script = read_script(pathlib.Path(words[0]).read_text(encoding="ascii"))
-        entries, updates = read_journal(pathlib.Path(words[1]).read_text(encoding="ascii"))
+        journal = pathlib.Path(words[1]).read_text(encoding="ascii")
+        entries, updates = read_journal_of(script, journal)
         lines = list(picture(script, entries, updates))
     except (OSError, UnicodeDecodeError, BadLine, BadJournal) as fault:
         print(f"rounds: {fault}", file=sys.stderr)
         return 1
     except (KeyError, IndexError):
-        print("rounds: the journal isn't one of this script", file=sys.stderr)
+        print("rounds: the journal's updates aren't numbered from 1", file=sys.stderr)
         return 1
     print("\n".join(lines))
     return 0
