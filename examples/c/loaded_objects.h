@@ -5,18 +5,19 @@
 
 #include "frames_c.h"
 #include <link.h>
+#include <stdio.h>
 #include <stdlib.h>
 #include <string.h>
 #include <ucontext.h>
 
-enum { OBJECTS = 16 };
+enum { OBJECTS = 256 };
 /* The addresses from `first` up to `last`, without that one, and the section of their code. */
 struct object {
   uint64_t first, last;
   frames_section section;
 };
 static struct object objects[OBJECTS];
-static int count_objects;
+static int count_objects, dropped_objects;
 
 /* The section to which a header leads. It ends at a length of 0; `end` is its segment's end. */
 static bool read_section(const uint8_t *header, size_t length, const uint8_t *end,
@@ -42,8 +43,9 @@ static int read_object(struct dl_phdr_info *info, size_t size, void *unused) {
     if (first < object.first) object.first = first;
     if (first + part->p_memsz > object.last) object.last = first + part->p_memsz;
   }
-  if (header == NULL || count_objects == OBJECTS) return 0;
-  for (int i = 0; i < info->dlpi_phnum; i++) {
+  if (header == NULL) return 0;
+  const int kept = count_objects;
+  for (int i = 0; i < info->dlpi_phnum && kept < OBJECTS; i++) {
     const ElfW(Phdr) *load = &info->dlpi_phdr[i];
     if (load->p_type != PT_LOAD || header->p_vaddr - load->p_vaddr >= load->p_filesz) continue;
     const uint8_t *begin = (const uint8_t *)(info->dlpi_addr + load->p_vaddr);
@@ -51,6 +53,7 @@ static int read_object(struct dl_phdr_info *info, size_t size, void *unused) {
                      begin + load->p_filesz, &object.section))
       objects[count_objects++] = object;
   }
+  dropped_objects += count_objects == kept;
   return 0;
 }
 
@@ -59,9 +62,11 @@ static int by_first(const void *one, const void *other) {
   return a < b ? -1 : a > b;
 }
 
-/* Reads the sections of all objects, in ascending order of their addresses. */
+/* Reads the sections of all objects, in ascending order of their addresses. It says how many were
+ * left out: those whose section is refused, and those beyond OBJECTS. */
 static void read_objects(void) {
   dl_iterate_phdr(read_object, NULL);
+  if (dropped_objects > 0) fprintf(stderr, "%d objects are left out\n", dropped_objects);
   qsort(objects, (size_t)count_objects, sizeof *objects, by_first);
 }
 
