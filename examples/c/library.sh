@@ -14,15 +14,16 @@ make_library() {
     tail -20 "$folder/$1_c.log" >&2
     return 1
   }
-  rm -f "$folder/libfovradus_$1.a"
-  ar -M <<SCRIPT
-create $folder/libfovradus_$1.a
-addlib $folder/$1_c.a
-addlib $kit/c/liblibc_c.a
+  # names without a folder, since ar's scripts have no words for a space
+  ln -sf "$kit/c/liblibc_c.a" "$folder/$1_c.kit.a"
+  (cd "$folder" && rm -f "libfovradus_$1.a" && ar -M) <<SCRIPT
+create libfovradus_$1.a
+addlib $1_c.a
+addlib $1_c.kit.a
 save
 end
 SCRIPT
-  rm "$folder/$1_c.a"
+  rm "$folder/$1_c.a" "$folder/$1_c.kit.a"
 }
 made=()
 for part in "$@"; do
