@@ -5,8 +5,8 @@ use Rattle.reg_model.specs.declared.answer.Inserted.{Inserted}
 use Rattle.reg_model.specs.declared.answer.Receipt.TheVariants as receipt
 use Rattle.reg_model.specs.declared.span.Member.{Member}
 use Rattle.tree_shape.specs.NodeData.{IsInFences}
-use Rattle.tree_shape.specs.Lawful.{IsFilled, IsOrdered}
-use Rattle.tree_shape.specs.Steps.{IsFull}
+use Rattle.tree_laws.specs.Lawful.{IsFilled, IsOrdered}
+use Rattle.tree_laws.specs.Steps.{IsFull}
 use Rattle.word_rule.specs.CallerData.{CallerData}
 use Rattle.word_rule.specs.Spelling.{SpellsNode}
 use Rattle.word_rule.specs.declared.log.Holding.{Holding}

@@ -5,10 +5,10 @@ use Rattle.std.specs.List.{AllByRecursion}
 use native.Mathlib.Decide.{ℕ_discrete}
 use Rattle.tree_shape.specs.declared.pair.Pair.{Pair}
 use Rattle.tree_shape.specs.declared.node.NodeBounds.{NodeBounds}
-use Rattle.tree_shape.specs.Decisions.{is_entries}
+use Rattle.tree_laws.specs.Decisions.{is_entries}
 use Rattle.tree_shape.specs.NodeData.{NodeData, Body, Pairs, Entries, Link, InOrder, InOrderAs, IsInner, pairs_of, pairs_in, slot_for}
-use Rattle.tree_shape.specs.Lawful.{IsFilledAs, IsOrderedAs}
-use Rattle.tree_shape.specs.Trees.{Branch, branches, branches_from}
+use Rattle.tree_laws.specs.Lawful.{IsFilledAs, IsOrderedAs}
+use Rattle.tree_laws.specs.Trees.{Branch, branches, branches_from}
 use Rattle.word_rule.specs.CallerData.{CallerData}
 use Rattle.word_rule.specs.declared.log.Holding.{Holding}
 use Rattle.word_rule.specs.declared.log.LockId.TheVariants as lock

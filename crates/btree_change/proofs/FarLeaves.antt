@@ -8,7 +8,7 @@ use Rattle.reg_model.specs.declared.answer.Receipt.TheVariants as receipt
 use Rattle.reg_model.specs.declared.span.Member.{Member}
 use Rattle.tree_shape.specs.Changes.{ends_at_as, ends_at_fence}
 use Rattle.tree_shape.specs.NodeData.{NodeData, Body, Pairs, Entries, Link, IsInFences, IsLeaf, entries_in, entries_of}
-use Rattle.tree_shape.specs.Steps.{LiesAbove}
+use Rattle.tree_laws.specs.Steps.{LiesAbove}
 use Rattle.tree_shape.specs.declared.node.NodeBounds.{NodeBounds}
 use Rattle.word_rule.specs.CallerData.{CallerData, WordsData, surplus}
 use Rattle.word_rule.specs.Held.{held_of}

@@ -3,14 +3,14 @@ use Rattle.std.proofs.Common.{◌≡◌, ◌≢◌, ℕ, zero, suc, ◌+◌, ◌
 use Rattle.std.specs.List.{AllByRecursion, slice_get}
 use Rattle.tree_shape.specs.Changes.{at_slot, begins_after, ends_at_fence, separate_at}
 use Rattle.tree_shape.specs.declared.pair.Pair.{Pair}
-use Rattle.tree_shape.specs.Lawful.{IsLawfulTree}
-use Rattle.tree_shape.specs.LocalChange.{IsChangeOf}
+use Rattle.tree_laws.specs.Lawful.{IsLawfulTree}
+use Rattle.tree_laws.specs.LocalChange.{IsChangeOf}
 use Rattle.tree_shape.specs.NodeData.{NodeData, Pairs, frame_of, pairs_of}
-use Rattle.tree_shape.specs.Numbers.{is_among, times}
-use Rattle.tree_shape.specs.Steps.{IsFenceMove, Keeps, LiesAbove, fence_nodes, first_child, first_spine, last_child, last_spine}
-use Rattle.tree_shape.specs.Trees.{Contents, branch, branches}
-use Rattle.tree_shape.proofs.Halves.{among, not_among}
-use Rattle.tree_shape.proofs.Times.{In, all_from, in_times, in_left, in_right, once_other, some_same, times-append, times_head}
+use Rattle.tree_laws.specs.Numbers.{is_among, times}
+use Rattle.tree_laws.specs.Steps.{IsFenceMove, Keeps, LiesAbove, fence_nodes, first_child, first_spine, last_child, last_spine}
+use Rattle.tree_laws.specs.Trees.{Contents, branch, branches}
+use Rattle.tree_laws.proofs.Halves.{among, not_among}
+use Rattle.tree_laws.proofs.Times.{In, all_from, in_times, in_left, in_right, once_other, some_same, times-append, times_head}
 use Rattle.word_rule.specs.declared.log.Holding.{Holding}
 use Rattle.word_rule.specs.declared.log.Holdings.{Holdings}
 use Rattle.word_rule.specs.declared.log.Log.{Log}

@@ -3,15 +3,15 @@ use Rattle.std.proofs.Common.{◌≡◌, ◌≢◌, ℕ, zero, suc, ◌+◌, ◌
 use Rattle.std.specs.List.{AllByRecursion}
 use Rattle.tree_shape.specs.declared.node.NodeBounds.{NodeBounds}
 use Rattle.tree_shape.specs.declared.pair.Pair.{Pair}
-use Rattle.tree_shape.specs.Decisions.{is_entries}
-use Rattle.tree_shape.specs.Lawful.{IsFilledAs, IsLawfulTree, IsOrderedAs}
+use Rattle.tree_laws.specs.Decisions.{is_entries}
+use Rattle.tree_laws.specs.Lawful.{IsFilledAs, IsLawfulTree, IsOrderedAs}
 use Rattle.tree_shape.specs.NodeData.{NodeData, Body, Pairs, Entries, Link, Cut, pairs_of, pairs_in}
-use Rattle.tree_shape.specs.Numbers.{times}
-use Rattle.tree_shape.specs.Steps.{LiesAbove, first_child, first_spine, last_child, last_spine}
-use Rattle.tree_shape.specs.Trees.{Branch, Contents, branch, branches}
-use Rattle.tree_shape.proofs.Halves.{fewest_pairs_some}
-use Rattle.tree_shape.proofs.Leads.{branch_inside}
-use Rattle.tree_shape.proofs.Times.{In, all_at, times_head}
+use Rattle.tree_laws.specs.Numbers.{times}
+use Rattle.tree_laws.specs.Steps.{LiesAbove, first_child, first_spine, last_child, last_spine}
+use Rattle.tree_laws.specs.Trees.{Branch, Contents, branch, branches}
+use Rattle.tree_laws.proofs.Halves.{fewest_pairs_some}
+use Rattle.tree_laws.proofs.Leads.{branch_inside}
+use Rattle.tree_laws.proofs.Times.{In, all_at, times_head}
 use Rattle.word_rule.specs.declared.log.Holding.{Holding}
 use Rattle.word_rule.specs.declared.log.Terms.{Terms}
 use Rattle.word_rule.specs.NodeTells.{IsLiveNode}

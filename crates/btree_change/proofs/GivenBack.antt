@@ -3,7 +3,7 @@ use Rattle.std.proofs.Math.Bool.{and-false}
 use Rattle.std.proofs.Common.{◌≡◌, ◌≢◌, ℕ, List, [], ◌∷◌, ◌++◌, map, sym, refl, ap, ◌∙◌, subst, Bool, true, false, ◌==◌, not, ◌&&◌, ◌||◌, true≢false, Some, None, is_some, eq-eqb, ne_eqb, if◌then◌else◌, cond}
 use Rattle.std.specs.List.{AllByRecursion}
 use native.Mathlib.Decide.{ℕ_discrete}
-use Rattle.tree_shape.specs.Numbers.{is_among}
+use Rattle.tree_laws.specs.Numbers.{is_among}
 use Rattle.word_rule.specs.CallerData.{CallerData}
 use Rattle.word_rule.specs.Exchange.{after_exchange, are_spelled, changed_of, exchange, group_of, is_changed, is_lawful, node_of, nothing_reached, settle, settle_free, top_of}
 use Rattle.word_rule.specs.Held.{all_but, edited, held_of, is_marked, marked_in, now_of, without_lock}

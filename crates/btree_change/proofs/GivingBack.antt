@@ -3,7 +3,7 @@ use Rattle.std.proofs.Common.{◌≡◌, ◌≢◌, ℕ, ◌+◌, ◌<◌, ◌�
 use Rattle.std.proofs.lemmas.Option.{none-some}
 use Rattle.std.specs.List.{AllByRecursion}
 use Rattle.tree_shape.specs.NodeData.{NodeData}
-use Rattle.tree_shape.specs.Numbers.{is_among}
+use Rattle.tree_laws.specs.Numbers.{is_among}
 use Rattle.word_rule.specs.CallerData.{CallerData}
 use Rattle.word_rule.specs.Held.{all_but, held_of, without_lock}
 use Rattle.word_rule.specs.Logs.{load_of}

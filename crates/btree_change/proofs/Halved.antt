@@ -3,7 +3,7 @@
 use Rattle.std.proofs.Common.{◌≡◌, ◌≢◌, ℕ, ◌<◌, List, [], ◌∷◌, drop, sym, refl, ap, ◌∙◌, subst, Bool, true, false, nat_le, Some, IsSome, IsSomeAnd, if◌then◌else◌}
 use Rattle.tree_shape.specs.NodeData.{NodeData, IsInFences, frame_of}
 use Rattle.tree_shape.specs.Changes.{first_half, last_half}
-use Rattle.tree_shape.specs.Steps.{middle, middle_fence}
+use Rattle.tree_laws.specs.Steps.{middle, middle_fence}
 use Rattle.word_rule.specs.CallerData.{CallerData}
 use Rattle.word_rule.specs.declared.log.Holding.{Holding}
 use Rattle.word_rule.specs.declared.log.Holdings.{Holdings}

@@ -3,8 +3,8 @@ use Rattle.std.proofs.Common.{◌≡◌, ◌≢◌, ℕ, ◌<◌, ◌≤◌, Lis
 use Rattle.std.proofs.lemmas.Bool.{ltb-true, lt-ltb, le-ltb}
 use Rattle.std.specs.List.{AllByRecursion, filter}
 use native.Mathlib.Decide.{ℕ_discrete}
-use Rattle.tree_shape.specs.Numbers.{is_among, times}
-use Rattle.tree_shape.proofs.Times.{In, all_at, all_from, times_in}
+use Rattle.tree_laws.specs.Numbers.{is_among, times}
+use Rattle.tree_laws.proofs.Times.{In, all_at, all_from, times_in}
 use Rattle.word_rule.specs.declared.log.Holding.{Holding}
 use Rattle.word_rule.specs.Exchange.{highest, highest_of, node_of}
 use Rattle.word_rule.specs.Held.{held_of, is_marked, marked_in, without_lock}

@@ -1,8 +1,8 @@
 -- Held nodes on a removal's way, by their outlines: what their locks spell, and what loads of their
 -- words leave as it was.
 use Rattle.std.proofs.Common.{◌≡◌, ◌≢◌, ℕ, [], ◌∷◌, sym, ap, ◌∙◌, subst, arith, Bool, true, ◌==◌, Some, eq-eqb, ne_eqb, cond}
-use Rattle.tree_shape.specs.Decisions.{is_entries}
-use Rattle.tree_shape.specs.Lawful.{IsOrdered, IsOrderedAs}
+use Rattle.tree_laws.specs.Decisions.{is_entries}
+use Rattle.tree_laws.specs.Lawful.{IsOrdered, IsOrderedAs}
 use Rattle.tree_shape.specs.NodeData.{NodeData, Body, Pairs, Entries, Link}
 use Rattle.word_rule.specs.CallerData.{CallerData}
 use Rattle.word_rule.specs.Held.{held_of}

@@ -3,10 +3,10 @@ use Rattle.std.proofs.Common.{◌≡◌, ◌≢◌, ℕ, ◌≤◌, List, [], �
 use Rattle.std.specs.List.{AllByRecursion}
 use Rattle.tree_shape.specs.declared.node.NodeBounds.{NodeBounds}
 use Rattle.tree_shape.specs.NodeData.{NodeData}
-use Rattle.tree_shape.specs.Numbers.{is_among, once, times}
-use Rattle.tree_shape.specs.Trees.{Contents}
-use Rattle.tree_shape.proofs.Halves.{among, not_among, second, third}
-use Rattle.tree_shape.proofs.Times.{times_head}
+use Rattle.tree_laws.specs.Numbers.{is_among, once, times}
+use Rattle.tree_laws.specs.Trees.{Contents}
+use Rattle.tree_laws.proofs.Halves.{among, not_among, second, third}
+use Rattle.tree_laws.proofs.Times.{times_head}
 use Rattle.word_rule.specs.declared.log.Holding.{Holding}
 use Rattle.word_rule.specs.declared.log.Log.{Log}
 use Rattle.word_rule.specs.declared.log.Terms.{Terms}

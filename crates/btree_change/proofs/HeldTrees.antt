@@ -4,16 +4,16 @@ use Rattle.std.specs.List.{AllByRecursion, slice_get}
 use native.Mathlib.Decide.{ℕ_discrete}
 use Rattle.tree_shape.specs.declared.node.NodeBounds.{NodeBounds}
 use Rattle.tree_shape.specs.declared.pair.Pair.{Pair}
-use Rattle.tree_shape.specs.Lawful.{FitsParent, IsFilledAs, IsLawfulTree, IsOrderedAs}
+use Rattle.tree_laws.specs.Lawful.{FitsParent, IsFilledAs, IsLawfulTree, IsOrderedAs}
 use Rattle.tree_shape.specs.NodeData.{NodeData, Body, Pairs, Entries, Link, Cut, frame_of, pairs_of, pairs_in}
-use Rattle.tree_shape.specs.Steps.{first_child, last_child}
-use Rattle.tree_shape.specs.Trees.{Branch, Contents, branch, branches, branches_from}
-use Rattle.tree_shape.proofs.Halves.{fewest_pairs_some}
-use Rattle.tree_shape.proofs.Leads.{branch_inside}
-use Rattle.tree_shape.proofs.Living.{child_fits, child_live, own_branches, own_child, root_no_child}
-use Rattle.tree_shape.proofs.Reach.{children}
-use Rattle.tree_shape.proofs.Times.{In, some_same}
-use Rattle.tree_shape.specs.Numbers.{times}
+use Rattle.tree_laws.specs.Steps.{first_child, last_child}
+use Rattle.tree_laws.specs.Trees.{Branch, Contents, branch, branches, branches_from}
+use Rattle.tree_laws.proofs.Halves.{fewest_pairs_some}
+use Rattle.tree_laws.proofs.Leads.{branch_inside}
+use Rattle.tree_laws.proofs.Living.{child_fits, child_live, own_branches, own_child, root_no_child}
+use Rattle.tree_laws.proofs.Reach.{children}
+use Rattle.tree_laws.proofs.Times.{In, some_same}
+use Rattle.tree_laws.specs.Numbers.{times}
 use Rattle.word_rule.specs.declared.log.Holding.{Holding}
 use Rattle.word_rule.specs.declared.log.Holdings.{Holdings}
 use Rattle.word_rule.specs.declared.log.Terms.{Terms}

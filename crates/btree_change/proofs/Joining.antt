@@ -3,15 +3,15 @@ use Rattle.std.proofs.Common.{◌≡◌, ◌≢◌, ℕ, zero, suc, ◌+◌, ◌
 use Rattle.std.proofs.lemmas.Option.{none-some}
 use Rattle.std.specs.List.{slice_get}
 use Rattle.tree_shape.specs.Changes.{Fit, FitAs, at_slot, both, joined, pair, swallow_next}
-use Rattle.tree_shape.specs.Lawful.{IsFilledAs, IsLawfulTree, IsOrderedAs, fewest_pairs}
-use Rattle.tree_shape.specs.LocalChange.{IsChangeOf}
+use Rattle.tree_laws.specs.Lawful.{IsFilledAs, IsLawfulTree, IsOrderedAs, fewest_pairs}
+use Rattle.tree_laws.specs.LocalChange.{IsChangeOf}
 use Rattle.tree_shape.specs.NodeData.{NodeData, Body, Pairs, Entries, Link, frame_of, pairs_of}
-use Rattle.tree_shape.specs.Numbers.{is_among}
-use Rattle.tree_shape.specs.Steps.{IsJoin}
-use Rattle.tree_shape.specs.Trees.{Contents}
+use Rattle.tree_laws.specs.Numbers.{is_among}
+use Rattle.tree_laws.specs.Steps.{IsJoin}
+use Rattle.tree_laws.specs.Trees.{Contents}
 use Rattle.tree_shape.specs.declared.node.NodeBounds.{NodeBounds}
 use Rattle.tree_shape.specs.declared.pair.Pair.{Pair}
-use Rattle.tree_shape.proofs.Halves.{fewest_below}
+use Rattle.tree_laws.proofs.Halves.{fewest_below}
 use Rattle.word_rule.specs.CallerData.{CallerData}
 use Rattle.word_rule.specs.Exchange.{exchange, settle}
 use Rattle.word_rule.specs.Held.{edited, held_of, is_marked}

@@ -4,11 +4,11 @@ use Rattle.std.proofs.Common.{◌≡◌, ◌≢◌, ℕ, ◌≤◌, List, [], �
 use Rattle.std.specs.Bool.{Decides}
 use Rattle.std.specs.List.{AllByRecursion, filter}
 use Rattle.reg_model.specs.declared.answer.Update.{Update}
-use Rattle.tree_shape.specs.Numbers.{is_among}
+use Rattle.tree_laws.specs.Numbers.{is_among}
 use Rattle.tree_shape.specs.NodeData.{NodeData, frame_of}
-use Rattle.tree_shape.specs.Decisions.{is_entries}
-use Rattle.tree_shape.specs.Trees.{Contents, within}
-use Rattle.tree_shape.specs.LocalChange.{either, reached_nodes, IsLawfulChange, IsSameChange}
+use Rattle.tree_laws.specs.Decisions.{is_entries}
+use Rattle.tree_laws.specs.Trees.{Contents, within}
+use Rattle.tree_laws.specs.LocalChange.{either, reached_nodes, IsLawfulChange, IsSameChange}
 use Rattle.word_rule.specs.declared.log.Log.{Log}
 use Rattle.word_rule.specs.declared.log.Holding.{Holding}
 use Rattle.word_rule.specs.declared.log.Holdings.{Holdings}
@@ -17,7 +17,7 @@ use Rattle.word_rule.specs.Held.{held_of, settled_in, now_of, marked_in}
 use Rattle.word_rule.proofs.Exchanges.{spelled_decides}
 use Rattle.word_rule.specs.Exchange.{IsLawfulExchange, address_of, after_exchange, are_spelled, changed_of, exchange, exchanged_in, group_of, highest_of, is_changed, is_fresh, is_lawful, is_leaf_at, is_reached, node_of, out_after, reached_in, settle, settle_free, top_of}
 use Rattle.word_rule.proofs.Each.{all_map}
-use Rattle.tree_shape.proofs.Halves.{only}
+use Rattle.tree_laws.proofs.Halves.{only}
 
 -- The laws that it rests on.
 pub record LeafLaws : Type 0 where

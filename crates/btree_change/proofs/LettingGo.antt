@@ -2,7 +2,7 @@
 use Rattle.std.proofs.Math.Bool.{and-false}
 use Rattle.std.proofs.Common.{◌≡◌, [], map, sym, refl, ap, ◌∙◌, Bool, true, false, not, ◌&&◌, ◌||◌, true≢false, None, is_some, if◌then◌else◌}
 use Rattle.std.specs.List.{AllByRecursion}
-use Rattle.tree_shape.specs.Numbers.{is_among}
+use Rattle.tree_laws.specs.Numbers.{is_among}
 use Rattle.word_rule.specs.Exchange.{after_exchange, changed_of, exchange, group_of, is_changed, is_lawful, node_of, nothing_reached, settle, settle_free, top_of}
 use Rattle.word_rule.specs.Held.{now_of}
 use Rattle.word_rule.specs.Spelling.{spelled, SpellsNode}

@@ -2,9 +2,9 @@
 use Rattle.std.proofs.Common.{◌≡◌, ◌≢◌, ℕ, ◌+◌, ◌-◌, ◌≤◌, List, [], ◌∷◌, drop, map, sym, refl, ap, ◌∙◌, subst, arith, Bool, true, false, nat_le, Some, IsSome, if◌then◌else◌}
 use Rattle.std.proofs.lemmas.Bool.{leb-true, leb-false}
 use Rattle.tree_shape.specs.NodeData.{NodeData}
-use Rattle.tree_shape.specs.Numbers.{is_among}
-use Rattle.tree_shape.specs.Steps.{middle_fence}
-use Rattle.tree_shape.specs.Trees.{Contents, branch}
+use Rattle.tree_laws.specs.Numbers.{is_among}
+use Rattle.tree_laws.specs.Steps.{middle_fence}
+use Rattle.tree_laws.specs.Trees.{Contents, branch}
 use Rattle.word_rule.specs.CallerData.{CallerData}
 use Rattle.word_rule.specs.declared.log.Holding.{Holding}
 use Rattle.word_rule.specs.declared.log.Log.{Log}

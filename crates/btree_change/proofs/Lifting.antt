@@ -3,13 +3,13 @@ use Rattle.std.proofs.Common.{◌≡◌, ◌≢◌, ℕ, ◌+◌, ◌<◌, ◌�
 use Rattle.std.proofs.lemmas.Bool.{ltb-true}
 use Rattle.std.specs.List.{AllByRecursion}
 use Rattle.tree_shape.specs.Changes.{first_half, last_half}
-use Rattle.tree_shape.specs.Lawful.{IsLawfulTree}
-use Rattle.tree_shape.specs.LocalChange.{IsChangeOf}
+use Rattle.tree_laws.specs.Lawful.{IsLawfulTree}
+use Rattle.tree_laws.specs.LocalChange.{IsChangeOf}
 use Rattle.tree_shape.specs.NodeData.{NodeData}
-use Rattle.tree_shape.specs.Numbers.{is_among, times}
-use Rattle.tree_shape.specs.Steps.{IsFull, IsRootSplit, middle, middle_fence, root_over}
-use Rattle.tree_shape.specs.Trees.{Contents}
-use Rattle.tree_shape.proofs.Times.{In, times_in}
+use Rattle.tree_laws.specs.Numbers.{is_among, times}
+use Rattle.tree_laws.specs.Steps.{IsFull, IsRootSplit, middle, middle_fence, root_over}
+use Rattle.tree_laws.specs.Trees.{Contents}
+use Rattle.tree_laws.proofs.Times.{In, times_in}
 use Rattle.word_rule.specs.CallerData.{CallerData}
 use Rattle.word_rule.specs.declared.log.Holding.{Holding}
 use Rattle.word_rule.specs.declared.log.Holdings.{Holdings}

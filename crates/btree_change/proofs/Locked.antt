@@ -3,9 +3,9 @@ use Rattle.std.proofs.Common.{◌≡◌, ◌≢◌, ℕ, zero, suc, ◌+◌, ◌
 use Rattle.std.proofs.lemmas.Bool.{leb-true, leb-false}
 use Rattle.std.proofs.lemmas.Option.{none-some, same_Some}
 use Rattle.std.specs.List.{AllByRecursion, slice_get}
-use Rattle.tree_shape.specs.Lawful.{FitsParent, IsOrderedAs, IsTree}
+use Rattle.tree_laws.specs.Lawful.{FitsParent, IsOrderedAs, IsTree}
 use Rattle.tree_shape.specs.NodeData.{NodeData, Body, Pairs, Entries, Link, IsInFences, pairs_in, pairs_of, slot_for}
-use Rattle.tree_shape.specs.Trees.{Branch, Contents, branches, branches_from}
+use Rattle.tree_laws.specs.Trees.{Branch, Contents, branches, branches_from}
 use Rattle.tree_shape.specs.declared.node.NodeBounds.{NodeBounds}
 use Rattle.tree_shape.specs.declared.pair.Pair.{Pair}
 use Rattle.word_rule.specs.CallerData.{CallerData, surplus}

@@ -4,9 +4,9 @@ use Rattle.std.proofs.lemmas.Option.{same_Some}
 use Rattle.std.specs.List.{AllByRecursion}
 use Rattle.tree_shape.specs.declared.node.NodeBounds.{NodeBounds}
 use Rattle.tree_shape.specs.NodeData.{NodeData, pairs_of}
-use Rattle.tree_shape.specs.Steps.{first_child}
-use Rattle.tree_shape.specs.Trees.{Branch, branch, branches, branches_from}
-use Rattle.tree_shape.proofs.Times.{In, all_at}
+use Rattle.tree_laws.specs.Steps.{first_child}
+use Rattle.tree_laws.specs.Trees.{Branch, branch, branches, branches_from}
+use Rattle.tree_laws.proofs.Times.{In, all_at}
 use Rattle.word_rule.specs.CallerData.{CallerData}
 use Rattle.word_rule.specs.declared.log.Holding.{Holding}
 use Rattle.word_rule.specs.declared.log.Holdings.{Holdings}

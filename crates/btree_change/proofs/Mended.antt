@@ -4,8 +4,8 @@ use Rattle.std.proofs.Common.{◌≡◌, ◌≢◌, ℕ, ◌-◌, ◌*◌, ◌<�
 use Rattle.std.specs.List.{AllByRecursion}
 use Rattle.tree_shape.specs.Changes.{joined}
 use Rattle.tree_shape.specs.NodeData.{NodeData, frame_of}
-use Rattle.tree_shape.specs.Numbers.{is_among}
-use Rattle.tree_shape.specs.Trees.{Contents}
+use Rattle.tree_laws.specs.Numbers.{is_among}
+use Rattle.tree_laws.specs.Trees.{Contents}
 use Rattle.word_rule.specs.CallerData.{CallerData, surplus}
 use Rattle.word_rule.specs.Held.{all_but, held_of, without_lock}
 use Rattle.word_rule.specs.NodeTells.{HolderTells, IsHeldNode, IsLiveNode}

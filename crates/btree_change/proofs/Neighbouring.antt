@@ -2,12 +2,12 @@
 use Rattle.std.proofs.Common.{◌≡◌, ◌≢◌, ℕ, ◌+◌, ◌-◌, ◌<◌, ◌≤◌, ◌⊎◌, inl, inr, [], ◌∷◌, length, sym, refl, ap, ◌∙◌, subst, arith, Bool, true, false, IsTrue, Some, None, IsSome, Contains}
 use Rattle.std.specs.List.{AllByRecursion, slice_get}
 use Rattle.tree_shape.specs.Changes.{pair}
-use Rattle.tree_shape.specs.Lawful.{FitsParent}
+use Rattle.tree_laws.specs.Lawful.{FitsParent}
 use Rattle.tree_shape.specs.NodeData.{NodeData, pairs_of}
-use Rattle.tree_shape.specs.Trees.{Branch, branches}
+use Rattle.tree_laws.specs.Trees.{Branch, branches}
 use Rattle.tree_shape.specs.declared.pair.Pair.{Pair}
-use Rattle.tree_shape.proofs.Halves.{fewest_pairs_some, pairs_filled}
-use Rattle.tree_shape.proofs.Joins.{Neighbours, neighbours}
+use Rattle.tree_laws.proofs.Halves.{fewest_pairs_some, pairs_filled}
+use Rattle.tree_laws.proofs.Joins.{Neighbours, neighbours}
 use Rattle.word_rule.specs.CallerData.{CallerData}
 use Rattle.word_rule.specs.Held.{without_lock}
 use Rattle.word_rule.specs.NodeTells.{KnowsTree}

@@ -5,9 +5,9 @@ use Rattle.std.specs.List.{AllByRecursion, slice_get}
 use Rattle.tree_shape.specs.declared.node.NodeBounds.{NodeBounds}
 use Rattle.tree_shape.specs.declared.pair.Pair.{Pair}
 use Rattle.tree_shape.specs.NodeData.{NodeData, frame_of, pairs_of}
-use Rattle.tree_shape.specs.Steps.{first_child}
-use Rattle.tree_shape.specs.Trees.{Branch, branch, branches}
-use Rattle.tree_shape.proofs.Times.{In, all_at, some_same}
+use Rattle.tree_laws.specs.Steps.{first_child}
+use Rattle.tree_laws.specs.Trees.{Branch, branch, branches}
+use Rattle.tree_laws.proofs.Times.{In, all_at, some_same}
 use Rattle.word_rule.specs.CallerData.{CallerData}
 use Rattle.word_rule.specs.declared.log.Holding.{Holding}
 use Rattle.word_rule.specs.declared.log.Holdings.{Holdings}

@@ -9,13 +9,13 @@ use Rattle.reg_model.specs.declared.answer.Inserted.TheVariants as inserted
 use Rattle.reg_model.specs.declared.answer.Update.TheVariants as update
 use Rattle.reg_model.specs.declared.span.Member.{Member}
 use Rattle.tree_shape.specs.declared.node.NodeBounds.{NodeBounds}
-use Rattle.tree_shape.specs.Lawful.{IsFilledAs, IsOrderedAs}
+use Rattle.tree_laws.specs.Lawful.{IsFilledAs, IsOrderedAs}
 use Rattle.tree_shape.specs.NodeData.{NodeData, Body, Pairs, Entries, Link, EntriesWithin, IsInFences, IsLeaf, InOrder, entries_of, entries_in}
-use Rattle.tree_shape.specs.Steps.{LiesAbove}
-use Rattle.tree_shape.proofs.Halves.{fewest_below}
-use Rattle.tree_shape.proofs.Leads.{contains_in, in_contains, entry_inside, entry_ordered}
-use Rattle.tree_shape.proofs.Leads as leads
-use Rattle.tree_shape.proofs.Times.{In, in_right}
+use Rattle.tree_laws.specs.Steps.{LiesAbove}
+use Rattle.tree_laws.proofs.Halves.{fewest_below}
+use Rattle.tree_laws.proofs.Leads.{contains_in, in_contains, entry_inside, entry_ordered}
+use Rattle.tree_laws.proofs.Leads as leads
+use Rattle.tree_laws.proofs.Times.{In, in_right}
 use Rattle.word_rule.specs.CallerData.{CallerData}
 use Rattle.word_rule.specs.Clock.{AfterClock}
 use Rattle.word_rule.specs.Held.{is_marked, settled_in, settled_shape}

@@ -3,9 +3,9 @@ use Rattle.std.proofs.Common.{◌≡◌, ◌≢◌, ℕ, ◌<◌, ◌≤◌, Boo
 use Rattle.std.specs.List.{slice_get}
 use Rattle.std.proofs.lemmas.Bool.{eqb-true, eqb-false}
 use Rattle.std.proofs.lemmas.Option.{same_Some, slice_get-get_or}
-use Rattle.tree_shape.specs.Lawful.{IsFilledAs, IsOrderedAs}
+use Rattle.tree_laws.specs.Lawful.{IsFilledAs, IsOrderedAs}
 use Rattle.tree_shape.specs.NodeData.{NodeData, Body, Pairs, Entries, Link, InOrder, IsInFences, IsInner, pairs_of, slot_for}
-use Rattle.tree_shape.specs.Steps.{IsFull}
+use Rattle.tree_laws.specs.Steps.{IsFull}
 use Rattle.tree_shape.specs.declared.pair.Pair.{Pair}
 use Rattle.tree_shape.proofs.Orders.{inner_order}
 use Rattle.tree_shape.proofs.Slots.{slot_inside}

@@ -5,13 +5,13 @@ use Rattle.std.proofs.Common.{◌≡◌, ◌≢◌, ℕ, ◌+◌, ◌<◌, ◌�
 use Rattle.std.proofs.lemmas.Bool.{ltb-true, ltb-false}
 use Rattle.std.specs.List.{AllByRecursion, filter, slice_get}
 use Rattle.tree_shape.specs.Changes.{pair}
-use Rattle.tree_shape.specs.LocalChange.{IsChangeOf}
+use Rattle.tree_laws.specs.LocalChange.{IsChangeOf}
 use Rattle.tree_shape.specs.NodeData.{NodeData, frame_of, pairs_of}
-use Rattle.tree_shape.specs.Numbers.{is_among, once, times}
-use Rattle.tree_shape.specs.Trees.{Contents}
+use Rattle.tree_laws.specs.Numbers.{is_among, once, times}
+use Rattle.tree_laws.specs.Trees.{Contents}
 use Rattle.tree_shape.specs.declared.pair.Pair.{Pair}
-use Rattle.tree_shape.proofs.Halves.{among, not_among}
-use Rattle.tree_shape.proofs.Joins.{Neighbours, neighbours}
+use Rattle.tree_laws.proofs.Halves.{among, not_among}
+use Rattle.tree_laws.proofs.Joins.{Neighbours, neighbours}
 use Rattle.word_rule.specs.CallerData.{CallerData}
 use Rattle.word_rule.specs.Exchange.{exchange, node_of, settle}
 use Rattle.word_rule.specs.Held.{held_of, marked_in, is_marked}

@@ -8,12 +8,12 @@ use Rattle.reg_model.specs.declared.answer.Receipt.TheVariants as receipt
 use Rattle.reg_model.specs.declared.answer.Update.TheVariants as update
 use Rattle.reg_model.specs.declared.span.Member.{Member}
 use Rattle.tree_shape.specs.Changes.{with_entry}
-use Rattle.tree_shape.specs.Lawful.{IsLawfulTree, IsOrderedAs}
-use Rattle.tree_shape.specs.LocalChange.{IsChangeOf, IsLawfulChange}
+use Rattle.tree_laws.specs.Lawful.{IsLawfulTree, IsOrderedAs}
+use Rattle.tree_laws.specs.LocalChange.{IsChangeOf, IsLawfulChange}
 use Rattle.tree_shape.specs.NodeData.{NodeData, Body, Entries, Pairs, Link, IsLeaf, entries_of, entries_in}
-use Rattle.tree_shape.specs.Numbers.{is_among}
-use Rattle.tree_shape.specs.Steps.{IsPut}
-use Rattle.tree_shape.specs.Trees.{Contents}
+use Rattle.tree_laws.specs.Numbers.{is_among}
+use Rattle.tree_laws.specs.Steps.{IsPut}
+use Rattle.tree_laws.specs.Trees.{Contents}
 use Rattle.word_rule.specs.CallerData.{CallerData}
 use Rattle.word_rule.specs.NodeTells.{KnowsTree}
 use Rattle.word_rule.specs.declared.log.Terms.{Terms}
@@ -26,7 +26,7 @@ use Rattle.btree_change.specs.Insertion.{PutsMember}
 use Rattle.btree_change.specs.Removing.{HoldsAlone}
 use Rattle.btree_change.specs.Updates.{AcceptsUpdate}
 use Rattle.btree_change.specs.declared.descent.Held.{Held}
-use Rattle.tree_shape.proofs.Leaves.{put_length}
+use Rattle.tree_shape.proofs.Slots.{put_length}
 use Rattle.btree_change.proofs.LeafCommits.{LeafLaws}
 use Rattle.btree_change.proofs.LeafUpdates.{accepts_so, after_else, after_here, contents_here, live_here, may_update, past_is}
 use Rattle.btree_change.proofs.Storing.{IsRewritten}

@@ -2,16 +2,16 @@
 use Rattle.std.proofs.Common.{◌≡◌, ◌≢◌, ℕ, zero, suc, ◌+◌, ◌-◌, ◌<◌, ◌≤◌, List, [], ◌∷◌, ◌++◌, length, map, append_assoc, append-nil, refl, ap, sym, ◌∙◌, subst, arith, Bool, true, false, Some, IsSome, IsSomeAnd, IsTrue, inl, inr, ◌⊎◌}
 use Rattle.std.specs.List.{AllByRecursion, flat_map, slice_get}
 use Rattle.tree_shape.specs.Changes.{at_slot, begins_after, ends_at_as, ends_at_fence, separate_at}
-use Rattle.tree_shape.specs.Decisions.{is_entries}
+use Rattle.tree_laws.specs.Decisions.{is_entries}
 use Rattle.tree_shape.specs.declared.pair.Pair.{Pair}
-use Rattle.tree_shape.specs.Lawful.{IsFilledAs, IsLawfulTree, IsOrderedAs, IsTree}
+use Rattle.tree_laws.specs.Lawful.{IsFilledAs, IsLawfulTree, IsOrderedAs, IsTree}
 use Rattle.tree_shape.specs.NodeData.{NodeData, Body, Pairs, Entries, Link, IsInner, frame_of, pairs_of}
-use Rattle.tree_shape.specs.Steps.{LiesAbove, fence_nodes, first_child, last_child}
-use Rattle.tree_shape.specs.Trees.{Branch, Contents, branches, branches_from, nodes_under}
-use Rattle.tree_shape.specs.Numbers.{is_among, times}
-use Rattle.tree_shape.proofs.Living.{leaf_has_none, live_node, root_live}
-use Rattle.tree_shape.proofs.Spines.{Stands, stands_live}
-use Rattle.tree_shape.proofs.Times.{all_at, some_same, times_cases, times_flat_map}
+use Rattle.tree_laws.specs.Steps.{LiesAbove, fence_nodes, first_child, last_child}
+use Rattle.tree_laws.specs.Trees.{Branch, Contents, branches, branches_from, nodes_under}
+use Rattle.tree_laws.specs.Numbers.{is_among, times}
+use Rattle.tree_laws.proofs.Living.{leaf_has_none, live_node, root_live}
+use Rattle.tree_laws.proofs.Spines.{Stands, stands_live}
+use Rattle.tree_laws.proofs.Times.{all_at, some_same, times_cases, times_flat_map}
 use Rattle.word_rule.specs.CallerData.{CallerData}
 use Rattle.word_rule.specs.declared.log.Budget.{Budget}
 use Rattle.word_rule.specs.declared.log.Holding.{Holding}

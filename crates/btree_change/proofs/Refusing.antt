@@ -11,9 +11,9 @@ use Rattle.reg_model.specs.declared.answer.Inserted.TheVariants as inserted
 use Rattle.reg_model.specs.declared.answer.Update.{Update}
 use Rattle.reg_model.specs.declared.answer.Update.TheVariants as update
 use Rattle.reg_model.specs.declared.span.Member.{Member}
-use Rattle.tree_shape.specs.Lawful.{IsOrderedAs}
+use Rattle.tree_laws.specs.Lawful.{IsOrderedAs}
 use Rattle.tree_shape.specs.NodeData.{NodeData, EntriesWithin, IsInFences, entries_of}
-use Rattle.tree_shape.proofs.Leads.{contains_in, entry_ordered}
+use Rattle.tree_laws.proofs.Leads.{contains_in, entry_ordered}
 use Rattle.word_rule.specs.CallerData.{CallerData}
 use Rattle.word_rule.specs.Callers.{IsMemberOf, start}
 use Rattle.word_rule.specs.Clock.{AfterClock}

@@ -10,12 +10,12 @@ use Rattle.reg_model.specs.declared.answer.Replaced.TheVariants as replaced
 use Rattle.reg_model.specs.declared.answer.Update.TheVariants as update
 use Rattle.reg_model.specs.declared.span.Member.{Member}
 use Rattle.tree_shape.proofs.Orders.{leaf_order}
-use Rattle.tree_shape.specs.Lawful.{IsLawfulTree}
-use Rattle.tree_shape.specs.LocalChange.{IsChangeOf, IsLawfulChange}
+use Rattle.tree_laws.specs.Lawful.{IsLawfulTree}
+use Rattle.tree_laws.specs.LocalChange.{IsChangeOf, IsLawfulChange}
 use Rattle.tree_shape.specs.NodeData.{NodeData, Entries, InOrder, IsInFences, IsLeaf, entries_of}
-use Rattle.tree_shape.specs.Numbers.{is_among}
-use Rattle.tree_shape.specs.Steps.{IsReplace}
-use Rattle.tree_shape.specs.Trees.{Contents}
+use Rattle.tree_laws.specs.Numbers.{is_among}
+use Rattle.tree_laws.specs.Steps.{IsReplace}
+use Rattle.tree_laws.specs.Trees.{Contents}
 use Rattle.node_store.specs.Holding.{ReadsHeld, SpellsHeld, StoresHeld}
 use Rattle.word_rule.specs.CallerData.{CallerData}
 use Rattle.word_rule.specs.Callers.{IsMemberOf, start}

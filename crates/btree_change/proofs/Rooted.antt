@@ -1,10 +1,10 @@
 -- The way of a removal begins at the root; and what a mended child of it is.
 use Rattle.std.proofs.Common.{◌≡◌, ◌≢◌, ℕ, zero, suc, ◌*◌, ◌^◌, ◌<◌, ◌≤◌, length, refl, ap, subst, arith, sym}
 use Rattle.tree_shape.specs.Changes.{pair}
-use Rattle.tree_shape.specs.Lawful.{IsOrderedAs, fewest_pairs}
+use Rattle.tree_laws.specs.Lawful.{IsOrderedAs, fewest_pairs}
 use Rattle.tree_shape.specs.NodeData.{IsInFences, NodeData, Body, Pairs, Entries, Link, pairs_of}
-use Rattle.tree_shape.proofs.Halves.{fewest_below}
-use Rattle.tree_shape.proofs.Slotted.{filled_pairs}
+use Rattle.tree_laws.proofs.Halves.{fewest_below}
+use Rattle.tree_laws.proofs.Slotted.{filled_pairs}
 use Rattle.word_rule.specs.CallerData.{CallerData, surplus}
 use Rattle.word_rule.specs.declared.log.Holdings.{Holdings}
 use Rattle.word_rule.specs.declared.log.Terms.{Terms}

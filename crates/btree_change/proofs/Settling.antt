@@ -6,14 +6,14 @@ use Rattle.std.specs.Bool.{Decides}
 use Rattle.std.specs.List.{AllByRecursion, filter}
 use Rattle.reg_model.specs.declared.answer.Update.{Update}
 use Rattle.tree_shape.specs.declared.node.NodeBounds.{NodeBounds}
-use Rattle.tree_shape.specs.Numbers.{is_among, times}
+use Rattle.tree_laws.specs.Numbers.{is_among, times}
 use Rattle.tree_shape.specs.NodeData.{NodeData, frame_of}
-use Rattle.tree_shape.specs.Trees.{Contents}
-use Rattle.tree_shape.specs.Lawful.{IsLawfulTree, IsTree}
-use Rattle.tree_shape.specs.LocalChange.{either, reached_nodes, IsChangeOf, IsLawfulChange, IsLocalChange, IsSameChange}
-use Rattle.tree_shape.proofs.Halves.{among}
-use Rattle.tree_shape.proofs.Reach.{within_set}
-use Rattle.tree_shape.proofs.Times.{In, all_among, all_at, all_from, in_times}
+use Rattle.tree_laws.specs.Trees.{Contents}
+use Rattle.tree_laws.specs.Lawful.{IsLawfulTree, IsTree}
+use Rattle.tree_laws.specs.LocalChange.{either, reached_nodes, IsChangeOf, IsLawfulChange, IsLocalChange, IsSameChange}
+use Rattle.tree_laws.proofs.Halves.{among}
+use Rattle.tree_laws.proofs.Reach.{within_set}
+use Rattle.tree_laws.proofs.Times.{In, all_among, all_at, all_from, in_times}
 use Rattle.word_rule.specs.declared.log.Holding.{Holding}
 use Rattle.word_rule.specs.declared.log.Holdings.{Holdings}
 use Rattle.word_rule.specs.declared.log.Log.{Log}

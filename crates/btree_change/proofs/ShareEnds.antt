@@ -5,7 +5,7 @@ use Rattle.std.proofs.lemmas.Bool.{ltb-true, or_cases}
 use Rattle.std.specs.Prelude.{nat_lt}
 use Rattle.reg_model.specs.declared.span.Member.{Member}
 use Rattle.tree_shape.specs.Changes.{OverfillAs, body_end, both, entries_end, first_part, last_part, pairs_end, size}
-use Rattle.tree_shape.specs.Lawful.{IsOrderedAs}
+use Rattle.tree_laws.specs.Lawful.{IsOrderedAs}
 use Rattle.tree_shape.specs.NodeData.{NodeData, Body, Pairs, Entries, Link, Cut, EntriesWithin}
 use Rattle.tree_shape.specs.declared.pair.Pair.{Pair}
 use Rattle.tree_shape.proofs.Slots.{some_left}

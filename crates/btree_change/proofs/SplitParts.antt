@@ -6,8 +6,8 @@ use Rattle.std.proofs.lemmas.Option.{none-some, same_Some}
 use Rattle.tree_shape.specs.declared.pair.Pair.{Pair}
 use Rattle.tree_shape.specs.Changes.{at_slot, divide, first_half, first_part, last_part, size}
 use Rattle.tree_shape.specs.NodeData.{NodeData, Body, Pairs, Entries, Link, Cut, pairs_of, slot_for}
-use Rattle.tree_shape.specs.Steps.{IsFull, middle}
-use Rattle.tree_shape.specs.Trees.{Branch, branch, branches_from}
+use Rattle.tree_laws.specs.Steps.{IsFull, middle}
+use Rattle.tree_laws.specs.Trees.{Branch, branch, branches_from}
 use Rattle.node_store.specs.Writing.{kind_of_body}
 use Rattle.btree_change.specs.Splits.{HasSpace}
 

@@ -3,13 +3,13 @@ use Rattle.std.proofs.Common.{◌≡◌, ◌≢◌, ℕ, ◌-◌, ◌<◌, ◌�
 use Rattle.std.specs.List.{AllByRecursion}
 use Rattle.tree_shape.specs.declared.pair.Pair.{Pair}
 use Rattle.tree_shape.specs.Changes.{at_slot, divide, first_half, last_half}
-use Rattle.tree_shape.specs.Lawful.{FitsParent, IsLawfulTree, IsOrderedAs}
-use Rattle.tree_shape.specs.LocalChange.{IsChangeOf}
+use Rattle.tree_laws.specs.Lawful.{FitsParent, IsLawfulTree, IsOrderedAs}
+use Rattle.tree_laws.specs.LocalChange.{IsChangeOf}
 use Rattle.tree_shape.specs.NodeData.{NodeData, Pairs, IsInFences, pairs_of, slot_for}
-use Rattle.tree_shape.specs.Numbers.{is_among}
-use Rattle.tree_shape.specs.Steps.{IsFull, IsSplit, middle, middle_fence}
-use Rattle.tree_shape.specs.Trees.{Contents, branches}
-use Rattle.tree_shape.proofs.Halves.{only}
+use Rattle.tree_laws.specs.Numbers.{is_among}
+use Rattle.tree_laws.specs.Steps.{IsFull, IsSplit, middle, middle_fence}
+use Rattle.tree_laws.specs.Trees.{Contents, branches}
+use Rattle.tree_laws.proofs.Halves.{only}
 use Rattle.word_rule.specs.CallerData.{CallerData}
 use Rattle.word_rule.specs.declared.log.Holding.{Holding}
 use Rattle.word_rule.specs.declared.log.Holdings.{Holdings}

@@ -7,10 +7,10 @@ use Rattle.std.specs.List.{AllByRecursion, slice_get}
 use Rattle.reg_model.specs.declared.span.Member.{Member}
 use Rattle.tree_shape.specs.declared.pair.Pair.{Pair}
 use Rattle.tree_shape.specs.NodeData.{NodeData, Cut, pairs_of, slot_for}
-use Rattle.tree_shape.specs.Steps.{last_child}
-use Rattle.tree_shape.specs.Trees.{Branch, branches, branches_from}
-use Rattle.tree_shape.proofs.Leads.{branch_inside, contains_in}
-use Rattle.tree_shape.proofs.Times.{In}
+use Rattle.tree_laws.specs.Steps.{last_child}
+use Rattle.tree_laws.specs.Trees.{Branch, branches, branches_from}
+use Rattle.tree_laws.proofs.Leads.{branch_inside, contains_in}
+use Rattle.tree_laws.proofs.Times.{In}
 use Rattle.word_rule.specs.CallerData.{CallerData}
 use Rattle.word_rule.specs.declared.log.Holding.{Holding}
 use Rattle.word_rule.specs.declared.log.Holdings.{Holdings}

@@ -1,8 +1,8 @@
 -- A full child is split on the way down where a node is free; then the insertion goes on below.
 use Rattle.std.proofs.Common.{◌≡◌, ℕ, ◌<◌, List, [], ◌∷◌, length, drop, sym, refl, ap, ◌∙◌, subst, arith, inl, Some}
 use Rattle.tree_shape.specs.NodeData.{NodeData, Pairs, IsInFences, frame_of, pairs_of}
-use Rattle.tree_shape.specs.Lawful.{IsFilled, IsOrdered}
-use Rattle.tree_shape.specs.Steps.{IsFull}
+use Rattle.tree_laws.specs.Lawful.{IsFilled, IsOrdered}
+use Rattle.tree_laws.specs.Steps.{IsFull}
 use Rattle.word_rule.specs.CallerData.{CallerData}
 use Rattle.word_rule.specs.declared.log.Holding.{Holding}
 use Rattle.word_rule.specs.declared.log.Log.{Log}

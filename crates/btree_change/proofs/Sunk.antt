@@ -1,12 +1,12 @@
 -- The root takes the place of its only two children, which leave the tree.
 use Rattle.std.proofs.Common.{◌≡◌, ◌≢◌, ℕ, suc, ◌+◌, ◌<◌, List, [], ◌∷◌, ◌++◌, length, sym, refl, ap, ◌∙◌, subst, arith, Bool, true, false, not, IsTrue, Some, None, eq-eqb, ne_eqb, if◌then◌else◌, cond}
 use Rattle.tree_shape.specs.Changes.{Fit, joined, pair}
-use Rattle.tree_shape.specs.Lawful.{IsLawfulTree}
-use Rattle.tree_shape.specs.LocalChange.{IsChangeOf}
+use Rattle.tree_laws.specs.Lawful.{IsLawfulTree}
+use Rattle.tree_laws.specs.LocalChange.{IsChangeOf}
 use Rattle.tree_shape.specs.NodeData.{NodeData, Link, frame_of, pairs_of}
-use Rattle.tree_shape.specs.Numbers.{is_among}
-use Rattle.tree_shape.specs.Steps.{IsSink}
-use Rattle.tree_shape.specs.Trees.{Contents}
+use Rattle.tree_laws.specs.Numbers.{is_among}
+use Rattle.tree_laws.specs.Steps.{IsSink}
+use Rattle.tree_laws.specs.Trees.{Contents}
 use Rattle.tree_shape.specs.declared.pair.Pair.{Pair}
 use Rattle.word_rule.specs.CallerData.{CallerData}
 use Rattle.word_rule.specs.Exchange.{exchange, settle}

@@ -8,7 +8,7 @@ use Rattle.reg_model.specs.declared.span.Member.{Member}
 use Rattle.tree_shape.proofs.Orders.{leaf_order}
 use Rattle.tree_shape.proofs.Slots.{at_place}
 use Rattle.tree_shape.specs.NodeData.{NodeData, Entries, InOrder, IsLeaf, entries_of, place_for}
-use Rattle.tree_shape.specs.Numbers.{is_among}
+use Rattle.tree_laws.specs.Numbers.{is_among}
 use Rattle.word_rule.specs.CallerData.{CallerData}
 use Rattle.word_rule.specs.Held.{held_of}
 use Rattle.word_rule.specs.NodeTells.{KnowsTree}

@@ -11,12 +11,12 @@ use Rattle.reg_model.specs.declared.answer.Receipt.TheVariants as receipt
 use Rattle.reg_model.specs.declared.answer.Removed.TheVariants as removed
 use Rattle.reg_model.specs.declared.answer.Update.TheVariants as update
 use Rattle.reg_model.specs.declared.span.Member.{Member}
-use Rattle.tree_shape.specs.Lawful.{IsLawfulTree, fewest_entries}
-use Rattle.tree_shape.specs.LocalChange.{IsChangeOf, IsLawfulChange}
+use Rattle.tree_laws.specs.Lawful.{IsLawfulTree, fewest_entries}
+use Rattle.tree_laws.specs.LocalChange.{IsChangeOf, IsLawfulChange}
 use Rattle.tree_shape.specs.NodeData.{NodeData, Entries, IsInFences, IsLeaf, entries_of}
-use Rattle.tree_shape.specs.Numbers.{is_among}
-use Rattle.tree_shape.specs.Steps.{IsTake}
-use Rattle.tree_shape.specs.Trees.{Contents}
+use Rattle.tree_laws.specs.Numbers.{is_among}
+use Rattle.tree_laws.specs.Steps.{IsTake}
+use Rattle.tree_laws.specs.Trees.{Contents}
 use Rattle.word_rule.specs.CallerData.{CallerData}
 use Rattle.word_rule.specs.Callers.{IsMemberOf, start}
 use Rattle.word_rule.specs.Commits.{AfterCommit, MayCommit}

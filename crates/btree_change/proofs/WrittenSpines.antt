@@ -2,11 +2,11 @@
 use Rattle.std.proofs.Common.{◌≡◌, ◌≢◌, ℕ, zero, suc, ◌-◌, ◌<◌, List, [], ◌∷◌, ◌++◌, length, append_assoc, refl, ap, sym, ◌∙◌, subst, arith, Bool, true, false, Option, Some, None, IsSome, IsSomeAnd, IsTrue, inl, inr, ◌⊎◌, if◌then◌else◌, true≢false}
 use Rattle.std.specs.List.{AllByRecursion}
 use Rattle.tree_shape.specs.Changes.{begins_after, ends_at_fence, ends_at_as}
-use Rattle.tree_shape.specs.Decisions.{is_entries}
+use Rattle.tree_laws.specs.Decisions.{is_entries}
 use Rattle.tree_shape.specs.declared.pair.Pair.{Pair}
 use Rattle.tree_shape.specs.NodeData.{NodeData, Body, Pairs, Entries, Link, pairs_of, pairs_in}
-use Rattle.tree_shape.specs.Numbers.{is_among}
-use Rattle.tree_shape.specs.Steps.{first_child, last_child}
+use Rattle.tree_laws.specs.Numbers.{is_among}
+use Rattle.tree_laws.specs.Steps.{first_child, last_child}
 use Rattle.word_rule.specs.CallerData.{CallerData}
 use Rattle.word_rule.specs.declared.log.Holding.{Holding}
 use Rattle.word_rule.specs.declared.log.Holdings.{Holdings}

@@ -2,10 +2,10 @@
 -- nothing.
 pub use Rattle.reg_model.specs.SpanData.{IsSpan}
 pub use Rattle.reg_model.specs.State.{IsFree}
-pub use Rattle.tree_shape.specs.Lawful.{IsFilled, IsOrdered}
+pub use Rattle.tree_laws.specs.Lawful.{IsFilled, IsOrdered}
 pub use Rattle.tree_shape.specs.NodeData.{InOrder, IsInFences, IsInner, IsLeaf}
 pub use Rattle.tree_shape.specs.NodeData.{entries_of, pairs_of, place_for}
-pub use Rattle.tree_shape.specs.Steps.{IsFull, LiesAbove, middle}
+pub use Rattle.tree_laws.specs.Steps.{IsFull, LiesAbove, middle}
 pub use Rattle.tree_shape.specs.declared.limits.TheConstants.{HIGHEST_LEVEL, PAIRS}
 pub use Rattle.tree_shape.specs.declared.node.NodeBounds.{NodeBounds}
 pub use Rattle.word_rule.specs.CallerData.{due, surplus}

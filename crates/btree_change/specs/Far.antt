@@ -3,7 +3,7 @@ use Rattle.std.specs.Prelude.{◌≡◌, ℕ, ◌+◌, ◌<◌, true, [], ◌∷
 use Rattle.reg_model.specs.State.{IsFree}
 use Rattle.reg_model.specs.declared.span.Member.{Member}
 use Rattle.tree_shape.specs.NodeData.{NodeData, IsInFences, entries_of}
-use Rattle.tree_shape.specs.Steps.{LiesAbove}
+use Rattle.tree_laws.specs.Steps.{LiesAbove}
 use Rattle.tree_shape.specs.declared.node.NodeBounds.{NodeBounds}
 use Rattle.word_rule.specs.NodeTells.{IsLiveNode}
 use Rattle.word_rule.specs.TreeRefusals.{HadNoRoom}

@@ -2,7 +2,7 @@
 use Rattle.std.specs.Prelude.{◌≡◌, ℕ, ◌-◌, ◌<◌, ◌≤◌, Bool, List, [], ◌∷◌, IfSome}
 use Rattle.std.specs.Prelude.{IsSome, Contains, length}
 use Rattle.tree_shape.specs.NodeData.{NodeData}
-use Rattle.tree_shape.specs.Trees.{Branch, branches}
+use Rattle.tree_laws.specs.Trees.{Branch, branches}
 use Rattle.word_rule.specs.CallerData.{CallerData, KeepsCalls}
 use Rattle.word_rule.specs.declared.log.Holding.{Holding}
 use Rattle.word_rule.specs.declared.log.Holdings.{Holdings}

@@ -3,10 +3,10 @@ use Rattle.std.specs.Prelude.{◌≡◌, ◌≢◌, ℕ, ◌+◌, ◌<◌, ◌�
 use Rattle.std.specs.Prelude.{IsSome, IsTrue, Some, None, nat_lt}
 use Rattle.std.specs.List.{AllByRecursion, slice_get}
 use Rattle.tree_shape.specs.Changes.{at_slot, joined, pair, swallow_next}
-use Rattle.tree_shape.specs.Lawful.{fewest_pairs}
+use Rattle.tree_laws.specs.Lawful.{fewest_pairs}
 use Rattle.tree_shape.specs.NodeData.{NodeData, AreNeighbours, Body, Pairs, Entries, Link}
 use Rattle.tree_shape.specs.NodeData.{IsInFences, pairs_of}
-use Rattle.tree_shape.specs.Numbers.{is_among}
+use Rattle.tree_laws.specs.Numbers.{is_among}
 use Rattle.word_rule.specs.CallerData.{CallerData}
 use Rattle.word_rule.specs.Held.{all_but, held_of, without_lock}
 use Rattle.word_rule.specs.Spelling.{SpellsNode}

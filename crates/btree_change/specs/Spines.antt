@@ -7,9 +7,9 @@ use Rattle.std.specs.Prelude.{◌≡◌, ◌≢◌, ℕ, zero, suc, ◌+◌, ◌
 use Rattle.std.specs.Prelude.{◌∷◌, ◌++◌, ◌⊎◌, IsSome, IsTrue, None, Some, length, map, slice_get}
 use Rattle.std.specs.List.{AllByRecursion}
 use Rattle.tree_shape.specs.Changes.{begins_after, ends_at_fence}
-use Rattle.tree_shape.specs.Decisions.{is_entries}
+use Rattle.tree_laws.specs.Decisions.{is_entries}
 use Rattle.tree_shape.specs.NodeData.{NodeData, pairs_of}
-use Rattle.tree_shape.specs.Steps.{first_child, last_child}
+use Rattle.tree_laws.specs.Steps.{first_child, last_child}
 use Rattle.tree_shape.specs.declared.limits.TheConstants.{HIGHEST_LEVEL}
 use Rattle.tree_shape.specs.declared.node.NodeBounds.{NodeBounds}
 use Rattle.tree_shape.specs.declared.pair.Pair.{Pair}

@@ -5,7 +5,7 @@ use Rattle.std.specs.Prelude.{if◌then◌else◌}
 use Rattle.tree_shape.specs.Changes.{at_slot, divide, first_half, last_half}
 use Rattle.tree_shape.specs.NodeData.{NodeData, Body, Pairs, Entries, Link, IsInFences, IsInner}
 use Rattle.tree_shape.specs.NodeData.{pairs_of, slot_for}
-use Rattle.tree_shape.specs.Steps.{IsFull, middle, middle_fence, root_over}
+use Rattle.tree_laws.specs.Steps.{IsFull, middle, middle_fence, root_over}
 use Rattle.tree_shape.specs.declared.limits.TheConstants.{PAIRS, ENTRIES, HIGHEST_LEVEL}
 use Rattle.word_rule.specs.CallerData.{CallerData}
 use Rattle.word_rule.specs.Held.{held_of}

@@ -18,7 +18,8 @@ use crate::spines::{
 use crate::stand::Beyond;
 use node_store::{Busy, Locking, read_held, write_held};
 use reg_model::{Inserted, Member, Update};
-use tree_shape::{first_overlap, laws, set_separator};
+use tree_laws::laws;
+use tree_shape::{first_overlap, set_separator};
 use word_rule::exchange::exchange_decided;
 use word_rule::places::{LEVEL, updates_at};
 use word_rule::{Ask, Caller, Words};

@@ -14,7 +14,7 @@ ghost use Rattle.btree_change.specs.Stands.{StandsAt};
 use crate::descent::{Held, let_go_of};
 use node_store::{Locking, Placed, entry_of, put_in_place};
 use reg_model::{Inserted, Member, Span, Update};
-use tree_shape::laws;
+use tree_laws::laws;
 use word_rule::exchange::exchange_decided;
 use word_rule::places::{COUNT, updates_at};
 use word_rule::{Ask, Caller, Words};

@@ -11,7 +11,7 @@ ghost use Rattle.btree_change.specs.Removing.{HoldsAlone, IsSpare};
 use crate::descent::Held;
 use node_store::{cut_in_place, entry_of};
 use reg_model::{Member, Removed, Update};
-use tree_shape::laws;
+use tree_laws::laws;
 use word_rule::exchange::exchange_decided;
 use word_rule::places::{COUNT, updates_at};
 use word_rule::{Ask, Caller, Words};

@@ -15,7 +15,8 @@ ghost use Rattle.btree_change.specs.Siblings.{is_small_body, joined_above, sunk_
 use crate::descent::{Held, content_of, let_go_of};
 use crate::sibling::Siblings;
 use node_store::{Busy, Locking, Outline, give_free, outline_of, write_held};
-use tree_shape::{Node, drop_pair, even_pair, join_pair, laws, set_separator, sink_root};
+use tree_laws::laws;
+use tree_shape::{Node, drop_pair, even_pair, join_pair, set_separator, sink_root};
 use word_rule::exchange::exchange_decided;
 use word_rule::places::{FREE, KIND, LEVEL, LINK};
 use word_rule::{Caller, LockId, Words};

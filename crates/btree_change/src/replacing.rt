@@ -12,7 +12,8 @@ ghost use Rattle.btree_change.specs.Replacement.{RefusesReplacement, ReplacesMem
 use crate::descent::Held;
 use node_store::{begun_in, entry_of, read_held, write_held};
 use reg_model::{Member, Replaced, Span, Update};
-use tree_shape::{laws, replace_entry};
+use tree_laws::laws;
+use tree_shape::replace_entry;
 use word_rule::exchange::exchange_decided;
 use word_rule::places::{COUNT, updates_at};
 use word_rule::{Ask, Caller, Words};

@@ -1,7 +1,7 @@
 //! A child of a held node, and a neighbour beside it, locked and outlined.
 ghost use Rattle.std.specs.Prelude.{◌≡◌, ◌≢◌, ◌<◌, ◌+◌, ◌^◌, ◌⊎◌, true, IfOk, IfErr, length, ℕ};
-ghost use Rattle.tree_shape.specs.Decisions.{is_entries};
-ghost use Rattle.tree_shape.specs.Lawful.{IsOrdered};
+ghost use Rattle.tree_laws.specs.Decisions.{is_entries};
+ghost use Rattle.tree_laws.specs.Lawful.{IsOrdered};
 ghost use Rattle.tree_shape.specs.NodeData.{IsInFences, IsInner, pairs_of};
 ghost use Rattle.word_rule.specs.CallerData.{surplus};
 ghost use Rattle.node_store.specs.Locking.{FoundBusy};

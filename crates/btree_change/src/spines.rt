@@ -1,7 +1,7 @@
 //! The spines beside a fence, level by level: locked, written, and let go of.
 ghost use Rattle.std.specs.Prelude.{◌≡◌, ◌+◌, ◌-◌, ◌<◌, true, IfOk, IfErr, Some, length, slice_get};
 ghost use Rattle.tree_shape.specs.NodeData.{pairs_of};
-ghost use Rattle.tree_shape.specs.Steps.{first_child, last_child};
+ghost use Rattle.tree_laws.specs.Steps.{first_child, last_child};
 ghost use Rattle.word_rule.specs.CallerData.{surplus};
 ghost use Rattle.btree_change.specs.Paths.{StepsOnNodes};
 ghost use Rattle.node_store.specs.Locking.{FoundBusy};

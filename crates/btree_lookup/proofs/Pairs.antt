@@ -6,8 +6,8 @@ use Rattle.std.proofs.lemmas.Option.{none-some, same_Some}
 use Rattle.std.proofs.lemmas.List.Elements.{Contains-append_left}
 use native.Mathlib.Decide.{ℕ_discrete}
 use Rattle.tree_shape.specs.NodeData.{NodeData, Body, Pairs, Entries, Link, Cut, pairs_in}
-use Rattle.tree_shape.specs.Lawful.{IsOrderedAs, IsFilledAs}
-use Rattle.tree_shape.specs.Trees.{Branch, branches_from}
+use Rattle.tree_laws.specs.Lawful.{IsOrderedAs, IsFilledAs}
+use Rattle.tree_laws.specs.Trees.{Branch, branches_from}
 use Rattle.tree_shape.specs.declared.node.NodeBounds.{NodeBounds}
 use Rattle.tree_shape.specs.declared.pair.Pair.{Pair}
 use Rattle.word_rule.specs.declared.log.LoadedWord.{LoadedWord}

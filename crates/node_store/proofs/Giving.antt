@@ -5,7 +5,7 @@ use native.Mathlib.Decide.{ℕ_discrete}
 use Rattle.std.proofs.lemmas.Bool.{eqb-true, lt-ltb}
 use Rattle.std.proofs.lemmas.Option.{none-some, cond_some}
 use Rattle.std.specs.List.{AllByRecursion}
-use Rattle.tree_shape.specs.Numbers.{is_among}
+use Rattle.tree_laws.specs.Numbers.{is_among}
 use Rattle.tree_shape.specs.NodeData.{NodeData, Link}
 use Rattle.word_rule.specs.declared.log.Log.{Log}
 use Rattle.word_rule.specs.declared.log.Holding.{Holding}

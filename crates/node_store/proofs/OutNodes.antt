@@ -3,8 +3,8 @@ use Rattle.std.proofs.Common.{◌≡◌, ◌≢◌, ◌⊎◌, inr, ℕ, ◌-◌
 use Rattle.std.proofs.lemmas.Bool.{eq-eqb}
 use native.Mathlib.Decide.{ℕ_discrete}
 use Rattle.std.specs.List.{AllByRecursion}
-use Rattle.tree_shape.proofs.Times.{all_among}
-use Rattle.tree_shape.specs.Numbers.{is_among}
+use Rattle.tree_laws.proofs.Times.{all_among}
+use Rattle.tree_laws.specs.Numbers.{is_among}
 use Rattle.tree_shape.specs.NodeData.{NodeData}
 use Rattle.word_rule.specs.CallerData.{CallerData, surplus}
 use Rattle.word_rule.specs.Exchange.{exchange, nothing_reached}

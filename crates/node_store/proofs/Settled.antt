@@ -2,8 +2,8 @@
 use Rattle.std.proofs.Common.{◌≡◌, ℕ, Bool, true, false, true≢false, ◌&&◌, ◌||◌, ◌==◌, not, List, [], ◌∷◌, map, Option, None, IsSome, is_some, if◌then◌else◌, refl, ap, sym, ◌∙◌}
 use Rattle.std.specs.Bool.{Decides}
 use Rattle.std.specs.List.{AllByRecursion, filter}
-use Rattle.tree_shape.specs.Numbers.{is_among}
-use Rattle.tree_shape.proofs.Deciding.{same_shape_decides}
+use Rattle.tree_laws.specs.Numbers.{is_among}
+use Rattle.tree_laws.proofs.Deciding.{same_shape_decides}
 use Rattle.reg_model.specs.declared.answer.Update.{Update}
 use Rattle.word_rule.specs.declared.log.Log.{Log}
 use Rattle.word_rule.specs.declared.log.Holding.{Holding}

@@ -5,7 +5,7 @@
 //! link is the next head for as long as it stays the first one.
 ghost use Rattle.std.specs.Prelude.{◌≡◌, ◌≢◌, ◌+◌, ◌<◌, ◌≤◌, ◌^◌, None, length, IsSome};
 ghost use Rattle.std.specs.Prelude.{IsTrue, IsSomeAnd, MatchBool, OnOk, IfErr, true, ℕ};
-ghost use Rattle.tree_shape.specs.Numbers.{is_among};
+ghost use Rattle.tree_laws.specs.Numbers.{is_among};
 ghost use Rattle.word_rule.specs.CallerData.{surplus};
 ghost use Rattle.word_rule.specs.Held.{held_of};
 ghost use Rattle.word_rule.specs.NodeTells.{HolderTells, OutTells};

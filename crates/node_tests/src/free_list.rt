@@ -1,6 +1,6 @@
 ghost use Rattle.std.specs.Prelude.{◌≡◌, ◌+◌, ◌<◌, ◌≤◌, [], ◌∷◌, ◌++◌, length, true, IsTrue};
 ghost use Rattle.std.specs.Option.{option_to_list};
-ghost use Rattle.tree_shape.specs.Numbers.{is_among};
+ghost use Rattle.tree_laws.specs.Numbers.{is_among};
 ghost use Rattle.word_rule.specs.CallerData.{surplus};
 ghost use Rattle.word_rule.specs.Held.{all_but};
 ghost use Rattle.node_store.specs.Free.{HoldsOut};

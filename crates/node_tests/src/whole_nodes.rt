@@ -1,5 +1,5 @@
 ghost use Rattle.std.specs.Prelude.{◌≡◌, ◌+◌, ◌*◌, ◌<◌, ◌≤◌, [], true, IsTrue};
-ghost use Rattle.tree_shape.specs.Numbers.{is_among};
+ghost use Rattle.tree_laws.specs.Numbers.{is_among};
 ghost use Rattle.word_rule.specs.CallerData.{surplus};
 ghost use Rattle.node_store.specs.Free.{HoldsOut};
 

@@ -1,9 +1,9 @@
 -- Members of which one gets another payload.
-use Rattle.std.proofs.Common.{◌≡◌, ◌≢◌, ◌↔◌, ℕ, suc, ◌+◌, ◌<◌, ◌≤◌, List, [], ◌∷◌, length, refl}
+use Rattle.std.proofs.Common.{◌≡◌, ◌≢◌, ℕ, suc, ◌+◌, ◌<◌, ◌≤◌, List, [], ◌∷◌, length, refl}
 use Rattle.std.proofs.Common.{ap, sym, ◌∙◌, subst, arith, cond, ltb, eqb, not, Some, IsSome, inl, ◌&&◌}
-use Rattle.std.proofs.Common.{inr, ◌⊎◌, ◌==◌}
+use Rattle.std.proofs.Common.{inr, ◌==◌}
 use Rattle.std.specs.Bool.{Decides}
-use Rattle.std.proofs.lemmas.Bool.{cases_Bool, cond-true, cond-false, both_ways, eq-eqb, ne_eqb}
+use Rattle.std.proofs.lemmas.Bool.{cases_Bool, cond-true, cond-false, eq-eqb, ne_eqb}
 use Rattle.std.proofs.lemmas.Bool.{lt-ltb, le-ltb}
 use Rattle.std.proofs.lemmas.Bool.Decides.{Decides-eqb, Decides-and, Decides-like}
 use Rattle.reg_model.specs.SpanData.{SpanData, is_same_span}
@@ -12,7 +12,6 @@ use Rattle.reg_model.specs.State.{at_base, at_span}
 use Rattle.reg_model.specs.History.{with_payload, without}
 use Rattle.tree_shape.specs.NodeData.{EntriesWithin}
 use Rattle.tree_shape.specs.Changes.{with_entry}
-use Rattle.tree_shape.proofs.Times.{In}
 use Rattle.tree_shape.proofs.Slots.{none_at}
 
 pub same_span_decides : (a b : SpanData) → Decides (is_same_span a b) (a ≡ b)
@@ -21,76 +20,6 @@ same_span_decides a b = Decides-like (is_same_span a b)
     (λ e. (ap (λ (s : SpanData). s.first) e, ap (λ (s : SpanData). s.last) e))
     (Decides-and (a.first == b.first) (a.last == b.last)
     (Decides-eqb a.first b.first) (Decides-eqb a.last b.last))
-
--- one of them keeps its payload where its span is another
-payload_other : (m e : Member) (xs : List Member) → e.span ≢ m.span → In e (with_payload m (e ∷ xs))
-payload_other m e xs other = elim (cases_Bool (is_same_span e.span m.span)) [
-  | inl same ↦ absurd (other ((same_span_decides e.span m.span).0 same))
-  | inr differs ↦ inl (cond-false (is_same_span e.span m.span) m e differs)
-]
-
-payload_in : (m : Member) (xs : List Member) (x : Member) → In x (with_payload m xs) →
-    (In x xs × (x.span ≢ m.span)) ⊎ (x ≡ m)
-payload_in m [] x there = absurd there
-payload_in m (e ∷ xs) x there = elim there [
-  | inl here ↦ elim (cases_Bool (is_same_span e.span m.span)) [
-    | inl same ↦ inr (sym here ∙ cond-true (is_same_span e.span m.span) m e same)
-    | inr differs ↦
-        let is : e ≡ x = sym (cond-false (is_same_span e.span m.span) m e differs) ∙ here in
-        inl (
-          inl is,
-          λ k. both_ways (is_same_span e.span m.span) differs
-              ((same_span_decides e.span m.span).1 (ap (λ (y : Member). y.span) is ∙ k)),
-        )
-  ]
-  | inr later ↦ elim (payload_in m xs x later) [
-    | inl old ↦ inl (inr old.0, old.1)
-    | inr e ↦ inr e
-  ]
-]
-
-payload_old : (m : Member) (xs : List Member) (x : Member) → In x xs → x.span ≢ m.span →
-    In x (with_payload m xs)
-payload_old m [] x there other = absurd there
-payload_old m (e ∷ xs) x there other = elim there [
-  | inl is ↦ subst (λ y. In y (with_payload m (e ∷ xs))) is
-      (payload_other m e xs (subst (λ (y : Member). y.span ≢ m.span) (sym is) other))
-  | inr later ↦ inr (payload_old m xs x later other)
-]
-
-payload_new : (m : Member) (xs : List Member) (x : Member) → In x xs → x.span ≡ m.span →
-    In m (with_payload m xs)
-payload_new m [] x there same = absurd there
-payload_new m (e ∷ xs) x there same = elim there [
-  | inl is ↦ inl (cond-true (is_same_span e.span m.span) m e
-      ((same_span_decides e.span m.span).1 (ap (λ (y : Member). y.span) is ∙ same)))
-  | inr later ↦ inr (payload_new m xs x later same)
-]
-
--- what is listed then, where one had the span
-pub listed_payload : (m : Member) (xs : List Member) →
-    ((y : Member) × (In y xs × (y.span ≡ m.span))) → (x : Member) →
-    In x (with_payload m xs) ↔ ((In x xs × (x.span ≢ m.span)) ⊎ (x ≡ m))
-listed_payload m xs held x = (
-  payload_in m xs x,
-  λ h. elim h [
-    | inl old ↦ payload_old m xs x old.0 old.1
-    | inr is ↦ subst (λ y. In y (with_payload m xs)) (sym is)
-        (payload_new m xs held.0 held.1.0 held.1.1)
-  ],
-)
-
--- the one with the span is listed
-pub span_listed : (span : SpanData) (xs : List Member) → IsSome (at_span span xs) →
-    (y : Member) × (In y xs × (y.span ≡ span))
-span_listed span [] held = absurd (cc)
-span_listed span (e ∷ xs) held = elim (cases_Bool (is_same_span e.span span)) [
-  | inl same ↦ (e, (inl refl, (same_span_decides e.span span).0 same))
-  | inr differs ↦
-      let rest = span_listed span xs
-      (subst (λ v. IsSome (cond v (Some e) (at_span span xs))) differs held) in
-      (rest.0, (inr rest.1.0, rest.1.1))
-]
 
 -- one of them, with the payload that it has then
 abbrev paid : Member → Member → Member
@@ -140,15 +69,19 @@ put_first m low high (e ∷ entries) within above =
     cond-true (ltb m.span.first e.span.first) (m ∷ e ∷ entries) (e ∷ with_entry m entries)
     (lt-ltb m.span.first e.span.first (omega arith))
 
-begins_from : (low high : ℕ) (entries : List Member) (y : Member) → EntriesWithin low high entries →
-    In y entries → low ≤ y.span.first
-begins_from low high [] y within there = absurd there
-begins_from low high (e ∷ entries) y within there = elim there [
-  | inl is ↦ subst (λ (z : Member). low ≤ z.span.first) is within.0.0
-  | inr later ↦
-      let rest = begins_from (e.span.last + 1) high entries y (within.0.2, within.1.1) later in
-      omega arith
-]
+-- one with the span begins at or above the low fence
+span_from : (span : SpanData) (low high : ℕ) (entries : List Member) →
+    EntriesWithin low high entries → IsSome (at_span span entries) → low ≤ span.first
+span_from span low high [] within held = absurd (cc)
+span_from span low high (e ∷ entries) within held =
+    elim (cases_Bool (is_same_span e.span span)) [
+      | inl same ↦ subst (λ (s : SpanData). low ≤ s.first)
+          ((same_span_decides e.span span).0 same) within.0.0
+      | inr differs ↦
+          let rest = span_from span (e.span.last + 1) high entries (within.0.2, within.1.1)
+          (subst (λ v. IsSome (cond v (Some e) (at_span span entries))) differs held) in
+          omega (arith, rest, within.0.0, within.0.1)
+    ]
 
 -- one with the span begins at its base
 pub span_begins : (span : SpanData) (entries : List Member) → IsSome (at_span span entries) →
@@ -185,16 +118,13 @@ taken_and_put m low high (e ∷ entries) within held =
       | inr differs ↦
           let held' : IsSome (at_span m.span entries) =
           subst (λ v. IsSome (cond v (Some e) (at_span m.span entries))) differs held in
-          let at = span_listed m.span entries held' in
-          let from = begins_from (e.span.last + 1) high entries at.0 (within.0.2, within.1.1)
-          at.1.0 in
-          let same = ap (λ (y : SpanData). y.first) at.1.1 in
-          let other : e.span.first ≢ m.span.first = λ k. omega (arith, k, same, from, within.0.1) in
+          let from = span_from m.span (e.span.last + 1) high entries (within.0.2, within.1.1) held' in
+          let other : e.span.first ≢ m.span.first = λ k. omega (arith, k, from, within.0.1) in
           ap (λ v. with_entry m (cond (not v) (e ∷ without m.span.first entries)
           (without m.span.first entries))) (ne_eqb e.span.first m.span.first other)
           ∙ cond-false (ltb m.span.first e.span.first)
           (m ∷ e ∷ without m.span.first entries) (e ∷ with_entry m (without m.span.first entries))
-          (le-ltb m.span.first e.span.first (omega (arith, same, from, within.0.1)))
+          (le-ltb m.span.first e.span.first (omega (arith, from, within.0.1)))
           ∙ together e (paid m e) (with_entry m (without m.span.first entries))
           (with_payload m entries)
           (sym (cond-false (is_same_span e.span m.span) m e differs))

@@ -1,7 +1,7 @@
 -- Pairs and entries by their places.
 use Rattle.std.proofs.Common.{◌≡◌, ℕ, zero, suc, ◌+◌, ◌<◌, ◌≤◌, List, [], ◌∷◌, ◌++◌, length, take}
 use Rattle.std.proofs.Common.{drop, get_or, refl, ap, arith, Some, None, IsSome, eqb, ltb, leb, inl}
-use Rattle.std.proofs.Common.{inr}
+use Rattle.std.proofs.Common.{inr, true, false, cond}
 use Rattle.std.proofs.Math.Numerals.{add-one}
 use Rattle.std.proofs.lemmas.Bool.{cond_both, cond-true, leb-false, ltb-true, eqb-true, ne_eqb}
 use Rattle.std.proofs.lemmas.Bool.{lt-ltb, le-ltb, cases_Bool}
@@ -45,6 +45,15 @@ pub with_entry-parts : (m : Member) (entries : List Member) →
 with_entry-parts m [] = refl
 with_entry-parts m (e ∷ entries) =
     elim (cases_Bool (ltb m.span.first e.span.first)) [ inl t ↦ rw (t) refl | inr f ↦ rw (f, add-one) (ap (λ es. e ∷ es) (with_entry-parts m entries)) ]
+
+-- there is one more
+pub put_length : (entries : List Member) (m : Member) → length (with_entry m entries) ≡ suc (length entries)
+put_length [] m = refl
+put_length (e ∷ entries) m =
+    elim (ltb m.span.first e.span.first) as (λ v. length (cond v (m ∷ e ∷ entries) (e ∷ with_entry m entries)) ≡ suc (suc (length entries))) [
+      | true ↦ refl
+      | false ↦ ap suc (put_length entries m)
+    ]
 
 -- where an entry with a first address stands, in ordered entries
 pub record AtPlace (base : ℕ) (entries : List Member) (k : ℕ) : Type 0 where

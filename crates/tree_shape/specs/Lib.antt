@@ -1,9 +1,3 @@
 pub mod NodeData
 pub mod Nodes
-pub mod Numbers
-pub mod Trees
 pub mod Changes
-pub mod Lawful
-pub mod LocalChange
-pub mod Steps
-pub mod Decisions

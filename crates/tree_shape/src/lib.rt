@@ -1,19 +1,16 @@
-//! The tree's nodes as plain values: how they are searched, cut, joined and edited, and why a tree
-//! of them finds what it holds.
+//! The tree's nodes as plain values: how they are searched, cut, joined and edited.
 //!
 //! Above spans and members (`reg_model`) and below the shared words: no node is locked or stored
 //! here. Each change takes nodes by reference and gives new ones; it takes no memory and never
-//! refuses. `specs/NodeData` says what a contract sees of a node, `specs/Trees` and `specs/Lawful`
-//! when contents by node number are a lawful tree, `specs/LocalChange` what a writer has to show of
-//! the nodes that it holds so that the whole tree stays lawful. The laws stand in `laws`, the
-//! numbers in `limits`.
+//! refuses. `specs/NodeData` says what a contract sees of a node, `specs/Changes` what each change
+//! makes of it; why a tree of such nodes finds what it holds, `tree_laws` says. The numbers stand
+//! in `limits`.
 #![tactic(auto)]
 
 mod array_front;
 mod edits;
 mod find;
 mod join;
-pub mod laws;
 pub mod limits;
 mod node;
 mod pair;

@@ -17,7 +17,7 @@ use Rattle.reg_model.specs.declared.answer.Receipt.{Receipt}
 use Rattle.word_rule.specs.declared.log.ReceiptList.{ReceiptList}
 use Rattle.word_rule.specs.declared.log.Log.{Log}
 use Rattle.word_rule.specs.declared.log.Terms.{Terms}
-use Rattle.tree_shape.specs.Numbers.{once}
+use Rattle.tree_laws.specs.Numbers.{once}
 use Rattle.word_rule.specs.Logs.{is_nameless}
 use Rattle.word_rule.specs.Callers.{total, CallersHold, LogHolds, IsRecord, ReceiptsHold, IsAlone, IsWhole, dones_of_all, dones_in, number_of, start}
 use Rattle.word_rule.specs.TableInvariant.{TableInvariant}

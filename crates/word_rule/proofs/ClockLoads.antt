@@ -14,8 +14,8 @@ use Rattle.reg_model.proofs.Histories.{lawful_history}
 use Rattle.reg_model.specs.SpanData.{contains}
 use Rattle.reg_model.specs.Query.{member_at}
 use Rattle.tree_shape.specs.NodeData.{IsLeaf, IsInFences, LiesInFences, entries_of}
-use Rattle.tree_shape.specs.Trees.{Contents, HasEntry}
-use Rattle.tree_shape.specs.Lawful.{IsTree}
+use Rattle.tree_laws.specs.Trees.{Contents, HasEntry}
+use Rattle.tree_laws.specs.Lawful.{IsTree}
 use Rattle.word_rule.specs.declared.log.ReceiptList.{ReceiptList}
 use Rattle.word_rule.specs.declared.log.Ask.{Ask}
 use Rattle.word_rule.specs.declared.log.Ask.TheVariants as ask

@@ -14,11 +14,11 @@ use Rattle.reg_model.specs.declared.span.Member.{Member}
 use Rattle.reg_model.specs.declared.answer.Update.{Update}
 use Rattle.reg_model.specs.declared.answer.Receipt.{Receipt}
 use Rattle.reg_model.proofs.Histories.{state_after-append}
-use Rattle.tree_shape.specs.Numbers.{once, is_among}
+use Rattle.tree_laws.specs.Numbers.{once, is_among}
 use Rattle.tree_shape.specs.NodeData.{entries_of}
-use Rattle.tree_shape.specs.Trees.{Contents, HasEntry, entries}
-use Rattle.tree_shape.specs.Lawful.{IsLawfulTree}
-use Rattle.tree_shape.specs.LocalChange.{EntriesBecome}
+use Rattle.tree_laws.specs.Trees.{Contents, HasEntry, entries}
+use Rattle.tree_laws.specs.Lawful.{IsLawfulTree}
+use Rattle.tree_laws.specs.LocalChange.{EntriesBecome}
 use Rattle.word_rule.specs.declared.log.Role.TheVariants as role
 use Rattle.word_rule.specs.declared.log.Terms.{Terms}
 use Rattle.word_rule.specs.declared.log.Holdings.{Holdings}

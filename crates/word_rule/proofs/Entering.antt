@@ -6,7 +6,7 @@ use lib.ListN.{get_elem?}
 use Rattle.atomic_table.specs.Table.{State as TableState, Splits, Enters}
 use Rattle.atomic_table.proofs.Lists.{at_longer, set_again}
 use Rattle.reg_model.specs.declared.answer.Update.{Update}
-use Rattle.tree_shape.specs.Numbers.{times, once}
+use Rattle.tree_laws.specs.Numbers.{times, once}
 use Rattle.word_rule.specs.declared.log.Log.{Log}
 use Rattle.word_rule.specs.declared.log.Terms.{Terms}
 use Rattle.word_rule.specs.SharedWords.{SharedWords, memory_of}

@@ -6,13 +6,13 @@ use Rattle.std.proofs.lemmas.Bool.{cond-false, le-leb, leb-true}
 use Rattle.std.proofs.lemmas.Bool.Decides.{Decides-and, Decides-like}
 use Rattle.reg_model.specs.declared.answer.Update.{Update}
 use Rattle.tree_shape.specs.NodeData.{NodeData}
-use Rattle.tree_shape.specs.Numbers.{is_among}
-use Rattle.tree_shape.specs.Trees.{Contents}
-use Rattle.tree_shape.specs.LocalChange.{IsLawfulChange, either}
-use Rattle.tree_shape.specs.Decisions.{is_lawful_change}
-use Rattle.tree_shape.proofs.Times.{In, all_at, all_from, in_times}
-use Rattle.tree_shape.proofs.Halves.{among}
-use Rattle.tree_shape.proofs.Deciding.{implies_decides, all_decides, listed_decides, same_shape_decides}
+use Rattle.tree_laws.specs.Numbers.{is_among}
+use Rattle.tree_laws.specs.Trees.{Contents}
+use Rattle.tree_laws.specs.LocalChange.{IsLawfulChange, either}
+use Rattle.tree_laws.specs.Decisions.{is_lawful_change}
+use Rattle.tree_laws.proofs.Times.{In, all_at, all_from, in_times}
+use Rattle.tree_laws.proofs.Halves.{among}
+use Rattle.tree_laws.proofs.Deciding.{implies_decides, all_decides, listed_decides, same_shape_decides}
 use Rattle.word_rule.specs.declared.log.Log.{Log}
 use Rattle.word_rule.specs.declared.log.Holding.{Holding}
 use Rattle.word_rule.specs.Spelling.{spelled, SpellsNode}

@@ -9,12 +9,12 @@ use native.Mathlib.Decide.{ℕ_discrete}
 use lib.ListN.{get_elem?}
 use Rattle.reg_model.specs.declared.answer.Update.{Update}
 use Rattle.tree_shape.specs.declared.node.NodeBounds.{NodeBounds}
-use Rattle.tree_shape.specs.Trees.{Contents, HasEntry}
-use Rattle.tree_shape.specs.Numbers.{times, once, is_among}
-use Rattle.tree_shape.specs.Lawful.{IsLawfulTree}
-use Rattle.tree_shape.specs.LocalChange.{either, reached_nodes, live_after, IsLawfulChange, IsSameChange, EntriesBecome}
-use Rattle.tree_shape.proofs.Reach.{within_set}
-use Rattle.tree_shape.proofs.Times.{times-append, once_most}
+use Rattle.tree_laws.specs.Trees.{Contents, HasEntry}
+use Rattle.tree_laws.specs.Numbers.{times, once, is_among}
+use Rattle.tree_laws.specs.Lawful.{IsLawfulTree}
+use Rattle.tree_laws.specs.LocalChange.{either, reached_nodes, live_after, IsLawfulChange, IsSameChange, EntriesBecome}
+use Rattle.tree_laws.proofs.Reach.{within_set}
+use Rattle.tree_laws.proofs.Times.{times-append, once_most}
 use Rattle.word_rule.specs.declared.log.Terms.{Terms}
 use Rattle.word_rule.specs.declared.log.Holding.{Holding}
 use Rattle.word_rule.specs.declared.log.Log.{Log}

@@ -4,9 +4,9 @@ use mathlib.Core.Option.{none, some}
 use native.Mathlib.Decide.{ℕ_discrete}
 use lib.ListN.{get_elem?}
 use Rattle.atomic_table.specs.Table.{step, keeps, Allows}
-use Rattle.tree_shape.specs.Trees.{Contents, nodes, entries}
-use Rattle.tree_shape.specs.Numbers.{times, once}
-use Rattle.tree_shape.specs.Lawful.{IsLawfulTree}
+use Rattle.tree_laws.specs.Trees.{Contents, nodes, entries}
+use Rattle.tree_laws.specs.Numbers.{times, once}
+use Rattle.tree_laws.specs.Lawful.{IsLawfulTree}
 use Rattle.word_rule.specs.declared.log.Role.TheVariants as role
 use Rattle.word_rule.specs.declared.log.Terms.{Terms}
 use Rattle.word_rule.specs.declared.log.Log.{Log}

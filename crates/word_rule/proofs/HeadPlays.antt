@@ -5,10 +5,10 @@ use native.Mathlib.Decide.{ℕ_discrete}
 use lib.ListN.{get_elem?}
 use Rattle.atomic_table.specs.Table.{step, Act, keeps, stepped, carried_after, Valid, Allows}
 use Rattle.tree_shape.specs.NodeData.{NodeData, Link}
-use Rattle.tree_shape.specs.Trees.{Contents}
-use Rattle.tree_shape.specs.Numbers.{times, once}
-use Rattle.tree_shape.specs.Lawful.{IsTree}
-use Rattle.tree_shape.proofs.Times.{once_most}
+use Rattle.tree_laws.specs.Trees.{Contents}
+use Rattle.tree_laws.specs.Numbers.{times, once}
+use Rattle.tree_laws.specs.Lawful.{IsTree}
+use Rattle.tree_laws.proofs.Times.{once_most}
 use Rattle.word_rule.specs.declared.log.Role.TheVariants as role
 use Rattle.word_rule.specs.declared.log.Terms.{Terms}
 use Rattle.word_rule.specs.declared.log.Holding.{Holding}

@@ -8,8 +8,8 @@ use Rattle.reg_model.specs.State.{IsFree, IsLowestOverlap, at_base}
 use Rattle.reg_model.specs.declared.span.Member.{Member}
 use Rattle.reg_model.proofs.Members.{taken_from}
 use Rattle.tree_shape.specs.NodeData.{NodeData, Body, Pairs, Entries, Link, IsInFences, entries_in, entries_of}
-use Rattle.tree_shape.specs.Trees.{Contents}
-use Rattle.tree_shape.specs.Lawful.{IsOrdered, IsOrderedAs}
+use Rattle.tree_laws.specs.Trees.{Contents}
+use Rattle.tree_laws.specs.Lawful.{IsOrdered, IsOrderedAs}
 use Rattle.word_rule.specs.declared.log.Holding.{Holding}
 use Rattle.word_rule.specs.declared.log.Log.{Log}
 use Rattle.word_rule.specs.Held.{marked_in, settled_in}

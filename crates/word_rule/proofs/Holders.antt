@@ -5,8 +5,8 @@ use lib.ListN.{get_elem?}
 use Rattle.reg_model.specs.declared.answer.Update.{Update}
 use Rattle.std.specs.List.{AllByRecursion}
 use Rattle.tree_shape.specs.declared.node.NodeBounds.{NodeBounds}
-use Rattle.tree_shape.specs.Numbers.{once, times}
-use Rattle.tree_shape.proofs.Times.{once_most}
+use Rattle.tree_laws.specs.Numbers.{once, times}
+use Rattle.tree_laws.proofs.Times.{once_most}
 use Rattle.word_rule.specs.declared.log.Terms.{Terms}
 use Rattle.word_rule.specs.declared.log.Holding.{Holding}
 use Rattle.word_rule.specs.declared.log.Log.{Log}

@@ -7,9 +7,9 @@ use lib.ListN.{get_or-append}
 use lib.Seq.{drop-append_seam, drop-append-add, take-append_seam}
 use Rattle.reg_model.specs.declared.span.Member.{Member}
 use Rattle.tree_shape.specs.NodeData.{NodeData, Body, Link, Entries, entries_of}
-use Rattle.tree_shape.specs.Trees.{HasEntry, branches}
-use Rattle.tree_shape.specs.Numbers.{times, once}
-use Rattle.tree_shape.specs.Lawful.{IsLawfulTree, IsOrdered, IsFilled, FitsParent}
+use Rattle.tree_laws.specs.Trees.{HasEntry, branches}
+use Rattle.tree_laws.specs.Numbers.{times, once}
+use Rattle.tree_laws.specs.Lawful.{IsLawfulTree, IsOrdered, IsFilled, FitsParent}
 use Rattle.word_rule.specs.declared.log.Terms.{Terms}
 use Rattle.word_rule.specs.Places.{copy_words, copy_place, initial_kind, initial_link, initial_node, initial_nodes, initial_words}
 use Rattle.word_rule.specs.SharedWords.{memory_of, part, copy_of}

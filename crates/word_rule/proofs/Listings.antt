@@ -15,7 +15,7 @@ use Rattle.reg_model.proofs.Histories.{lawful_history}
 use Rattle.segment_array.specs.Ascending.{AscendFrom}
 use Rattle.word_rule.specs.declared.log.Terms.{Terms}
 use Rattle.std.proofs.lemmas.List.Sums.{count_by-le-length, sum_by-cons}
-use Rattle.tree_shape.specs.Numbers.{once}
+use Rattle.tree_laws.specs.Numbers.{once}
 use Rattle.word_rule.specs.Callers.{IsOfTerms, IsMemberOf, AreTerms, is_of_loader, publications, start}
 use Rattle.word_rule.proofs.Each.{all_append}
 use Rattle.word_rule.specs.Copies.{StandFrom, ListsMembers, ListsAll}

@@ -12,10 +12,10 @@ use Rattle.reg_model.specs.declared.answer.Update.{Update}
 use Rattle.reg_model.specs.declared.answer.Receipt.{Receipt}
 use Rattle.reg_model.specs.declared.span.Member.{Member}
 use Rattle.tree_shape.specs.NodeData.{EntriesWithin, pairs_of, entries_of}
-use Rattle.tree_shape.specs.Trees.{Contents, nodes, entries, HasEntry}
-use Rattle.tree_shape.specs.Numbers.{times, once}
-use Rattle.tree_shape.specs.Lawful.{IsTree, IsLawfulTree}
-use Rattle.tree_shape.proofs.Times.{once_most}
+use Rattle.tree_laws.specs.Trees.{Contents, nodes, entries, HasEntry}
+use Rattle.tree_laws.specs.Numbers.{times, once}
+use Rattle.tree_laws.specs.Lawful.{IsTree, IsLawfulTree}
+use Rattle.tree_laws.proofs.Times.{once_most}
 use Rattle.word_rule.specs.declared.log.Terms.{Terms}
 use Rattle.word_rule.specs.declared.log.Holding.{Holding}
 use Rattle.word_rule.specs.declared.log.CopySight.{CopySight}

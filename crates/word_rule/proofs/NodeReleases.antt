@@ -11,7 +11,7 @@ use Rattle.atomic_table.specs.Table.{step, keeps, Allows}
 use Rattle.atomic_table.proofs.Lists.{set_here}
 use Rattle.tree_shape.specs.NodeData.{NodeData}
 use Rattle.reg_model.specs.declared.answer.Update.{Update}
-use Rattle.tree_shape.specs.Numbers.{once, is_among}
+use Rattle.tree_laws.specs.Numbers.{once, is_among}
 use Rattle.word_rule.specs.declared.log.Role.TheVariants as role
 use Rattle.word_rule.specs.declared.log.Budget.{Budget}
 use Rattle.word_rule.specs.declared.log.Terms.{Terms}

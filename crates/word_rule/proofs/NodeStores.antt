@@ -7,8 +7,8 @@ use lib.ListN.{get_elem?}
 use Rattle.atomic_table.specs.Table.{step, keeps, Allows}
 use Rattle.atomic_table.proofs.Lists.{set_here}
 use Rattle.tree_shape.specs.declared.node.NodeBounds.{NodeBounds}
-use Rattle.tree_shape.specs.Numbers.{times, once, is_among}
-use Rattle.tree_shape.proofs.Times.{once_most}
+use Rattle.tree_laws.specs.Numbers.{times, once, is_among}
+use Rattle.tree_laws.proofs.Times.{once_most}
 use Rattle.word_rule.specs.declared.log.Role.TheVariants as role
 use Rattle.word_rule.specs.declared.log.Terms.{Terms}
 use Rattle.word_rule.specs.declared.log.Holding.{Holding}

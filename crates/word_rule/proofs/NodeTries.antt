@@ -12,8 +12,8 @@ use prog.Atomic.{either}
 use Rattle.atomic_table.specs.Table.{step, Act, keeps, stepped, carried_after, Valid, Allows}
 use Rattle.tree_shape.specs.declared.node.NodeBounds.{NodeBounds}
 use Rattle.tree_shape.specs.NodeData.{NodeData}
-use Rattle.tree_shape.specs.Trees.{Contents, Branch, branches}
-use Rattle.tree_shape.specs.Lawful.{FitsParent}
+use Rattle.tree_laws.specs.Trees.{Contents, Branch, branches}
+use Rattle.tree_laws.specs.Lawful.{FitsParent}
 use Rattle.word_rule.specs.declared.log.Role.TheVariants as role
 use Rattle.word_rule.specs.declared.log.Terms.{Terms}
 use Rattle.word_rule.specs.declared.log.Holding.{Holding}

@@ -13,9 +13,9 @@ use Rattle.tree_shape.specs.declared.node.NodeBounds.{NodeBounds}
 use Rattle.tree_shape.specs.declared.pair.Pair.{Pair}
 use Rattle.reg_model.specs.History.{state_after, state_at}
 use Rattle.tree_shape.specs.NodeData.{Body, Pairs, Entries, Link, frame_of, pairs_in}
-use Rattle.tree_shape.specs.Trees.{Contents, Branch, branches, branches_from}
+use Rattle.tree_laws.specs.Trees.{Contents, Branch, branches, branches_from}
 use Rattle.tree_shape.specs.declared.limits.TheConstants.{HIGHEST_LEVEL}
-use Rattle.tree_shape.specs.Lawful.{IsTree, IsOrderedAs, FitsParent}
+use Rattle.tree_laws.specs.Lawful.{IsTree, IsOrderedAs, FitsParent}
 use Rattle.word_rule.specs.declared.log.Role.{Role}
 use Rattle.word_rule.specs.declared.log.Role.TheVariants as role
 use Rattle.word_rule.specs.declared.log.Ask.TheVariants as ask
@@ -29,7 +29,7 @@ use Rattle.word_rule.specs.Logs.{is_gone, is_nameless, weight, turns, load_of, a
 use Rattle.word_rule.specs.NodeTells.{AloneTells, IsLiveNode, IsOfNode}
 use Rattle.word_rule.specs.declared.log.Ask.{Ask}
 use Rattle.reg_model.specs.declared.answer.Half.TheVariants as half
-use Rattle.tree_shape.specs.Numbers.{once}
+use Rattle.tree_laws.specs.Numbers.{once}
 use Rattle.atomic_table.proofs.Lists.{set_here}
 use Rattle.std.proofs.lemmas.Bool.{and_parts}
 use Rattle.word_rule.proofs.Answering.{Told, answered}

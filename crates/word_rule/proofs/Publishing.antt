@@ -15,8 +15,8 @@ use Rattle.reg_model.specs.declared.answer.Update.{Update}
 use Rattle.reg_model.specs.declared.answer.Update.TheVariants as update
 use Rattle.reg_model.specs.declared.answer.Receipt.{Receipt}
 use Rattle.reg_model.proofs.Histories.{state_after-append}
-use Rattle.tree_shape.specs.Numbers.{once}
-use Rattle.tree_shape.specs.Trees.{HasEntry}
+use Rattle.tree_laws.specs.Numbers.{once}
+use Rattle.tree_laws.specs.Trees.{HasEntry}
 use Rattle.word_rule.specs.declared.log.Role.TheVariants as role
 use Rattle.word_rule.specs.declared.log.Terms.{Terms}
 use Rattle.word_rule.specs.declared.log.LoaderHolding.{LoaderHolding}

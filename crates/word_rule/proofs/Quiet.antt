@@ -2,7 +2,7 @@
 use Rattle.std.proofs.Common.{◌≡◌, ℕ, ◌+◌, List, get_or, set, sym, refl, subst, arith, IfSome, IsSome, false}
 use mathlib.Core.Option.{some}
 use lib.ListN.{get_elem?}
-use Rattle.tree_shape.specs.Numbers.{times}
+use Rattle.tree_laws.specs.Numbers.{times}
 use Rattle.word_rule.specs.declared.log.Terms.{Terms}
 use Rattle.word_rule.specs.declared.log.Log.{Log}
 use Rattle.word_rule.specs.SharedWords.{SharedWords, memory_of}

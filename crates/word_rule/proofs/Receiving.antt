@@ -7,7 +7,7 @@ use borrow.Author.Tests.{le-leb, lt-leb}
 use Rattle.reg_model.specs.Receipt.{moment, accepted, Holds, AllHold, AreInOrder}
 use Rattle.reg_model.specs.declared.answer.Update.{Update}
 use Rattle.reg_model.specs.declared.answer.Receipt.{Receipt}
-use Rattle.tree_shape.specs.Numbers.{once}
+use Rattle.tree_laws.specs.Numbers.{once}
 use Rattle.word_rule.specs.declared.log.Terms.{Terms}
 use Rattle.reg_model.specs.Numbers.{has_number}
 use Rattle.word_rule.specs.Callers.{number_of, start}

@@ -10,9 +10,9 @@ use Rattle.reg_model.specs.declared.span.Member.{Member}
 use Rattle.reg_model.specs.declared.answer.Update.{Update}
 use Rattle.reg_model.specs.History.{state_after}
 use Rattle.tree_shape.specs.NodeData.{frame_of, NodeData, entries_of}
-use Rattle.tree_shape.specs.Trees.{Contents, HasEntry}
+use Rattle.tree_laws.specs.Trees.{Contents, HasEntry}
 use Rattle.word_rule.specs.declared.log.Holdings.{Holdings}
-use Rattle.tree_shape.specs.LocalChange.{either}
+use Rattle.tree_laws.specs.LocalChange.{either}
 use Rattle.word_rule.specs.declared.log.Role.TheVariants as role
 use Rattle.word_rule.specs.declared.log.Terms.{Terms}
 use Rattle.word_rule.specs.declared.log.Holding.{Holding}
@@ -21,7 +21,7 @@ use Rattle.word_rule.specs.SharedWords.{memory_of}
 use Rattle.word_rule.specs.Spelling.{spelled, SpellsNode}
 use Rattle.word_rule.specs.Held.{held_of, now_of, now_shape, now_in, marked_in, is_marked}
 use Rattle.word_rule.specs.Exchange.{ChangeLaws, is_reached, is_fresh, IsLawfulExchange, exchange, after_exchange, group_of, is_lawful, nothing_reached, settle, settle_free, top_of}
-use Rattle.tree_shape.specs.Numbers.{is_among}
+use Rattle.tree_laws.specs.Numbers.{is_among}
 use Rattle.word_rule.proofs.Exchanges.{DecidedLaw, exchange_decides}
 use Rattle.word_rule.specs.Callers.{start}
 use Rattle.word_rule.specs.Nodes.{Shadow, HoldsNode, IsPlaced}

@@ -11,11 +11,11 @@ use mathlib.Core.List.{IsPrefix}
 use Rattle.reg_model.specs.declared.span.Member.{Member}
 use Rattle.reg_model.specs.declared.answer.Update.{Update}
 use Rattle.reg_model.specs.History.{state_after}
-use Rattle.tree_shape.specs.Trees.{Contents, HasEntry}
-use Rattle.tree_shape.specs.Lawful.{IsLawfulTree}
+use Rattle.tree_laws.specs.Trees.{Contents, HasEntry}
+use Rattle.tree_laws.specs.Lawful.{IsLawfulTree}
 use Rattle.word_rule.specs.declared.log.Holdings.{Holdings}
-use Rattle.tree_shape.specs.Numbers.{times, once}
-use Rattle.tree_shape.specs.LocalChange.{AgreeOn}
+use Rattle.tree_laws.specs.Numbers.{times, once}
+use Rattle.tree_laws.specs.LocalChange.{AgreeOn}
 use Rattle.word_rule.specs.declared.log.Role.TheVariants as role
 use Rattle.word_rule.specs.declared.log.Terms.{Terms}
 use Rattle.word_rule.specs.declared.log.Holding.{Holding}

@@ -1,7 +1,7 @@
 -- What functions are at the numbers below a bound, added up: how many numbers a list has there.
 use Rattle.std.proofs.Common.{◌≡◌, ℕ, zero, suc, ◌+◌, ◌<◌, ◌≤◌, List, [], ◌∷◌, length, refl, arith, ◌==◌, eq-eqb, ne_eqb, lt_of_not-le}
 use native.Mathlib.Decide.{ℕ_discrete, dec_le}
-use Rattle.tree_shape.specs.Numbers.{times, once}
+use Rattle.tree_laws.specs.Numbers.{times, once}
 
 -- what a function is at the numbers below n, added up
 abbrev pub tally : (ℕ → ℕ) → ℕ → ℕ

@@ -23,8 +23,8 @@ use Rattle.reg_model.proofs.Spans.{contains_from, contains_bounds}
 use Rattle.reg_model.proofs.Replacing.{same_span}
 use Rattle.segment_array.specs.Ascending.{AscendFrom}
 use Rattle.tree_shape.specs.NodeData.{NodeData, Body, Pairs, Entries, Link, IsInFences, entries_in, entries_of}
-use Rattle.tree_shape.specs.Trees.{Contents}
-use Rattle.tree_shape.specs.Lawful.{IsOrderedAs}
+use Rattle.tree_laws.specs.Trees.{Contents}
+use Rattle.tree_laws.specs.Lawful.{IsOrderedAs}
 use Rattle.tree_shape.specs.declared.node.NodeBounds.{NodeBounds}
 use Rattle.word_rule.specs.Logs.{own_list}
 use Rattle.word_rule.specs.declared.log.ReceiptList.{ReceiptList}

@@ -11,7 +11,7 @@ use Rattle.reg_model.specs.declared.answer.Update.TheVariants as update
 use Rattle.reg_model.proofs.Spans.{overlap_bounds}
 use Rattle.reg_model.proofs.Replacing.{from_with_payload, new_with_payload, others_with_payload, span_same}
 use Rattle.segment_array.specs.Ascending.{AscendFrom}
-use Rattle.tree_shape.specs.LocalChange.{EntriesBecome}
+use Rattle.tree_laws.specs.LocalChange.{EntriesBecome}
 use Rattle.word_rule.specs.Callers.{is_of_loader}
 use Rattle.word_rule.proofs.Listings.{contains_filter, filter_contains, contains_find}
 

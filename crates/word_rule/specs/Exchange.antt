@@ -7,13 +7,13 @@ use Rattle.std.specs.List.{AllByRecursion, filter, list_all}
 use Rattle.reg_model.specs.declared.answer.Update.{Update}
 use Rattle.reg_model.specs.declared.answer.Update.TheVariants.{Register, Deregister, Replace}
 use Rattle.reg_model.specs.declared.answer.Update.TheVariants.{Load, Unload}
-use Rattle.tree_shape.specs.Decisions.{same_shape, is_entries, is_lawful_change}
+use Rattle.tree_laws.specs.Decisions.{same_shape, is_entries, is_lawful_change}
 use Rattle.tree_shape.specs.NodeData.{NodeData, frame_of}
-use Rattle.tree_shape.specs.Trees.{Contents, HasEntry}
-use Rattle.tree_shape.specs.Lawful.{IsTree, IsLawfulTree, IsFilled}
-use Rattle.tree_shape.specs.Numbers.{is_among}
-use Rattle.tree_shape.specs.LocalChange.{either, reached_nodes, live_after, IsLawfulChange}
-use Rattle.tree_shape.specs.LocalChange.{IsLocalChange, IsSameChange, EntriesBecome}
+use Rattle.tree_laws.specs.Trees.{Contents, HasEntry}
+use Rattle.tree_laws.specs.Lawful.{IsTree, IsLawfulTree, IsFilled}
+use Rattle.tree_laws.specs.Numbers.{is_among}
+use Rattle.tree_laws.specs.LocalChange.{either, reached_nodes, live_after, IsLawfulChange}
+use Rattle.tree_laws.specs.LocalChange.{IsLocalChange, IsSameChange, EntriesBecome}
 use Rattle.word_rule.specs.declared.log.Log.{Log}
 use Rattle.word_rule.specs.declared.log.Holding.{Holding}
 use Rattle.tree_shape.specs.declared.node.NodeBounds.{NodeBounds}

@@ -3,7 +3,7 @@ use Rattle.std.specs.Prelude.{ℕ, Bool, false, ◌==◌, not, List, Option, Som
 use Rattle.std.specs.Prelude.{if◌then◌else◌}
 use Rattle.std.specs.List.{find, filter}
 use Rattle.tree_shape.specs.NodeData.{NodeData, Link}
-use Rattle.tree_shape.specs.Trees.{Contents}
+use Rattle.tree_laws.specs.Trees.{Contents}
 use Rattle.word_rule.specs.Spelling.{spelled}
 use Rattle.word_rule.specs.declared.log.Holding.{Holding}
 

@@ -5,9 +5,9 @@ use Rattle.std.specs.List.{AllByRecursion}
 use Rattle.reg_model.specs.History.{state_after}
 use Rattle.reg_model.specs.declared.answer.Update.{Update}
 use Rattle.tree_shape.specs.NodeData.{NodeData, frame_of}
-use Rattle.tree_shape.specs.Trees.{Contents, branches}
-use Rattle.tree_shape.specs.Lawful.{IsFilled, IsLawfulTree, IsOrdered}
-use Rattle.tree_shape.specs.Numbers.{is_among}
+use Rattle.tree_laws.specs.Trees.{Contents, branches}
+use Rattle.tree_laws.specs.Lawful.{IsFilled, IsLawfulTree, IsOrdered}
+use Rattle.tree_laws.specs.Numbers.{is_among}
 use Rattle.tree_shape.specs.declared.limits.TheConstants.{HIGHEST_LEVEL}
 use Rattle.tree_shape.specs.declared.node.NodeBounds.{NodeBounds}
 use Rattle.word_rule.specs.declared.log.Terms.{Terms}

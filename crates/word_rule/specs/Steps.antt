@@ -19,7 +19,7 @@ use Rattle.reg_model.specs.declared.answer.Replaced.TheVariants as replaced
 use Rattle.reg_model.specs.declared.answer.Receipt.{Receipt}
 use Rattle.reg_model.specs.declared.answer.Receipt.TheVariants as receipt
 use Rattle.tree_shape.specs.NodeData.{NodeData, Link}
-use Rattle.tree_shape.specs.Trees.{branches, Branch}
+use Rattle.tree_laws.specs.Trees.{branches, Branch}
 use Rattle.word_rule.specs.declared.log.Log.{Log}
 use Rattle.word_rule.specs.declared.log.Holding.{Holding}
 use Rattle.word_rule.specs.declared.log.LoaderHolding.{LoaderHolding}
@@ -28,7 +28,7 @@ use Rattle.word_rule.specs.Places.{ALLOWANCE, HEAD, copy_place, copy_words, is_o
 use Rattle.word_rule.specs.Spelling.{spelled}
 use Rattle.word_rule.specs.Held.{held_of, edited, without_lock, all_but, marked_in}
 use Rattle.word_rule.specs.Exchange.{Differs, is_lawful, settle}
-use Rattle.tree_shape.specs.Numbers.{is_among}
+use Rattle.tree_laws.specs.Numbers.{is_among}
 use Rattle.word_rule.specs.Logs.{after_load, after_write, after_spending}
 use Rattle.word_rule.specs.Sights.{place_at, sight_of, with_receipts}
 use Rattle.word_rule.specs.declared.log.Terms.{Terms}

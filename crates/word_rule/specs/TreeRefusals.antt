@@ -15,8 +15,8 @@ use Rattle.reg_model.specs.declared.answer.Receipt.TheVariants as receipt
 use Rattle.reg_model.specs.declared.answer.Update.{Update}
 use Rattle.reg_model.specs.declared.answer.Update.TheVariants as update
 use Rattle.tree_shape.specs.NodeData.{IsInFences, entries_of}
-use Rattle.tree_shape.specs.Numbers.{is_among}
-use Rattle.tree_shape.specs.Trees.{Contents}
+use Rattle.tree_laws.specs.Numbers.{is_among}
+use Rattle.tree_laws.specs.Trees.{Contents}
 use Rattle.word_rule.specs.declared.log.Ask.{Ask}
 use Rattle.word_rule.specs.declared.log.Ask.TheVariants as ask
 use Rattle.word_rule.specs.declared.log.Holding.{Holding}

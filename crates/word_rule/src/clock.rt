@@ -17,7 +17,7 @@ use crate::words::Words;
 use atomic_table::Seat;
 use reg_model::Update;
 use std::marker::Brand;
-use tree_shape::laws;
+use tree_laws::laws;
 
 /// The clock among the words.
 pub(crate) const CLOCK_WORD: usize = CLOCK as usize;

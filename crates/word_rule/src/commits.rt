@@ -13,7 +13,7 @@ use crate::words::Words;
 use atomic_table::Seat;
 use reg_model::Update;
 use std::marker::Brand;
-use tree_shape::laws;
+use tree_laws::laws;
 
 impl Words {
     fn commit_for<U: Updating>(&self, seat: &mut Seat<(), Log>, update: Update) -> u64

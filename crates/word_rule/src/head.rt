@@ -8,7 +8,7 @@ use crate::rule::{Asking, LoadsHead, Pops, Pushes};
 use crate::words::Words;
 use atomic_table::Seat;
 use std::marker::Brand;
-use tree_shape::laws;
+use tree_laws::laws;
 
 /// Where the free head stands.
 const HEAD_WORD: usize = 1;

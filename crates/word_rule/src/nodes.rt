@@ -25,7 +25,7 @@ use crate::rule::{
 use crate::words::Words;
 use atomic_table::Seat;
 use std::marker::Brand;
-use tree_shape::laws;
+use tree_laws::laws;
 
 /// Where the nodes begin in the table.
 pub const FIRST_NODE: usize = 4;

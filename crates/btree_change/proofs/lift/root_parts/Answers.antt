@@ -1,8 +1,8 @@
 use Rattle.std.proofs.Common.{◌≡◌, ◌+◌, ◌<◌, ◌∙◌, [], ◌∷◌, sym, ap, subst}
 use Rattle.tree_shape.specs.Changes.{at_slot, divide, first_half, last_half, pair}
-use Rattle.tree_shape.specs.Lawful.{IsOrdered}
+use Rattle.tree_laws.specs.Lawful.{IsOrdered}
 use Rattle.tree_shape.specs.NodeData.{NodeData, Pairs, pairs_of}
-use Rattle.tree_shape.specs.Steps.{IsFull, middle, middle_fence, root_over}
+use Rattle.tree_laws.specs.Steps.{IsFull, middle, middle_fence, root_over}
 use Rattle.btree_change.proofs.lift.root_parts.Goals as goal
 
 pub halves-left-requires-clause-ordered : goal.halves-left-requires-clause-ordered

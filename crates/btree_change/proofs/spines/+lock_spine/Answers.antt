@@ -1,6 +1,6 @@
 use Rattle.std.proofs.Common.{◌≡◌, ◌-◌, ◌<◌, ◌≢◌, ℕ, sym, ap, subst, arith, ◌∙◌, length}
 use Rattle.tree_shape.specs.NodeData.{NodeData, pairs_of}
-use Rattle.tree_shape.specs.Steps.{first_child}
+use Rattle.tree_laws.specs.Steps.{first_child}
 use Rattle.word_rule.specs.CallerData.{CallerData}
 use Rattle.word_rule.specs.declared.log.Holding.{Holding}
 use Rattle.word_rule.specs.NodeTells.{KnowsTree}

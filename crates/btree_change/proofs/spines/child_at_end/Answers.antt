@@ -1,6 +1,6 @@
 use Rattle.std.proofs.Common.{◌≡◌, ℕ, zero, suc, ◌-◌, ◌<◌, List, [], ◌∷◌, length, get_or, refl, sym, ap, arith, ◌∙◌, subst}
 use Rattle.tree_shape.specs.NodeData.{pairs_of}
-use Rattle.tree_shape.specs.Steps.{last_child}
+use Rattle.tree_laws.specs.Steps.{last_child}
 use Rattle.tree_shape.specs.declared.pair.Pair.{Pair}
 use Rattle.btree_change.proofs.spines.child_at_end.Goals as goal
 

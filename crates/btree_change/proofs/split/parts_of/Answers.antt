@@ -1,8 +1,8 @@
 use Rattle.std.proofs.Common.{◌≡◌, ◌<◌, ◌≤◌, ◌∙◌, sym, ap, subst, length}
 use Rattle.tree_shape.specs.Changes.{at_slot, divide, first_half, last_half}
-use Rattle.tree_shape.specs.Lawful.{IsOrdered}
+use Rattle.tree_laws.specs.Lawful.{IsOrdered}
 use Rattle.tree_shape.specs.NodeData.{NodeData, InOrder, IsInner, Pairs, pairs_of, slot_for}
-use Rattle.tree_shape.specs.Steps.{IsFull, middle, middle_fence}
+use Rattle.tree_laws.specs.Steps.{IsFull, middle, middle_fence}
 use Rattle.btree_change.proofs.Outlining.{spells_later}
 use Rattle.btree_change.proofs.NodeSteps.{steps_then}
 use Rattle.btree_change.proofs.split.parts_of.Goals as goal

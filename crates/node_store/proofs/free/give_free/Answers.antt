@@ -1,5 +1,5 @@
 use Rattle.std.proofs.Common.{ℕ, IsSome, IsTrue, ap, sym, subst, ◌∙◌, ◌<◌}
-use Rattle.tree_shape.specs.Numbers.{is_among}
+use Rattle.tree_laws.specs.Numbers.{is_among}
 use Rattle.word_rule.specs.CallerData.{CallerData}
 use Rattle.word_rule.specs.Held.{held_of}
 use Rattle.node_store.specs.Free.{StaysOut, after_setting}

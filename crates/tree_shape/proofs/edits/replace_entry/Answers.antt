@@ -1,9 +1,9 @@
-use Rattle.std.proofs.Common.{◌≡◌, ◌<◌, ◌∙◌, ap, sym, subst, length, suc, arith, IsSome}
+use Rattle.std.proofs.Common.{◌∙◌, ap, sym, subst, length, arith, IsSome}
 use Rattle.reg_model.specs.State.{at_base}
 use Rattle.reg_model.specs.History.{without}
 use Rattle.tree_shape.specs.Changes.{with_entry}
 use Rattle.tree_shape.specs.NodeData.{NodeData, Entries, entries_of}
-use Rattle.tree_shape.proofs.Leaves.{put_length}
+use Rattle.tree_shape.proofs.Slots.{put_length}
 use Rattle.tree_shape.proofs.Orders.{leaf_order}
 use Rattle.tree_shape.proofs.Payloads.{payload_length, span_begins, taken_and_put}
 use Rattle.tree_shape.proofs.edits.replace_entry.Goals as goal

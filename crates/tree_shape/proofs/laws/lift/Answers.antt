@@ -1,9 +1,0 @@
-use Rattle.tree_shape.proofs.Roots.{lifts}
-use Rattle.tree_shape.proofs.RootSplits.{lift_split_keeps}
-use Rattle.tree_shape.proofs.laws.lift.Goals as goal
-
-pub returns-clause-lifted : goal.returns-clause-lifted
-returns-clause-lifted c f live fresh g lawful = lifts f live lawful fresh g
-
-pub returns-clause-split : goal.returns-clause-split
-returns-clause-split c f live moved h p fresh g lawful lift = lift_split_keeps f live lawful moved h lift p fresh g
