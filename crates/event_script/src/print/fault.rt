@@ -1,6 +1,6 @@
 //! What is told of a script that is refused.
 
-ghost use Rattle.std.specs.Prelude.{◌≡◌, ◌++◌, IfOk, OnOk};
+ghost use Rattle.std.specs.Prelude.{◌≡◌, ◌++◌, IfOk, IfSome, OnOk};
 ghost use Rattle.std.specs.String.{string_bytes};
 ghost use Rattle.event_script.specs.FaultText.{fault_text, section_fault_at, reason_text};
 ghost use Rattle.event_script.specs.FaultText.{section_fault_text};
@@ -49,22 +49,34 @@ fn put_section(text: &mut String, fault: FrameFault) -> Result<(), AllocError>
     ensures { OnOk result (string_bytes text.new
         ≡ string_bytes text.old ++ section_fault_text fault) }
 {
+    match placed_name(fault) {
+        Some((name, start, at)) => put_places(text, name, start, at),
+        None => Err(AllocError),
+    }
+}
+
+/// The name of a section's refusal, where its record starts, and the place. None where memory ran
+/// out.
+fn placed_name(fault: FrameFault) -> Option<(&'static str, usize, usize)>
+    ensures { IfSome result (λ told. section_fault_text fault
+        ≡ section_fault_at told.0.now told.1 told.2) }
+{
     match fault {
-        FrameFault::Short { start, at } => put_places(text, "short", start, at),
-        FrameFault::TooWide { start, at } => put_places(text, "wide", start, at),
-        FrameFault::Encoding { start, at, .. } => put_places(text, "encoding", start, at),
-        FrameFault::NoCie { start, at } => put_places(text, "nocie", start, at),
-        FrameFault::Version { start, at, .. } => put_places(text, "version", start, at),
-        FrameFault::Augmentation { start, at } => put_places(text, "augmentation", start, at),
-        FrameFault::Column { start, at, .. } => put_places(text, "column", start, at),
-        FrameFault::Range { start, at } => put_places(text, "range", start, at),
-        FrameFault::Opcode { start, at, .. } => put_places(text, "opcode", start, at),
-        FrameFault::Location { start, at } => put_places(text, "location", start, at),
-        FrameFault::Remember { start, at } => put_places(text, "remember", start, at),
-        FrameFault::Operation { start, at, .. } => put_places(text, "operation", start, at),
-        FrameFault::Depth { start, at } => put_places(text, "depth", start, at),
-        FrameFault::CfaRule { start, at } => put_places(text, "cfarule", start, at),
-        FrameFault::NoMemory => Err(AllocError),
+        FrameFault::Short { start, at } => Some(("short", start, at)),
+        FrameFault::TooWide { start, at } => Some(("wide", start, at)),
+        FrameFault::Encoding { start, at, .. } => Some(("encoding", start, at)),
+        FrameFault::NoCie { start, at } => Some(("nocie", start, at)),
+        FrameFault::Version { start, at, .. } => Some(("version", start, at)),
+        FrameFault::Augmentation { start, at } => Some(("augmentation", start, at)),
+        FrameFault::Column { start, at, .. } => Some(("column", start, at)),
+        FrameFault::Range { start, at } => Some(("range", start, at)),
+        FrameFault::Opcode { start, at, .. } => Some(("opcode", start, at)),
+        FrameFault::Location { start, at } => Some(("location", start, at)),
+        FrameFault::Remember { start, at } => Some(("remember", start, at)),
+        FrameFault::Operation { start, at, .. } => Some(("operation", start, at)),
+        FrameFault::Depth { start, at } => Some(("depth", start, at)),
+        FrameFault::CfaRule { start, at } => Some(("cfarule", start, at)),
+        FrameFault::NoMemory => None,
     }
 }
 

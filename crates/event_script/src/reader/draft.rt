@@ -1,6 +1,9 @@
 //! What the lines so far make known, and what one more line adds.
 
-ghost use Rattle.std.specs.Prelude.{◌≡◌, ◌≤◌, Ok, Err, [], length, if◌then◌else◌};
+ghost use Rattle.std.specs.Prelude.{◌≡◌, ◌≤◌, ◌+◌, ◌-◌, Ok, Err, [], length, if◌then◌else◌};
+ghost use Rattle.std.specs.Prelude.{IfOk, IfErr};
+ghost use Rattle.event_script.specs.Reading.{◌>=>◌, IsOfBytes};
+ghost use Rattle.event_script.specs.Draft.{with_image};
 ghost use Rattle.frame_parse.specs.Reading.{section_of};
 ghost use Rattle.event_script.specs.ScriptData.{counts_of};
 ghost use Rattle.event_script.specs.Fields.{fields_after, is_printable, pieces};
@@ -216,16 +219,30 @@ impl Draft {
         Ok(())
     }
 
+    /// The span of an image that may come next.
+    fn next_span(&self, image: &ImageFields) -> Result<Span, Reason>
+        ensures span { IfOk result (λ span. span
+            ≡ record { first = image.now.base; last = image.now.base + image.now.size - 1 }) }
+        ensures short { IfOk result (λ _. length image.now.bytes ≤ MOST_SECTION_BYTES) }
+        ensures may { IfOk result (λ _. image_added self.now image.now
+            ≡ (section_or (section_of image.now.section image.now.bytes) >=>
+            (λ section. Ok (with_image self.now image.now section)))) }
+        ensures why { IfErr result (λ reason. (image_added self.now image.now ≡ Err reason)
+            × IsOfBytes reason) }
+    {
+        if image.number as usize != self.images.len() {
+            return Err(Reason::Order);
+        }
+        if self.images.len() >= MOST_IMAGES || image.bytes.len() > MOST_SECTION_BYTES {
+            return Err(Reason::Limit);
+        }
+        Span::new(image.base, image.size).ok_or(Reason::Span)
+    }
+
     fn image(&mut self, alloc: Global, image: ImageFields) -> Result<(), LineFault>
         ensures { LeavesDraft self.new result (image_added self.old image) }
     {
-        if image.number as usize != self.images.len() {
-            return Err(Reason::Order.into());
-        }
-        if self.images.len() >= MOST_IMAGES || image.bytes.len() > MOST_SECTION_BYTES {
-            return Err(Reason::Limit.into());
-        }
-        let span = Span::new(image.base, image.size).ok_or(Reason::Span)?;
+        let span = self.next_span(&image)?;
         let section = section_of(alloc, image.section, image.bytes)?;
         self.sections.push(section)?;
         self.images.push(span)?;

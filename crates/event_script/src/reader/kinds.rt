@@ -1,8 +1,12 @@
 //! The kinds of lines, and which may come when.
 
 ghost use Rattle.std.specs.Prelude.{◌≡◌};
+ghost use Rattle.std.specs.List.{find};
+ghost use Rattle.std.specs.Str.{bytes_eq};
+ghost use Rattle.std.specs.Prelude.{drop};
 ghost use Rattle.event_script.specs.Draft.{may_come};
-ghost use Rattle.event_script.specs.Reading.{kind_of};
+ghost use Rattle.event_script.specs.Reading.{kind_of, kinds};
+ghost use Rattle.event_script.specs.Statements.{word_of};
 ghost use Rattle.event_script.specs.declared.reader.kinds.Stage.TheVariants as stage;
 
 use crate::limits::REPLACE_VERSION;
@@ -71,7 +75,16 @@ pub fn kind_of(word: &[u8]) -> Option<Kind>
         Some(Kind::Unwind)
     } else if word == b"memory".as_slice() {
         Some(Kind::Memory)
-    } else if word == b"thread".as_slice() {
+    } else {
+        later_kind_of(word)
+    }
+}
+
+/// The kind of line that the word begins, among those after the first eight.
+fn later_kind_of(word: &[u8]) -> Option<Kind>
+    ensures { result ≡ find (λ kind. bytes_eq word.now (word_of kind)) (drop 8 kinds) }
+{
+    if word == b"thread".as_slice() {
         Some(Kind::Thread)
     } else if word == b"round".as_slice() {
         Some(Kind::Round)
