@@ -2,8 +2,7 @@
 ghost use Rattle.std.specs.Prelude.{◌≡◌, ◌+◌, ◌*◌, ◌/◌, ◌<◌, ◌≤◌, ◌∷◌, ◌++◌, replicate, IfOk};
 ghost use Rattle.word_rule.specs.Places.{initial_node, initial_nodes};
 
-use crate::nodes::NODE_WORDS;
-use crate::places::{FREE, HIGH, KIND, LEAF, LINK};
+use crate::places::{FREE, HIGH, KIND, LEAF, LINK, NODE_WORDS};
 use reg_model::NoMemory;
 use std::alloc::Global;
 

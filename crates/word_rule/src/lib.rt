@@ -29,10 +29,11 @@
 //! - The other copy: who publishes next, under the loader's lock. Nobody else reads it.
 //!
 //! The layer above the model (reg_model: updates, histories, receipts) and the tree as pure values
-//! (tree_shape: what a node is, when contents are a lawful tree). From atomic_table it takes the
-//! steps, each proved to keep a rule that it is given. The rule here is the whole invariant. Built
-//! are the steps on version locks, on nodes, on the free head, on the clock and the loader's
-//! copies, the commit of an update of the tree, and callers, notes and readers that come and go.
+//! (tree_shape: what a node is; tree_laws: when contents are a lawful tree). From atomic_table it
+//! takes the steps, each proved to keep a rule that it is given. The rule here is the whole
+//! invariant. Built are the steps on version locks, on nodes, on the free head, on the clock and
+//! the loader's copies, the commit of an update of the tree, and callers, notes and readers that
+//! come and go.
 #![tactic(auto)]
 
 mod caller;
@@ -58,6 +59,6 @@ pub use log::{
     LoaderHolding, LockId, Log, NodeSight, ReceiptList, Receipts, Role, Sights, Terms,
 };
 pub use looker::Looker;
-pub use nodes::{FIRST_NODE, NODE_WORDS};
+pub use places::{FIRST_NODE, NODE_WORDS};
 pub use readers::Reader;
 pub use words::Words;

@@ -17,7 +17,7 @@ ghost use Rattle.word_rule.specs.VersionLocks.{NodeSeen, NodeTaken};
 use crate::caller::Caller;
 use crate::exchange::exchange_laws;
 use crate::log::{Ask, Log, Role};
-use crate::places::{LOCKED, VERSION};
+use crate::places::{LOCKED, VERSION, place_of};
 use crate::rule::{
     AtNode, BeginsSight, GrabsNode, LoadsNode, LoadsVersion, LocksNode, LocksSeen, PeeksNode,
     ReleasesNode, ReleasesSameNode, StoresNode,
@@ -26,19 +26,6 @@ use crate::words::Words;
 use atomic_table::Seat;
 use std::marker::Brand;
 use tree_laws::laws;
-
-/// Where the nodes begin in the table.
-pub const FIRST_NODE: usize = 4;
-
-/// The words of a node, its version word first.
-pub const NODE_WORDS: usize = 36;
-
-/// Where a node begins, with its version word.
-pub(crate) fn place_of(node: u32) -> usize
-    ensures { result ≡ 4 + 36 * node }
-{
-    FIRST_NODE + NODE_WORDS * node as usize
-}
 
 impl Words {
     pub(crate) fn load_version_for<N: AtNode>(

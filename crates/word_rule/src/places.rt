@@ -1,8 +1,21 @@
-//! The words of a node by their numbers, the kinds of nodes, the halves of the clock, and the bits
-//! of a version lock. Where each word of the table stands is stated in `specs/Places`, and what a
-//! node's words spell in `specs/Spelling`.
-ghost use Rattle.std.specs.Prelude.{◌≡◌};
+//! Where the nodes stand, the words of a node by their numbers, the kinds of nodes, the halves of
+//! the clock, and the bits of a version lock. Where each word of the table stands is stated in
+//! `specs/Places`, and what a node's words spell in `specs/Spelling`.
+ghost use Rattle.std.specs.Prelude.{◌≡◌, ◌+◌, ◌*◌};
 ghost use Rattle.word_rule.specs.Places.{lower};
+
+/// Where the nodes begin in the table.
+pub const FIRST_NODE: usize = 4;
+
+/// The words of a node, its version word first.
+pub const NODE_WORDS: usize = 36;
+
+/// Where a node begins, with its version word.
+pub(crate) fn place_of(node: u32) -> usize
+    ensures { result ≡ 4 + 36 * node }
+{
+    FIRST_NODE + NODE_WORDS * node as usize
+}
 
 /// A node's words after its version: its kind, its level, its fences and its count.
 pub const KIND: u32 = 1;

@@ -13,8 +13,7 @@ ghost use Rattle.word_rule.specs.VersionLocks.{after_release_same, after_version
 
 use crate::caller::Caller;
 use crate::log::{Ask, LockId, Log};
-use crate::nodes::place_of;
-use crate::places::{LOCKED, SLEEPERS, VERSION};
+use crate::places::{LOCKED, SLEEPERS, VERSION, place_of};
 use crate::rule::{Grabs, Law, Locks, Looks, Made, Marks, Peeks, Releases, ReleasesSame};
 use atomic_table::{Seat, Table};
 use reg_model::Member;
