@@ -30,10 +30,10 @@ use Rattle.word_rule.specs.Steps.{IsRefusalOf, MayRefuse, Refuses, AfterPublish,
 use Rattle.word_rule.proofs.Listings.{ascending_disjoint, free_of, lists_same, state_fixed, there_at}
 use Rattle.array_publish.specs.Holders.{Spells, active_words, after_work, spare_words, with_spare}
 use Rattle.array_publish.specs.Update.{AnswersLoad, AnswersUnload, AnswersWith, IsClean, IsRightUnload, IsRightLoad, KnowsCopy, Works, after_seeing}
-use Rattle.array_publish.specs.declared.writing.ActiveCopy.{ActiveCopy}
+use Rattle.array_publish.specs.declared.active.ActiveCopy.{ActiveCopy}
 use Rattle.array_publish.specs.Holders.{member_in}
 use Rattle.array_publish.specs.Writing.{EndsBelow, IsWritten}
-use Rattle.array_publish.specs.declared.writing.Change.TheVariants.{Put}
+use Rattle.array_publish.specs.declared.writing.ListChange.TheVariants.{Put}
 use Rattle.array_publish.proofs.Changed.{may_load}
 use Rattle.word_rule.proofs.Joins.{prefix_both}
 use Rattle.array_publish.proofs.Overlaps.{ends_listed, free_split, listed_is}

@@ -20,7 +20,7 @@ use Rattle.word_rule.proofs.TreeUpdates.{ascending_same}
 use Rattle.array_publish.specs.Holders.{member_in}
 use Rattle.array_publish.specs.Other.{AreOneApart}
 use Rattle.array_publish.specs.Writing.{HasMembers, HaveHeaders}
-use Rattle.array_publish.specs.declared.writing.Change.TheVariants.{Put}
+use Rattle.array_publish.specs.declared.writing.ListChange.TheVariants.{Put}
 use Rattle.array_publish.proofs.Changed.{put_member, stands_at}
 use Rattle.array_publish.proofs.Lookups.{begins_above}
 use Rattle.array_publish.proofs.Overlaps.{overlap_of}

@@ -15,8 +15,8 @@ use Rattle.word_rule.specs.declared.log.Terms.{Terms}
 use Rattle.array_publish.specs.Holders.{Spells, active_words, member_in, spare_words}
 use Rattle.array_publish.specs.Update.{KnowsCopy}
 use Rattle.array_publish.specs.Writing.{EndsBelow, EndsFrom, IsWritten}
-use Rattle.array_publish.specs.declared.writing.ActiveCopy.{ActiveCopy}
-use Rattle.array_publish.specs.declared.writing.Change.TheVariants.{Take}
+use Rattle.array_publish.specs.declared.active.ActiveCopy.{ActiveCopy}
+use Rattle.array_publish.specs.declared.writing.ListChange.TheVariants.{Take}
 use Rattle.array_publish.proofs.Changed.{all_below, all_from, all_to, may_unload}
 use Rattle.array_publish.proofs.Overlaps.{ends_listed, from_listed, listed_is}
 use Rattle.array_publish.proofs.Works.{Holds, spells_active}

@@ -25,7 +25,7 @@ use Rattle.word_rule.proofs.Listings.{contains_find}
 use Rattle.array_publish.proofs.Lookups.{begins_above}
 use Rattle.array_publish.specs.Holders.{member_in}
 use Rattle.array_publish.specs.Writing.{IsWritten, wanted}
-use Rattle.array_publish.specs.declared.writing.Change.TheVariants.{Put, Take}
+use Rattle.array_publish.specs.declared.writing.ListChange.TheVariants.{Put, Take}
 
 -- ---- members by their index
 

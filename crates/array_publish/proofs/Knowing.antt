@@ -19,8 +19,8 @@ use Rattle.word_rule.proofs.Listings.{ascending_disjoint, disjoint_fit, state_fi
 use Rattle.array_publish.specs.Holders.{HasStarts, IsHolder, Spells, active_words, member_in, spare_words}
 use Rattle.array_publish.proofs.Overlaps.{listed_is}
 use Rattle.array_publish.specs.Update.{HoldsCopies, IsClean, KnowsCopy, Works}
-use Rattle.array_publish.specs.declared.writing.ActiveCopy.{ActiveCopy}
-use Rattle.array_publish.specs.declared.writing.CopyStarts.{CopyStarts}
+use Rattle.array_publish.specs.declared.active.ActiveCopy.{ActiveCopy}
+use Rattle.array_publish.specs.declared.active.CopyStarts.{CopyStarts}
 use Rattle.array_publish.proofs.Works.{Holds, holder_stays, spells_active}
 
 all_there : (P : Member → Type 0) (xs : List Member) → ((x : Member) → Contains xs x → P x) → AllByRecursion P xs

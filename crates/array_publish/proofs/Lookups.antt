@@ -37,7 +37,7 @@ use Rattle.word_rule.proofs.TreeRefusals.{found_there}
 use Rattle.array_publish.specs.CopyLoads.{LoadsCopy, after_copy_loads, sight_words, with_words}
 use Rattle.array_publish.specs.Lookup.{IsObjectAnswer, LooksUp, after_lookup}
 use Rattle.array_publish.specs.Search.{IsMember, IsObjectAt, listed_member}
-use Rattle.array_publish.specs.declared.walk.Listed.{Listed}
+use Rattle.array_publish.specs.declared.copies.Listed.{Listed}
 use Rattle.word_rule.proofs.Each.{all_with}
 use Rattle.word_rule.proofs.NodeSights.{found_is}
 use Rattle.segment_array.proofs.Places.{unheld_below}

@@ -8,12 +8,12 @@ use Rattle.word_rule.specs.Copies.{count_in}
 use Rattle.array_publish.specs.Holders.{member_in}
 use Rattle.array_publish.specs.Other.{AreOneApart}
 use Rattle.array_publish.specs.Writing.{AreRightBeside, HasMembers, HasPlace, HaveHeaders, changed_count, change_place, wanted}
-use Rattle.array_publish.specs.declared.writing.Change.{Change}
-use Rattle.array_publish.specs.declared.writing.Change.TheVariants.{Put, Take}
+use Rattle.array_publish.specs.declared.writing.ListChange.{ListChange}
+use Rattle.array_publish.specs.declared.writing.ListChange.TheVariants.{Put, Take}
 use Rattle.array_publish.specs.declared.writing.Stretch.{Stretch}
 
 -- below its place a change leaves members as they are, and behind it they move by one
-pub unchanged : (change : Change) (words : List ℕ) (i : ℕ) → i < change_place change → wanted change words i ≡ member_in words i
+pub unchanged : (change : ListChange) (words : List ℕ) (i : ℕ) → i < change_place change → wanted change words i ≡ member_in words i
 unchanged (Put place m) words i low = rw (lt-ltb i place low) refl
 unchanged (Take place) words i low = rw (lt-ltb i place low) refl
 
@@ -23,7 +23,7 @@ moved_on place i m words high = rw (le-ltb i place (omega (arith, high)), ne_eqb
 moved_back : (place i : ℕ) (words : List ℕ) → place < i → wanted (Take place) words i ≡ member_in words (i + 1)
 moved_back place i words high = rw (le-ltb i place (omega (arith, high))) refl
 
-below_place : (change : Change) (count i : ℕ) → HasPlace change count → i < change_place change → i < count
+below_place : (change : ListChange) (count i : ℕ) → HasPlace change count → i < change_place change → i < count
 below_place (Put place m) count i has low = omega (arith, has, low)
 below_place (Take place) count i has low = omega (arith, has, low)
 
@@ -34,7 +34,7 @@ same_below active other count others place i (inr (inl h)) low inside = let c = 
 same_below active other count others place i (inr (inr h)) low inside = let c = h.0 in absurd (omega (arith, inside, c))
 
 -- behind both places they stand where they are to, where one change put and the other one takes
-right_behind : (change : Change) (active other : List ℕ) (count others place i : ℕ) → HasPlace change count → AreOneApart active other count others place → others ≡ changed_count change count → i < others → change_place change < i → place < i → member_in other i ≡ wanted change active i
+right_behind : (change : ListChange) (active other : List ℕ) (count others place i : ℕ) → HasPlace change count → AreOneApart active other count others place → others ≡ changed_count change count → i < others → change_place change < i → place < i → member_in other i ≡ wanted change active i
 right_behind (Put k m) active other count others place i has (inl h) len less far high = h.1.1.1 i (let c = h.0 in omega (arith, less, c)) ∙ (moved_on place i h.1.1.0 active high ∙ sym (moved_on k i m active far))
 right_behind (Put k m) active other count others place i has (inr (inl h)) len less far high = let c = h.0 in absurd (omega (arith, c, len))
 right_behind (Put k m) active other count others place i has (inr (inr h)) len less far high = let c = h.1 in absurd (omega (arith, c, less))
@@ -45,14 +45,14 @@ right_behind (Take k) active other count others place i has (inr (inl h)) len le
 right_behind (Take k) active other count others place i has (inr (inr h)) len less far high = let c = h.1 in absurd (omega (arith, c, less))
 
 -- so those outside of the places between both changes are as wanted
-pub right_beside : (change : Change) (active other : List ℕ) (count n others place : ℕ) (at : Stretch) → HasPlace change count → n ≡ changed_count change count → AreOneApart active other count others place → ((i : ℕ) → i < at.from → (i < change_place change) × (i < place))
+pub right_beside : (change : ListChange) (active other : List ℕ) (count n others place : ℕ) (at : Stretch) → HasPlace change count → n ≡ changed_count change count → AreOneApart active other count others place → ((i : ℕ) → i < at.from → (i < change_place change) × (i < place))
     → ((i : ℕ) → at.to ≤ i → i < n → (others ≡ n) × (change_place change < i) × (place < i)) → AreRightBeside change active other n at
 right_beside change active other count n others place at has len apart below above i less side = ⊎_elim
     (λ (low : i < at.from). let b = below i low in same_below active other count others place i apart b.1 (below_place change count i has b.0) ∙ sym (unchanged change active i b.0))
     (λ (high : at.to ≤ i). let a = above i high less in let same = a.0 in right_behind change active other count others place i has apart (a.0 ∙ len) (omega (arith, less, same)) a.1 a.2) side
 
 -- where no members are left out, all are as wanted
-pub all_right : (change : Change) (active words : List ℕ) (n : ℕ) (at : Stretch) → at.to ≤ at.from → AreRightBeside change active words n at → HasMembers change active words n
+pub all_right : (change : ListChange) (active words : List ℕ) (n : ℕ) (at : Stretch) → at.to ≤ at.from → AreRightBeside change active words n at → HasMembers change active words n
 all_right change active words n at over h i less = h i less (go (dec_le at.to i))
   where
     go : Dec (at.to ≤ i) → (i < at.from) ⊎ (at.to ≤ i)

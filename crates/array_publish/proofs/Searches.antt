@@ -15,10 +15,10 @@ use Rattle.word_rule.specs.Copies.{AreOfCopy, ListsMembers, StandFrom}
 use Rattle.word_rule.specs.Places.{member_place}
 use Rattle.array_publish.specs.CopyLoads.{LoadsCopy, IsTold, sight_words}
 use Rattle.array_publish.specs.Search.{CountsBegun, AreEnds, IsNarrowed, IsLastBegun, IsObjectAt, SeriesAscends, listed_member, others, series_word}
-use Rattle.array_publish.specs.declared.search.Begun.{Begun}
+use Rattle.array_publish.specs.declared.search.LastBegun.{LastBegun}
 use Rattle.array_publish.specs.declared.search.SegmentStart.{SegmentStart}
 use Rattle.array_publish.specs.declared.search.Series.{Series}
-use Rattle.array_publish.specs.declared.walk.Listed.{Listed}
+use Rattle.array_publish.specs.declared.copies.Listed.{Listed}
 use Rattle.array_publish.proofs.CopyWalks.{told_later, between_later}
 use Rattle.segment_array.proofs.Places.{none_above, unheld_above, unheld_below}
 
@@ -172,7 +172,7 @@ module _ (t : Terms) (c : ℕ) (k : CallerData) (pc count value : ℕ) (told : I
       let n = counted copy members agrees lists few in
       none_from copy 0 pc 0 members lists.ascending lists.stand (⊎_elim (λ (e : count ≤ 0). inl (omega (arith, e, n))) (λ (l : pc < get_or copy (member_place 0) 0). inr l) (h copy members agrees lists n).1)
 
-  module _ (b : Begun) (begun : IsLastBegun t c k pc count (Some b)) (last : ℕ) (told_last : IsTold t c k (b.place + 1) last) where
+  module _ (b : LastBegun) (begun : IsLastBegun t c k pc count (Some b)) (last : ℕ) (told_last : IsTold t c k (b.place + 1) last) where
     abbrev index : ℕ
     index = begun.0
 
@@ -200,7 +200,7 @@ module _ (t : Terms) (c : ℕ) (k : CallerData) (pc count value : ℕ) (told : I
         by_last copy members agrees lists few ∙ (rw (le-leb pc (get_or copy (member_place index + 1) 0) (omega (arith, e, le))) refl
         ∙ (λ j. Some (record { span = record { first = first j; last = e j }; payload = p j })))
 
-pub begun_later : (t : Terms) (c : ℕ) (k k' : CallerData) (pc count : ℕ) (o : Option Begun) → LoadsCopy t c k k' → IsLastBegun t c k pc count o → IsLastBegun t c k' pc count o
+pub begun_later : (t : Terms) (c : ℕ) (k k' : CallerData) (pc count : ℕ) (o : Option LastBegun) → LoadsCopy t c k k' → IsLastBegun t c k pc count o → IsLastBegun t c k' pc count o
 begun_later t c k k' pc count None p h = between_later t c k k' pc count 0 0 p h
 begun_later t c k k' pc count (Some b) p h = (h.0, h.1, h.2, h.3, told_later t c k k' b.place b.first p h.4, between_later t c k k' pc count h.0 (h.0 + 1) p h.5)
 

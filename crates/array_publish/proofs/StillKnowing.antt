@@ -6,7 +6,7 @@ use Rattle.word_rule.specs.Places.{copy_words}
 use Rattle.word_rule.specs.declared.log.LoaderHolding.{LoaderHolding}
 use Rattle.array_publish.specs.Holders.{LoadsHeld, Spells, active_words, spare_words}
 use Rattle.array_publish.specs.Update.{IsClean, KnowsCopy, MayWrite, Works}
-use Rattle.array_publish.specs.declared.writing.ActiveCopy.{ActiveCopy}
+use Rattle.array_publish.specs.declared.active.ActiveCopy.{ActiveCopy}
 use Rattle.array_publish.proofs.Answering.{holds_of, works_then}
 use Rattle.array_publish.proofs.Knowing.{knows_stays}
 use Rattle.array_publish.proofs.Works.{Holds, spare_wide}

@@ -13,7 +13,7 @@ use Rattle.word_rule.specs.Sights.{with_copy_word, after_copy_load}
 use Rattle.word_rule.specs.Steps.{IsHeldWord}
 use Rattle.word_rule.proofs.Memories.{set_same}
 use Rattle.array_publish.specs.Holders.{active_words, spare_words, with_spare, after_work, Spells, IsHolder, MayWork, LoadsHeld}
-use Rattle.array_publish.specs.declared.writing.CopyStarts.{CopyStarts}
+use Rattle.array_publish.specs.declared.active.CopyStarts.{CopyStarts}
 
 -- what is asked of a lock that is held: copy c is active, and both copies have all their words
 abbrev pub Holds : Terms → ℕ → LoaderHolding → Type 0

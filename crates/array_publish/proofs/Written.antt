@@ -6,7 +6,7 @@ use Rattle.word_rule.specs.Copies.{count_in}
 use Rattle.reg_model.specs.declared.span.Member.{Member}
 use Rattle.array_publish.specs.Holders.{member_in}
 use Rattle.array_publish.specs.Writing.{AreRightBeside, HasMembers, HaveHeaders, IsWritten, SameHeaders, SameMembers, wanted, with_header, with_member, with_totals}
-use Rattle.array_publish.specs.declared.writing.Change.{Change}
+use Rattle.array_publish.specs.declared.writing.ListChange.{ListChange}
 
 -- members stand one after another
 pub above_place : (j i : ℕ) → j < i → member_place j + 3 ≤ member_place i
@@ -57,7 +57,7 @@ written_elsewhere j i m words ne =
     })
 
 -- one member more is written
-pub one_more : (change : Change) (active words : List ℕ) (n i to : ℕ) (m : Member) → member_place i + 2 < length words → AreRightBeside change active words n (record { from = i; to = to }) → m ≡ wanted change active i → AreRightBeside change active (with_member i m words) n (record { from = i + 1; to = to })
+pub one_more : (change : ListChange) (active words : List ℕ) (n i to : ℕ) (m : Member) → member_place i + 2 < length words → AreRightBeside change active words n (record { from = i; to = to }) → m ≡ wanted change active i → AreRightBeside change active (with_member i m words) n (record { from = i + 1; to = to })
 one_more change active words n i to m inside h is j less side = go (ℕ_discrete j i)
   where
     go : Dec (j ≡ i) → member_in (with_member i m words) j ≡ wanted change active j
@@ -115,7 +115,7 @@ one_header count s words inside h j less = go (ℕ_discrete j s)
         )
 
 -- the totals stand before all segments
-pub totals_written : (change : Change) (active words : List ℕ) (count : ℕ) → 2 ≤ length words → HasMembers change active words count → HaveHeaders words count (segments count) → IsWritten change active count (with_totals count words)
+pub totals_written : (change : ListChange) (active words : List ℕ) (count : ℕ) → 2 ≤ length words → HasMembers change active words count → HaveHeaders words count (segments count) → IsWritten change active count (with_totals count words)
 totals_written change active words count wide members headers =
     let l1 = length-set words 0 (segments count) in record {
       head = get_or-set_other (set words 0 (segments count)) 1 0 count 0 (λ e. omega (arith, e)) ∙ get_or-set_same words 0 (segments count) 0 (omega (arith, wide));

@@ -11,7 +11,7 @@ use Rattle.word_rule.specs.CallerData.{CallerData, WordsData}
 use Rattle.word_rule.specs.Callers.{AreTerms}
 use Rattle.word_rule.specs.Copies.{AreOfCopy}
 use Rattle.word_rule.specs.Places.{copy_place, is_of_copy}
-use Rattle.array_publish.specs.declared.walk.CopyStart.{CopyStart}
+use Rattle.array_publish.specs.declared.copies.CopyStart.{CopyStart}
 
 -- the words that a sight has, where there is one
 abbrev pub sight_words : Option CopySight → List LoadedWord

@@ -10,7 +10,7 @@ use Rattle.word_rule.specs.declared.log.Sights.{Sights}
 use Rattle.word_rule.specs.CallerData.{CallerData, WordsData}
 use Rattle.word_rule.specs.Callers.{AreTerms}
 use Rattle.word_rule.specs.Places.{copy_place, copy_words, member_place}
-use Rattle.array_publish.specs.declared.writing.CopyStarts.{CopyStarts}
+use Rattle.array_publish.specs.declared.active.CopyStarts.{CopyStarts}
 use Rattle.word_rule.specs.declared.log.Terms.{Terms}
 
 -- the words of the active copy, and of the other one

@@ -2,7 +2,7 @@
 use Rattle.std.specs.Prelude.{◌≡◌, ℕ, ◌+◌, ◌≤◌, ◌⊎◌, List}
 use Rattle.reg_model.specs.declared.span.Member.{Member}
 use Rattle.array_publish.specs.declared.other.OtherCopy.{OtherCopy}
-use Rattle.array_publish.specs.declared.writing.Change.TheVariants.{Put}
+use Rattle.array_publish.specs.declared.writing.ListChange.TheVariants.{Put}
 use Rattle.array_publish.specs.Writing.{HasMembers, HaveHeaders}
 use Rattle.word_rule.specs.Places.{segments}
 

@@ -4,10 +4,10 @@ use Rattle.std.specs.Prelude.{Option, Some, None, option_map, slice_index}
 use Rattle.reg_model.specs.SpanData.{IsSpan}
 use Rattle.reg_model.specs.Query.{member_at}
 use Rattle.reg_model.specs.declared.span.Member.{Member}
-use Rattle.array_publish.specs.declared.search.Begun.{Begun}
+use Rattle.array_publish.specs.declared.search.LastBegun.{LastBegun}
 use Rattle.array_publish.specs.declared.search.SegmentStart.{SegmentStart}
 use Rattle.array_publish.specs.declared.search.Series.{Series}
-use Rattle.array_publish.specs.declared.walk.Listed.{Listed}
+use Rattle.array_publish.specs.declared.copies.Listed.{Listed}
 use Rattle.word_rule.specs.declared.log.Terms.{Terms}
 use Rattle.word_rule.specs.CallerData.{CallerData}
 use Rattle.word_rule.specs.Copies.{AreOfCopy, ListsMembers}
@@ -46,7 +46,7 @@ IsNarrowed t c k pc count low high = (copy : List ℕ) (members : List Member)
     → count ≡ length members → AreEnds copy pc count low high
 
 -- of so many members, the last one that begins at or below the address; it has number `index`
-abbrev pub IsLastBegun : Terms → ℕ → CallerData → ℕ → ℕ → Option Begun → Type 0
+abbrev pub IsLastBegun : Terms → ℕ → CallerData → ℕ → ℕ → Option LastBegun → Type 0
 IsLastBegun t c k pc count None = IsNarrowed t c k pc count 0 0
 IsLastBegun t c k pc count (Some b) = (index : ℕ) × (b.place ≡ member_place index)
     × (index < count) × (b.first ≤ pc) × IsTold t c k b.place b.first

@@ -15,7 +15,7 @@ use Rattle.reg_model.specs.declared.answer.Receipt.TheVariants as receipt
 use Rattle.reg_model.specs.declared.answer.Update.{Update}
 use Rattle.reg_model.specs.declared.answer.Update.TheVariants as update
 use Rattle.reg_model.specs.declared.span.Member.{Member}
-use Rattle.array_publish.specs.declared.writing.ActiveCopy.{ActiveCopy}
+use Rattle.array_publish.specs.declared.active.ActiveCopy.{ActiveCopy}
 use Rattle.word_rule.specs.declared.log.LoadEvent.{LoadEvent}
 use Rattle.node_store.specs.Locking.{IsBusyAt}
 use Rattle.node_store.specs.declared.locking.Busy.{Busy}

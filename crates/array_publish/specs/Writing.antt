@@ -2,15 +2,15 @@
 use Rattle.std.specs.Prelude.{◌≡◌, ℕ, ◌+◌, ◌-◌, ◌<◌, ◌≤◌, ◌⊎◌, ◌==◌, nat_lt, List, slice_index}
 use Rattle.std.specs.Prelude.{slice_set, if◌then◌else◌}
 use Rattle.reg_model.specs.declared.span.Member.{Member}
-use Rattle.array_publish.specs.declared.writing.Change.{Change}
+use Rattle.array_publish.specs.declared.writing.ListChange.{ListChange}
 use Rattle.array_publish.specs.declared.writing.Stretch.{Stretch}
-use Rattle.array_publish.specs.declared.writing.Change.TheVariants.{Put, Take}
+use Rattle.array_publish.specs.declared.writing.ListChange.TheVariants.{Put, Take}
 use Rattle.word_rule.specs.Places.{member_place, segment_place, segments}
 use Rattle.word_rule.specs.Copies.{count_in}
 use Rattle.array_publish.specs.Holders.{member_in}
 
 -- member i of the list after the change, where the words of the active copy are these
-abbrev pub wanted : Change → List ℕ → ℕ → Member
+abbrev pub wanted : ListChange → List ℕ → ℕ → Member
 wanted (Put place m) active i =
     if nat_lt i place then member_in active i
     else (if i == place then m else member_in active (i - 1))
@@ -25,17 +25,17 @@ abbrev pub EndsFrom : List ℕ → ℕ → ℕ → ℕ → Type 0
 EndsFrom words address count i = (i ≡ count) ⊎ (address ≤ (member_in words i).span.last)
 
 -- a member is put between two or at an end; one that is there is taken
-abbrev pub HasPlace : Change → ℕ → Type 0
+abbrev pub HasPlace : ListChange → ℕ → Type 0
 HasPlace (Put place m) count = place ≤ count
 HasPlace (Take place) count = place < count
 
 -- where
-abbrev pub change_place : Change → ℕ
+abbrev pub change_place : ListChange → ℕ
 change_place (Put place m) = place
 change_place (Take place) = place
 
 -- how many there are afterwards
-abbrev pub changed_count : Change → ℕ → ℕ
+abbrev pub changed_count : ListChange → ℕ → ℕ
 changed_count (Put place m) count = count + 1
 changed_count (Take place) count = count - 1
 
@@ -56,12 +56,12 @@ HaveHeaders words count upto = (s : ℕ) → s < upto → (slice_index words (se
     × (slice_index words (segment_place s + 1) ≡ count_in count s)
 
 -- so many of the wanted members are written
-abbrev pub HasMembers : Change → List ℕ → List ℕ → ℕ → Type 0
+abbrev pub HasMembers : ListChange → List ℕ → List ℕ → ℕ → Type 0
 HasMembers change active words upto =
     (i : ℕ) → i < upto → member_in words i ≡ wanted change active i
 
 -- of so many members, those outside of these places are as wanted
-abbrev pub AreRightBeside : Change → List ℕ → List ℕ → ℕ → Stretch → Type 0
+abbrev pub AreRightBeside : ListChange → List ℕ → List ℕ → ℕ → Stretch → Type 0
 AreRightBeside change active words count at = (i : ℕ) → i < count → (i < at.from) ⊎ (at.to ≤ i)
     → member_in words i ≡ wanted change active i
 
@@ -80,7 +80,7 @@ SameHeaders words words' = (s : ℕ)
     × (slice_index words' (segment_place s + 1) ≡ slice_index words (segment_place s + 1))
 
 -- A copy has all words that it is to have, for so many members.
-pub record IsWritten (change : Change) (active : List ℕ) (count : ℕ)
+pub record IsWritten (change : ListChange) (active : List ℕ) (count : ℕ)
     (words : List ℕ) : Type 0 where
   pub head : slice_index words 0 ≡ segments count
   pub number : slice_index words 1 ≡ count

@@ -10,13 +10,14 @@
 //! stand.
 #![tactic(auto)]
 
+mod active;
 mod calls;
+mod copies;
 mod fixed;
 mod lookup;
 mod other;
 mod search;
 mod update;
-mod walk;
 mod writing;
 
 pub use calls::{load, load_by, unload, unload_by};

@@ -6,8 +6,9 @@ ghost use Rattle.array_publish.specs.CopyLoads.{IsAtCopy, LoadsCopy, load_count}
 ghost use Rattle.array_publish.specs.Search.{IsMember, IsObjectAt, listed_member};
 ghost use Rattle.array_publish.specs.Lookup.{LooksUp};
 
+use crate::copies::Listed;
 use crate::fixed;
-use crate::walk::{self, Listed};
+use crate::search::listed_at;
 use reg_model::{Again, Found};
 use word_rule::places::{CLOCK, LOWER, updates_at};
 use word_rule::{Ask, Looker, Words};
@@ -22,7 +23,7 @@ fn object_at<L: Looker>(words: &Words, me: &mut L, copy: u32, pc: u64) -> Option
 {
     match fixed::containing(words.fixed(), pc) {
         Some(member) => Some(Listed::of(&member)),
-        None => walk::listed_at(words, me, copy, pc),
+        None => listed_at(words, me, copy, pc),
     }
 }
 

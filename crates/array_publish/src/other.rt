@@ -7,8 +7,8 @@ ghost use Rattle.array_publish.specs.Holders.{IsHolder, MayWork, LoadsHeld, acti
 ghost use Rattle.array_publish.specs.Holders.{member_in, spare_words};
 ghost use Rattle.array_publish.specs.Other.{IsOneApart};
 
-use crate::walk::{COUNT, place_of_member};
-use crate::writing::{ActiveCopy, CopyStarts, active_word};
+use crate::active::{ActiveCopy, CopyStarts, active_word};
+use crate::copies::{COUNT, place_of_member};
 use word_rule::{Caller, Words};
 
 /// How many members the other copy lists, and the place from which on they aren't those of the

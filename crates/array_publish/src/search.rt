@@ -5,13 +5,16 @@
 //! the last of these that does, and of the fifteen members after that segment's first. No load
 //! waits for another one of its count. All segments but the highest are full, so no word behind the
 //! members is loaded and no comparison needs a test beside it.
-ghost use Rattle.std.specs.Prelude.{◌≡◌, ℕ, ◌+◌, ◌*◌, ◌-◌, ◌%◌, ◌<◌, ◌≤◌, min};
+ghost use Rattle.std.specs.Prelude.{◌≡◌, ℕ, ◌+◌, ◌*◌, ◌-◌, ◌%◌, ◌<◌, ◌≤◌, [], min};
 ghost use Rattle.std.specs.Prelude.{if◌then◌else◌};
 ghost use Rattle.word_rule.specs.Places.{copy_words, member_place};
-ghost use Rattle.array_publish.specs.CopyLoads.{LoadsCopy, MayLoadFrom, load_count};
-ghost use Rattle.array_publish.specs.Search.{CountsBegun, IsNarrowed, IsLastBegun, others};
+ghost use Rattle.array_publish.specs.CopyLoads.{IsAtCopy, LoadsCopy, MayLoadFrom, load_count};
+ghost use Rattle.array_publish.specs.Search.{CountsBegun, IsLastBegun, IsNarrowed, IsObjectAt};
+ghost use Rattle.array_publish.specs.Search.{others};
 
-use crate::walk::{CopyStart, FULL, MEMBER_WORDS, SEGMENT_WORDS, load_word};
+use crate::copies::{
+    COUNT, CopyStart, FULL, Listed, MEMBER_WORDS, SEGMENT_WORDS, load_word, place_of_copy,
+};
 use word_rule::{Looker, Words};
 
 /// Where the first member of a copy begins.
@@ -43,7 +46,7 @@ pub struct SegmentStart {
 
 /// The last member that begins at or below an address: where it stands, and where it begins.
 #[derive(Clone, Copy)]
-pub struct Begun {
+pub struct LastBegun {
     pub place: u32,
     pub first: u64,
 }
@@ -162,7 +165,7 @@ pub fn last_begun<L: Looker>(
     at: CopyStart,
     pc: u64,
     count: u32,
-) -> Option<Begun>
+) -> Option<LastBegun>
     requires from { MayLoadFrom words.now at (L.known me.old) }
     requires count { count ≤ words.now.terms.loads }
     ensures loads { LoadsCopy words.now.terms at.copy (L.known me.old) (L.known me.new) }
@@ -179,5 +182,31 @@ pub fn last_begun<L: Looker>(
     if first > pc {
         return None;
     }
-    Some(Begun { place, first })
+    Some(LastBegun { place, first })
+}
+
+/// The member of a copy that contains the address.
+pub fn listed_at<L: Looker>(words: &Words, me: &mut L, copy: u32, pc: u64) -> Option<Listed>
+    requires copy { IsAtCopy words.now copy (L.known me.old) }
+    ensures loads { LoadsCopy words.now.terms copy (L.known me.old) (L.known me.new) }
+    ensures found { IsObjectAt words.now.terms copy (L.known me.new) [] pc result }
+    ensures few { load_count (L.known me.new) ≤ load_count (L.known me.old) + 33 }
+{
+    let start = place_of_copy(words, copy);
+    let at = CopyStart { copy, start };
+    let loads = words.loads();
+    let count = load_word(words, me, at, COUNT).min(loads as u64) as u32;
+    let Some(LastBegun { place, first }) = last_begun(words, me, at, pc, count) else {
+        return None;
+    };
+    let last = load_word(words, me, at, place + 1);
+    if pc > last {
+        return None;
+    }
+    let payload = load_word(words, me, at, place + 2);
+    Some(Listed {
+        first,
+        last,
+        payload,
+    })
 }

@@ -10,10 +10,9 @@ ghost use Rattle.array_publish.specs.Writing.{EndsBelow, EndsFrom};
 ghost use Rattle.array_publish.specs.Update.{AnswersLoad, AnswersUnload, HoldsCopies, IsClean};
 ghost use Rattle.array_publish.specs.Update.{KnowsCopy, Works};
 
-use crate::walk::COUNT;
-use crate::writing::{
-    ActiveCopy, Change, active_member, active_word, ending_below, starts_of, write_copy,
-};
+use crate::active::{ActiveCopy, active_member, active_word, ending_below, starts_of};
+use crate::copies::COUNT;
+use crate::writing::{ListChange, write_copy};
 use reg_model::{Loading, Member, Removed, Span, Update};
 use word_rule::places::{LOWER, updates_at};
 use word_rule::{Ask, Caller, Words};
@@ -160,7 +159,7 @@ pub fn load_held(words: &Words, me: &mut Caller, member: &Member) -> Loading
             stamp: updates_at(clock),
         };
     }
-    let change = Change::Put {
+    let change = ListChange::Put {
         place,
         member: *member,
     };
@@ -187,7 +186,7 @@ pub fn unload_held(words: &Words, me: &mut Caller, base: u64) -> Removed
             stamp: updates_at(clock),
         };
     };
-    let change = Change::Take { place };
+    let change = ListChange::Take { place };
     write_copy(words, me, &active, &change, active.count - 1);
     let number = words.publish(me, update);
     Removed::Done { number, member }

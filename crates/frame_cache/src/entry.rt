@@ -4,7 +4,7 @@ ghost use Rattle.reg_model.specs.SpanData.{contains};
 ghost use Rattle.frame_cache.specs.Recent.{no_entry};
 ghost use Rattle.frame_cache.specs.Slots.{block_of, blocks_reached};
 
-use crate::slots::{BLOCK, NUMBERS};
+use crate::blocks::{BLOCK, NUMBERS};
 use reg_model::{Member, Span};
 use std::marker::Model;
 
@@ -12,13 +12,13 @@ use std::marker::Model;
 /// one comparison tell whether it contains an address. Where it begins would be guessed wrong half
 /// of the time.
 #[derive(Clone, Copy)]
-pub(crate) struct Entry {
+pub(crate) struct CachedEntry {
     first: u64,
     reach: u64,
     payload: u32,
 }
 
-impl Model for Entry {
+impl Model for CachedEntry {
     ghost use Rattle.std.specs.Prelude.{◌+◌, ◌-◌};
     ghost use Rattle.reg_model.specs.SpanData.{IsSpan};
     ghost use Rattle.reg_model.specs.declared.span.Member.{Member};
@@ -39,12 +39,12 @@ impl Model for Entry {
     } };
 }
 
-impl Entry {
-    pub(crate) fn of(member: &Member) -> Entry
+impl CachedEntry {
+    pub(crate) fn of(member: &Member) -> CachedEntry
         ensures { result ≡ member.now }
     {
         let first = member.span.first();
-        Entry {
+        CachedEntry {
             first,
             reach: member.span.last() - first,
             payload: member.payload,
@@ -52,10 +52,10 @@ impl Entry {
     }
 
     /// What stands in a slot that was never used.
-    pub(crate) fn unused() -> Entry
+    pub(crate) fn unused() -> CachedEntry
         ensures { result ≡ no_entry }
     {
-        Entry {
+        CachedEntry {
             first: 0,
             reach: 0,
             payload: 0,

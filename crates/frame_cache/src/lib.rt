@@ -9,6 +9,7 @@
 //! the clock. It takes no memory and no lock.
 #![tactic(auto)]
 
+mod blocks;
 mod cache;
 mod entry;
 pub mod laws;

@@ -4,7 +4,7 @@ ghost use Rattle.frame_cache.specs.CacheData.{kept_entries};
 ghost use Rattle.frame_cache.specs.Order.{but_nth};
 ghost use Rattle.frame_cache.specs.Recent.{SeeksEntry, cached_entries, cached_entry};
 
-use crate::entry::Entry;
+use crate::entry::CachedEntry;
 use crate::order::Order;
 use crate::slots::Slots;
 use reg_model::Member;
@@ -74,7 +74,7 @@ impl Recent {
     }
 
     /// The member at a place.
-    pub(crate) fn get(&self, place: u32) -> Entry
+    pub(crate) fn get(&self, place: u32) -> CachedEntry
         requires { place < length (cached_entries self.now) }
         ensures { result ≡ cached_entry place self.now }
     {

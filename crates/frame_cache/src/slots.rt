@@ -3,14 +3,10 @@ ghost use Rattle.std.specs.Prelude.{◌≡◌, ℕ, ◌<◌, length, set, false}
 ghost use Rattle.reg_model.specs.SpanData.{contains};
 ghost use Rattle.frame_cache.specs.Recent.{in_slot};
 
-use crate::entry::Entry;
+use crate::blocks::{BLOCK, NUMBERS};
+use crate::entry::CachedEntry;
 use reg_model::Member;
 use std::marker::Model;
-
-/// How many addresses are a block. Code mostly begins with one.
-pub(crate) const BLOCK: u64 = 16;
-/// How many blocks have numbers of their own; further ones have the same again.
-pub(crate) const NUMBERS: u64 = 1 << 16;
 
 /// A member in each slot. Beside them stand the numbers of the blocks in which they begin, and how
 /// many blocks later they end, at most the greatest number: eight of these are compared by a few
@@ -19,7 +15,7 @@ pub(crate) const NUMBERS: u64 = 1 << 16;
 pub(crate) struct Slots {
     blocks: [u16; 8],
     reaches: [u16; 8],
-    members: [Entry; 8],
+    members: [CachedEntry; 8],
 }
 
 impl Model for Slots {
@@ -42,12 +38,12 @@ impl Slots {
         Slots {
             blocks: [0; 8],
             reaches: [0; 8],
-            members: [Entry::unused(); 8],
+            members: [CachedEntry::unused(); 8],
         }
     }
 
     /// The member in a slot.
-    pub(crate) fn get(&self, slot: u8) -> Entry
+    pub(crate) fn get(&self, slot: u8) -> CachedEntry
         requires { slot < 8 }
         ensures { result ≡ in_slot self.now slot }
     {
@@ -59,7 +55,7 @@ impl Slots {
         requires { slot < 8 }
         ensures { self.new ≡ set self.old slot member.now }
     {
-        let entry = Entry::of(member);
+        let entry = CachedEntry::of(member);
         self.blocks[slot as usize] = entry.block();
         self.reaches[slot as usize] = entry.blocks_reached();
         self.members[slot as usize] = entry;

@@ -9,7 +9,7 @@ use Rattle.word_rule.specs.Copies.{ListsMembers}
 use Rattle.array_publish.specs.Holders.{active_words, member_in}
 use Rattle.array_publish.specs.Update.{AnswersLoad}
 use Rattle.array_publish.specs.Writing.{EndsBelow}
-use Rattle.array_publish.specs.declared.writing.ActiveCopy.{ActiveCopy}
+use Rattle.array_publish.specs.declared.active.ActiveCopy.{ActiveCopy}
 use Rattle.array_publish.proofs.Answering.{may_refuse, overlap_so, full_so, published_so, may_publish, free_listed, is_held}
 use Rattle.array_publish.proofs.Knowing.{counted_so, terms_before}
 use Rattle.array_publish.proofs.StillKnowing.{StillKnows, has_written, knows_after, may_write, still_clean, still_knows}

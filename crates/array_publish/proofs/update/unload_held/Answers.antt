@@ -8,7 +8,7 @@ use Rattle.word_rule.specs.Copies.{ListsMembers}
 use Rattle.array_publish.specs.Holders.{active_words, member_in, spare_words}
 use Rattle.array_publish.specs.Update.{AnswersUnload}
 use Rattle.array_publish.specs.Writing.{EndsBelow, EndsFrom}
-use Rattle.array_publish.specs.declared.writing.ActiveCopy.{ActiveCopy}
+use Rattle.array_publish.specs.declared.active.ActiveCopy.{ActiveCopy}
 use Rattle.array_publish.proofs.Answering.{may_refuse, not_found_so, unpublished_so, is_held}
 use Rattle.array_publish.proofs.Bases.{holder_terms, may_publish, member_listed, none_listed}
 use Rattle.array_publish.proofs.Knowing.{known_at, terms_before}

@@ -1,7 +1,7 @@
 use Rattle.std.proofs.Common.{◌-◌, ◌≤◌}
 use Rattle.array_publish.specs.Holders.{LoadsHeld, active_words}
 use Rattle.array_publish.specs.Writing.{EndsBelow, EndsFrom}
-use Rattle.array_publish.proofs.writing.ending_below.Given as goal
+use Rattle.array_publish.proofs.active.ending_below.Given as goal
 
 abbrev pub invariant-loop-low : goal.invariant-loop-low
 invariant-loop-low l = record {

@@ -1,15 +1,13 @@
-//! What one of the loader's copies says of an address, and where its words stand.
+//! Where the words of the loader's copies stand, and what they say of a member.
 //!
-//! Nothing that is loaded is trusted: a copy may be stored into meanwhile. What a search found is
+//! Nothing that is loaded is trusted: a copy may be stored into meanwhile. So what was found is
 //! said of every copy that agrees with the words that were loaded.
-ghost use Rattle.std.specs.Prelude.{◌≡◌, ◌+◌, ◌*◌, ◌<◌, ◌≤◌, []};
+ghost use Rattle.std.specs.Prelude.{◌≡◌, ◌+◌, ◌*◌, ◌<◌, ◌≤◌};
 ghost use Rattle.word_rule.specs.Callers.{AreTerms};
 ghost use Rattle.word_rule.specs.Places.{copy_place, copy_words, member_place, segment_place};
-ghost use Rattle.array_publish.specs.CopyLoads.{IsAtCopy, IsTold, LoadsCopy, MayLoadFrom};
-ghost use Rattle.array_publish.specs.CopyLoads.{load_count};
-ghost use Rattle.array_publish.specs.Search.{IsMember, IsObjectAt, listed_member};
+ghost use Rattle.array_publish.specs.CopyLoads.{IsTold, LoadsCopy, MayLoadFrom, load_count};
+ghost use Rattle.array_publish.specs.Search.{IsMember, listed_member};
 
-use crate::search::{Begun, last_begun};
 use reg_model::{Member, Span};
 use segment_array::{segments_for, spot};
 use word_rule::{FIRST_NODE, Looker, NODE_WORDS, Words};
@@ -84,32 +82,6 @@ pub fn load_word<L: Looker>(words: &Words, me: &mut L, at: CopyStart, word: u32)
     ensures one { load_count (L.known me.new) ≡ load_count (L.known me.old) + 1 }
 {
     me.load_copy(words, at.start + word)
-}
-
-/// The member of a copy that contains the address.
-pub fn listed_at<L: Looker>(words: &Words, me: &mut L, copy: u32, pc: u64) -> Option<Listed>
-    requires copy { IsAtCopy words.now copy (L.known me.old) }
-    ensures loads { LoadsCopy words.now.terms copy (L.known me.old) (L.known me.new) }
-    ensures found { IsObjectAt words.now.terms copy (L.known me.new) [] pc result }
-    ensures few { load_count (L.known me.new) ≤ load_count (L.known me.old) + 33 }
-{
-    let start = place_of_copy(words, copy);
-    let at = CopyStart { copy, start };
-    let loads = words.loads();
-    let count = load_word(words, me, at, COUNT).min(loads as u64) as u32;
-    let Some(Begun { place, first }) = last_begun(words, me, at, pc, count) else {
-        return None;
-    };
-    let last = load_word(words, me, at, place + 1);
-    if pc > last {
-        return None;
-    }
-    let payload = load_word(words, me, at, place + 2);
-    Some(Listed {
-        first,
-        last,
-        payload,
-    })
 }
 
 impl Listed {

@@ -1,7 +1,7 @@
 use Rattle.std.proofs.Common.{◌≡◌, ◌+◌, ◌-◌, ◌/◌, ◌<◌, ℕ, get_or, inl, inr, refl, ◌∙◌, subst, arith}
 use Rattle.array_publish.specs.Holders.{active_words, member_in}
 use Rattle.array_publish.proofs.Works.{loads_none, loads_then, may_still}
-use Rattle.array_publish.proofs.writing.ending_below.Goals as goal
+use Rattle.array_publish.proofs.active.ending_below.Goals as goal
 
 pub loop-low-init : goal.loop-low-init
 loop-low-init c = record { loads = loads_none c.args.me.now; order = (omega arith, omega arith); below = inl refl; above = inl refl }

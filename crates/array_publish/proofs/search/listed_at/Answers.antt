@@ -4,7 +4,7 @@ use Rattle.word_rule.specs.declared.log.Terms.{Terms}
 use Rattle.array_publish.specs.Search.{IsLastBegun}
 use Rattle.array_publish.proofs.CopyWalks.{loads_both, told_later}
 use Rattle.array_publish.proofs.Searches.{begun_later, none_listed, ends_below, is_listed}
-use Rattle.array_publish.proofs.walk.listed_at.Goals as goal
+use Rattle.array_publish.proofs.search.listed_at.Goals as goal
 
 pub returns-in_default-clause-loads : goal.returns-in_default-clause-loads
 returns-in_default-clause-loads g c =

@@ -3,7 +3,7 @@ use Rattle.word_rule.specs.Sights.{after_copy_load}
 use Rattle.array_publish.specs.CopyLoads.{LoadsCopy, IsTold}
 use Rattle.array_publish.proofs.CopyWalks.{one_load, one_told}
 use Rattle.array_publish.proofs.LoadCounts.{word_counted}
-use Rattle.array_publish.proofs.walk.load_word.Goals as goal
+use Rattle.array_publish.proofs.copies.load_word.Goals as goal
 
 pub returns-clause-loads : goal.returns-clause-loads
 returns-clause-loads g c =
