@@ -12,7 +12,7 @@ use Rattle.word_rule.specs.declared.log.LockId.TheVariants as lock
 use Rattle.word_rule.specs.declared.log.Log.{Log}
 use Rattle.word_rule.specs.declared.log.Terms.{Terms}
 use Rattle.word_rule.specs.CallerData.{CallerData, WordsData}
-use Rattle.node_store.specs.Locking.{Locks}
+use Rattle.version_locks.specs.Locking.{Locks}
 use Rattle.array_publish.specs.Update.{AnswersLoad, AnswersUnload, AnswersWith, CallsWith, EndsTry, HoldsCopies, IsClean, IsFreeAgain, IsRightLoad, IsRightUnload, LoadsMember, TellsLoad, TellsUnload, UnloadsMember, after_answer, after_letting_go, begun, is_loaded, is_unloaded, one_if}
 
 -- the lock let go of, accepted or not

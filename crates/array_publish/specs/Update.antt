@@ -17,8 +17,8 @@ use Rattle.reg_model.specs.declared.answer.Update.TheVariants as update
 use Rattle.reg_model.specs.declared.span.Member.{Member}
 use Rattle.array_publish.specs.declared.active.ActiveCopy.{ActiveCopy}
 use Rattle.word_rule.specs.declared.log.LoadEvent.{LoadEvent}
-use Rattle.node_store.specs.Locking.{IsBusyAt}
-use Rattle.node_store.specs.declared.locking.Busy.{Busy}
+use Rattle.version_locks.specs.Locking.{IsBusyAt}
+use Rattle.version_locks.specs.declared.locking.Busy.{Busy}
 use Rattle.word_rule.specs.declared.log.LockId.TheVariants as lock
 use Rattle.word_rule.specs.declared.log.LoaderHolding.{LoaderHolding}
 use Rattle.word_rule.specs.declared.log.Log.{Log}

@@ -2,7 +2,7 @@
 //! is taken, and lets go of it again.
 ghost use Rattle.std.specs.Prelude.{◌≡◌, ◌<◌, false, true, OnOk, IfOk, IfErr, IsSomeAnd};
 ghost use Rattle.word_rule.specs.CallerData.{surplus};
-ghost use Rattle.node_store.specs.Locking.{IsBusyAt, Locks};
+ghost use Rattle.version_locks.specs.Locking.{IsBusyAt, Locks};
 ghost use Rattle.array_publish.specs.Update.{EndsTry, EndsUpdate, LoadsMember, MayLoad, MayTryLoad};
 ghost use Rattle.array_publish.specs.Update.{TellsLoad, TellsUnload, UnloadsMember};
 ghost use Rattle.array_publish.specs.Update.{after_letting_go, is_loaded, is_unloaded};

@@ -12,7 +12,8 @@ use Rattle.reg_model.specs.declared.span.Member.{Member}
 use Rattle.tree_shape.proofs.Orders.{leaf_order}
 use Rattle.tree_shape.proofs.Slots.{at_place}
 use Rattle.tree_shape.specs.NodeData.{NodeData, InOrder, IsInFences, IsLeaf, entries_of, place_for}
-use Rattle.node_store.specs.Outlines.{OnlyLoads, loaded}
+use Rattle.node_store.specs.Outlines.{OnlyLoads}
+use Rattle.version_locks.specs.Locking.{loaded}
 use Rattle.word_rule.specs.CallerData.{CallerData}
 use Rattle.word_rule.specs.Callers.{start}
 use Rattle.word_rule.specs.Clock.{AfterClock}

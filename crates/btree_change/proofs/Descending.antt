@@ -18,7 +18,7 @@ use Rattle.word_rule.specs.NodeTells.{IsLiveNode}
 use Rattle.word_rule.specs.Spelling.{SpellsNode}
 use Rattle.word_rule.specs.Steps.{after_node_release_same, place_in}
 use Rattle.node_store.specs.Holding.{ReadsHeld}
-use Rattle.node_store.specs.Locking.{Locks}
+use Rattle.version_locks.specs.Locking.{Locks}
 use Rattle.node_store.specs.Sights.{after_words}
 use Rattle.btree_change.specs.Paths.{HasChildFor, StepsOnNodes}
 use Rattle.btree_change.proofs.Loading.{keeps_words, none_more}

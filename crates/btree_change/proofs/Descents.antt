@@ -13,7 +13,7 @@ use Rattle.std.specs.List.{AllByRecursion}
 use Rattle.word_rule.specs.declared.log.LockId.TheVariants as lock
 use Rattle.word_rule.specs.declared.log.Terms.{Terms}
 use Rattle.node_store.specs.Holding.{SpellsHeld}
-use Rattle.node_store.specs.Locking.{Locks}
+use Rattle.version_locks.specs.Locking.{Locks}
 use Rattle.btree_change.specs.Paths.{HoldsNothing, IsSettledLock, StepsOnNodes}
 use Rattle.btree_change.specs.Stands.{HoldsRoot}
 use Rattle.word_rule.specs.Spelling.{SpellsNode}

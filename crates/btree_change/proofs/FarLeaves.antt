@@ -21,7 +21,7 @@ use Rattle.word_rule.specs.declared.log.Terms.{Terms}
 use Rattle.node_store.proofs.Outlined.{loads_hold}
 use Rattle.node_store.specs.Holding.{SpellsHeld}
 use Rattle.node_store.specs.Outlines.{OnlyLoads}
-use Rattle.node_store.specs.declared.locking.Busy.{Busy}
+use Rattle.version_locks.specs.declared.locking.Busy.{Busy}
 use Rattle.btree_change.specs.declared.beyond.Far.{Far}
 use Rattle.btree_change.specs.declared.beyond.Next.{Next}
 use Rattle.btree_change.specs.declared.descent.Held.{Held}

@@ -13,14 +13,14 @@ use Rattle.word_rule.specs.Spelling.{spelled}
 use Rattle.word_rule.specs.Steps.{after_head_load, after_node_release, after_node_release_same, after_node_store, after_push, store_in, stored_log}
 use Rattle.word_rule.specs.declared.log.Holding.{Holding}
 use Rattle.word_rule.specs.declared.log.Log.{Log}
-use Rattle.node_store.specs.Free.{GivesFree, LosesNode, after_freeing, after_links, after_setting, held_word}
-use Rattle.node_store.specs.declared.locking.Busy.{Busy}
+use Rattle.free_list.specs.Free.{GivesFree, LosesNode, after_freeing, after_links, after_setting, held_word}
+use Rattle.version_locks.specs.declared.locking.Busy.{Busy}
 use Rattle.word_rule.proofs.Exchanges.{spelled_decides}
 use Rattle.btree_change.specs.Paths.{StepsOnNodes}
 use Rattle.btree_change.specs.Siblings.{IsGoneOrSettled, KeepsOut, ReturnsNode}
 use Rattle.btree_change.specs.Splits.{with_release_less}
 use Rattle.btree_change.proofs.LeafCommits.{all_nothing}
-use Rattle.node_store.proofs.Settled.{ExchangeLaw}
+use Rattle.free_list.proofs.Settled.{ExchangeLaw}
 use Rattle.btree_change.proofs.Loading.{none_more}
 use Rattle.btree_change.proofs.NodeSteps.{less_release_then, steps_none, steps_so, steps_then}
 use Rattle.btree_change.proofs.Spending.{spends_one}

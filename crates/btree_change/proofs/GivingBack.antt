@@ -15,10 +15,10 @@ use Rattle.word_rule.specs.declared.log.Holding.{Holding}
 use Rattle.word_rule.specs.declared.log.Receipts.{Receipts}
 use Rattle.word_rule.specs.declared.log.Terms.{Terms}
 use Rattle.word_rule.proofs.Spells.{reads}
-use Rattle.node_store.specs.Free.{GivesFree, LosesNode}
-use Rattle.node_store.specs.Locking.{FoundBusy}
-use Rattle.node_store.specs.declared.locking.Busy.{Busy}
-use Rattle.node_store.proofs.Settled.{ExchangeLaw}
+use Rattle.free_list.specs.Free.{GivesFree, LosesNode}
+use Rattle.version_locks.specs.Locking.{FoundBusy}
+use Rattle.version_locks.specs.declared.locking.Busy.{Busy}
+use Rattle.free_list.proofs.Settled.{ExchangeLaw}
 use Rattle.btree_change.specs.declared.descent.Held.{Held}
 use Rattle.btree_change.specs.declared.lift.TwoNodes.{TwoNodes}
 use Rattle.btree_change.specs.Loads.{FoundNoRoom}

@@ -9,7 +9,7 @@ use Rattle.word_rule.specs.Spelling.{spelled, SpellsNode}
 use Rattle.word_rule.specs.declared.log.Holding.{Holding}
 use Rattle.word_rule.specs.declared.log.Log.{Log}
 use Rattle.word_rule.proofs.Exchanges.{spelled_decides}
-use Rattle.node_store.proofs.Settled.{ExchangeLaw}
+use Rattle.free_list.proofs.Settled.{ExchangeLaw}
 use Rattle.btree_change.proofs.LeafCommits.{all_nothing, all_stay}
 
 -- a lock whose words spell its settled content

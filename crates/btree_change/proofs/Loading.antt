@@ -8,11 +8,11 @@ use Rattle.word_rule.specs.declared.log.Holdings.{Holdings}
 use Rattle.word_rule.specs.declared.log.LoadEvent.{LoadEvent}
 use Rattle.word_rule.specs.declared.log.LockId.{LockId}
 use Rattle.word_rule.specs.declared.log.LockId.TheVariants as lock
-use Rattle.node_store.specs.Locking.{FoundBusy, IsBusy, Locks}
+use Rattle.version_locks.specs.Locking.{FoundBusy, IsBusy, Locks}
 use Rattle.node_store.specs.Sights.{after_words}
-use Rattle.node_store.specs.declared.locking.Busy.{Busy}
-use Rattle.node_store.specs.declared.locking.Busy.TheVariants as busy
-use Rattle.node_store.proofs.Rounds.{found_later}
+use Rattle.version_locks.specs.declared.locking.Busy.{Busy}
+use Rattle.version_locks.specs.declared.locking.Busy.TheVariants as busy
+use Rattle.free_list.proofs.Rounds.{found_later}
 use Rattle.btree_change.specs.Loads.{KeepsLoads}
 use Rattle.btree_change.specs.Paths.{HoldsLeftOver, HoldsNothing, IsLeftOut}
 

@@ -20,7 +20,7 @@ use Rattle.word_rule.specs.declared.log.LockId.TheVariants as lock
 use Rattle.word_rule.specs.declared.log.Log.{Log}
 use Rattle.word_rule.specs.declared.log.Terms.{Terms}
 use Rattle.node_store.specs.Holding.{SpellsHeld}
-use Rattle.node_store.specs.Locking.{IsBusy, Locks}
+use Rattle.version_locks.specs.Locking.{IsBusy, Locks}
 use Rattle.node_store.specs.Outlines.{OnlyLoads}
 use Rattle.btree_change.specs.Paths.{IsSettledLock, StepsOnNodes}
 use Rattle.btree_change.specs.Removing.{HoldsAlone}

@@ -17,7 +17,7 @@ use Rattle.word_rule.specs.NodeTells.{IsLiveNode, KnowsTree}
 use Rattle.word_rule.specs.Spelling.{spelled, SpellsNode}
 use Rattle.word_rule.specs.Steps.{after_node_release_same, first_mark, mark_at_lock, place_by, place_by_held}
 use Rattle.node_store.specs.Holding.{ReadsHeld}
-use Rattle.node_store.specs.Locking.{Locks}
+use Rattle.version_locks.specs.Locking.{Locks}
 use Rattle.node_store.specs.Sights.{after_words}
 use Rattle.btree_change.specs.Spines.{AreApart, IsFreshLock, IsSpine, LocksSpine, NamesChild}
 use Rattle.btree_change.proofs.HeldTrees.{OnTree, child, child_frame, first_high, first_in, on_tree, place_first, some_pairs}

@@ -14,7 +14,7 @@ use Rattle.word_rule.specs.NodeTells.{IsLiveNode}
 use Rattle.word_rule.specs.Spelling.{spelled}
 use Rattle.word_rule.specs.Steps.{mark_at_lock, place_by, place_by_held, place_in, first_mark}
 use Rattle.node_store.specs.Holding.{SpellsHeld}
-use Rattle.node_store.specs.Locking.{IsBusy, Locks}
+use Rattle.version_locks.specs.Locking.{IsBusy, Locks}
 use Rattle.node_store.specs.Outlines.{OnlyLoads}
 use Rattle.btree_change.specs.declared.descent.Held.{Held}
 use Rattle.btree_change.specs.Paths.{AreHigher, HasChildFor, IsSettledLock, StepsOnNodes}

@@ -17,7 +17,7 @@ use Rattle.word_rule.specs.declared.log.Terms.{Terms}
 use Rattle.btree_change.specs.Paths.{IsSettledLock, StepsOnNodes}
 use Rattle.btree_change.specs.Releases.{HaveSettled, LetsGo, MayGo, Spends}
 use Rattle.btree_change.specs.Siblings.{ReturnsNode, HoldsGone, HoldsSiblings, HoldsUnder, IsGoneOrSettled, KeepsOut, LeavesParent, MendsSiblings, both_of}
-use Rattle.node_store.specs.declared.locking.Busy.{Busy}
+use Rattle.version_locks.specs.declared.locking.Busy.{Busy}
 use Rattle.btree_change.specs.declared.sibling.Siblings.{Siblings}
 use Rattle.btree_change.proofs.Pairings.{IsNow, both_all, both_high}
 use Rattle.btree_change.proofs.Loading.{found_between, none_more}

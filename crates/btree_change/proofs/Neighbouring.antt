@@ -19,7 +19,7 @@ use Rattle.word_rule.specs.declared.log.Holdings.{Holdings}
 use Rattle.word_rule.specs.declared.log.LockId.TheVariants as lock
 use Rattle.word_rule.specs.declared.log.Terms.{Terms}
 use Rattle.node_store.specs.Holding.{SpellsHeld}
-use Rattle.node_store.specs.Locking.{Locks}
+use Rattle.version_locks.specs.Locking.{Locks}
 use Rattle.btree_change.specs.Paths.{IsSettledLock}
 use Rattle.btree_change.specs.Removing.{HoldsLock}
 use Rattle.btree_change.specs.Siblings.{HoldsChild, HoldsSiblings, IsInEither}

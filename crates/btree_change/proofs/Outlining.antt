@@ -18,7 +18,8 @@ use Rattle.word_rule.specs.Sights.{after_node_load}
 use Rattle.word_rule.specs.declared.log.Log.{Log}
 use Rattle.word_rule.specs.declared.log.Terms.{Terms}
 use Rattle.node_store.specs.Holding.{ReadsHeld, SpellsHeld}
-use Rattle.node_store.specs.Outlines.{IsCountOf, OnlyLoads, loaded}
+use Rattle.node_store.specs.Outlines.{IsCountOf, OnlyLoads}
+use Rattle.version_locks.specs.Locking.{loaded}
 use Rattle.node_store.specs.Sights.{after_words}
 use Rattle.node_store.proofs.Outlined.{known, loads_hold}
 use Rattle.btree_change.specs.declared.descent.Held.{Held}

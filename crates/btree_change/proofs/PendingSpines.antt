@@ -22,7 +22,7 @@ use Rattle.btree_change.specs.Loads.{KeepsLoads}
 use Rattle.btree_change.specs.Spines.{AreApart, IsPending, IsReadable, IsSpine, LetsGoSettled}
 use Rattle.btree_change.proofs.Descending.{steps_of_read}
 use Rattle.btree_change.proofs.FreshSpines.{HoldsSpineLeaf, HoldsSpineTop, all_parts, apart_mid, spine_leaf, spine_top}
-use Rattle.node_store.proofs.Settled.{ExchangeLaw}
+use Rattle.free_list.proofs.Settled.{ExchangeLaw}
 use Rattle.btree_change.proofs.LettingGo.{IsSettled, settles_nothing}
 use Rattle.btree_change.proofs.Loading.{keeps_none}
 use Rattle.btree_change.proofs.LockedSpines.{may_read_found, reads_spelled}

@@ -18,7 +18,7 @@ use Rattle.btree_change.proofs.LettingGo.{settles_nothing}
 use Rattle.btree_change.proofs.Loading.{none_more}
 use Rattle.btree_change.proofs.Settling.{found_first}
 use Rattle.btree_change.proofs.HeldLists.{without_far}
-use Rattle.node_store.proofs.Settled.{ExchangeLaw}
+use Rattle.free_list.proofs.Settled.{ExchangeLaw}
 use Rattle.btree_change.proofs.NodeSteps.{steps_so}
 use Rattle.btree_change.proofs.Spending.{more_spent, spends_one, spends_same}
 use Rattle.btree_change.specs.Splits.{with_release_less}

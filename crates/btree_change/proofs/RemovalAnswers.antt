@@ -21,8 +21,8 @@ use Rattle.btree_change.specs.Removal.{AnswersRemoval, AnswersRightly, taken_by_
 use Rattle.btree_change.specs.Removing.{IsSpare, IsSpareAs}
 use Rattle.btree_change.specs.Siblings.{HoldsChild, HoldsUnder, LeavesParent, is_small_body}
 use Rattle.btree_change.specs.declared.sibling.Siblings.{Siblings}
-use Rattle.node_store.specs.Locking.{FoundBusy}
-use Rattle.node_store.specs.declared.locking.Busy.{Busy}
+use Rattle.version_locks.specs.Locking.{FoundBusy}
+use Rattle.version_locks.specs.declared.locking.Busy.{Busy}
 use Rattle.btree_change.proofs.Loading.{found_still}
 use Rattle.btree_change.specs.Stands.{SpendsCall}
 use Rattle.btree_change.specs.Takings.{RefusesBase, TakesMember}

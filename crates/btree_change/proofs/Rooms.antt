@@ -22,9 +22,9 @@ use Rattle.word_rule.specs.declared.log.LoadEvent.{LoadEvent}
 use Rattle.word_rule.specs.declared.log.Terms.{Terms}
 use Rattle.word_rule.proofs.Each.{all_map}
 use Rattle.word_rule.proofs.Spells.{entries_length, pairs_length, reads, spells_free}
-use Rattle.node_store.specs.declared.locking.Busy.{Busy}
-use Rattle.node_store.specs.Free.{IsFreeTaken, IsOfCount, LosesRounds, TakesFree, headed}
-use Rattle.node_store.specs.Locking.{tried}
+use Rattle.version_locks.specs.declared.locking.Busy.{Busy}
+use Rattle.free_list.specs.Free.{IsFreeTaken, IsOfCount, LosesRounds, TakesFree, headed}
+use Rattle.version_locks.specs.Locking.{tried}
 use Rattle.btree_change.specs.declared.descent.Held.{Held}
 use Rattle.btree_change.specs.Loads.{FoundNoRoom}
 use Rattle.btree_change.specs.Splits.{HoldsFull, IsRoomFor, StaysHeld, TakesRoom}

@@ -12,7 +12,7 @@ use Rattle.word_rule.specs.declared.log.Terms.{Terms}
 use Rattle.btree_change.specs.Paths.{StepsOnNodes}
 use Rattle.btree_change.specs.Releases.{HaveSettled, LetsGo, MayGo}
 use Rattle.btree_change.specs.Siblings.{ReturnsNode, HoldsSiblings, HoldsSunk, IsGoneOrSettled, KeepsOut, LeavesParent, SinksRoot, sunk_root}
-use Rattle.node_store.specs.declared.locking.Busy.{Busy}
+use Rattle.version_locks.specs.declared.locking.Busy.{Busy}
 use Rattle.word_rule.proofs.HeadPlays.{all_but_shorter}
 use Rattle.btree_change.specs.declared.sibling.Siblings.{Siblings}
 use Rattle.btree_change.proofs.Loading.{found_after, found_between, keeps_then}

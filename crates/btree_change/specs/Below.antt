@@ -16,5 +16,5 @@ pub use Rattle.word_rule.specs.Places.{CALL_CREDIT}
 pub use Rattle.word_rule.specs.Spelling.{spelled}
 pub use Rattle.word_rule.specs.TreeRefusals.{HadNoRoom, ShowsFull}
 pub use Rattle.node_store.specs.Holding.{SpellsHeld}
-pub use Rattle.node_store.specs.Locking.{FoundBusy}
+pub use Rattle.version_locks.specs.Locking.{FoundBusy}
 pub use Rattle.node_store.specs.Outlines.{OnlyLoads}

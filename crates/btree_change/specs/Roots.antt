@@ -5,8 +5,8 @@ use Rattle.reg_model.specs.declared.answer.Receipt.TheVariants as receipt
 use Rattle.reg_model.specs.declared.span.Member.{Member}
 use Rattle.word_rule.specs.CallerData.{CallerData}
 use Rattle.word_rule.specs.declared.log.Terms.{Terms}
-use Rattle.node_store.specs.Locking.{FoundBusy}
-use Rattle.node_store.specs.declared.locking.Busy.{Busy}
+use Rattle.version_locks.specs.Locking.{FoundBusy}
+use Rattle.version_locks.specs.declared.locking.Busy.{Busy}
 use Rattle.btree_change.specs.Insertion.{IfFull, IsRightInsertion, taken_by}
 use Rattle.btree_change.specs.Paths.{HoldsLeftOver, HoldsNothing}
 use Rattle.btree_change.specs.Releases.{Spends}

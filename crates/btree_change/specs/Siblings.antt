@@ -17,9 +17,9 @@ use Rattle.btree_change.specs.declared.sibling.Child.{Child}
 use Rattle.btree_change.specs.declared.sibling.Siblings.{Siblings}
 use Rattle.btree_change.specs.declared.descent.Held.{Held}
 use Rattle.btree_change.specs.Releases.{Spends}
-use Rattle.node_store.specs.Locking.{FoundBusy}
-use Rattle.node_store.specs.declared.locking.Busy.{Busy}
-use Rattle.node_store.specs.declared.locking.Busy.TheVariants as busy
+use Rattle.version_locks.specs.Locking.{FoundBusy}
+use Rattle.version_locks.specs.declared.locking.Busy.{Busy}
+use Rattle.version_locks.specs.declared.locking.Busy.TheVariants as busy
 use Rattle.btree_change.specs.Removing.{HoldsAlone, HoldsLock, IsSpare}
 use Rattle.btree_change.specs.Splits.{IsHeldAs}
 

@@ -3,8 +3,8 @@ use Rattle.std.specs.Prelude.{◌≡◌, ℕ, ◌+◌, ◌-◌, ◌≤◌, Bool,
 use Rattle.reg_model.specs.declared.answer.Receipt.{Receipt}
 use Rattle.word_rule.specs.CallerData.{CallerData, KeepsCaller, KeepsCalls}
 use Rattle.word_rule.specs.Places.{CALL_CREDIT}
-use Rattle.node_store.specs.declared.locking.Busy.{Busy}
-use Rattle.node_store.specs.Locking.{FoundBusy}
+use Rattle.version_locks.specs.declared.locking.Busy.{Busy}
+use Rattle.version_locks.specs.Locking.{FoundBusy}
 use Rattle.btree_change.specs.Paths.{HoldsLeftOver, HoldsNothing}
 use Rattle.btree_change.specs.Removing.{HoldsLock}
 

@@ -4,7 +4,7 @@ ghost use Rattle.tree_shape.specs.NodeData.{InOrder, IsInFences, IsInner};
 ghost use Rattle.word_rule.specs.CallerData.{surplus};
 ghost use Rattle.word_rule.specs.Callers.{IsIdle};
 ghost use Rattle.node_store.specs.Holding.{SpellsHeld};
-ghost use Rattle.node_store.specs.Locking.{FoundBusy, IsBusy, Locks};
+ghost use Rattle.version_locks.specs.Locking.{FoundBusy, IsBusy, Locks};
 ghost use Rattle.node_store.specs.Outlines.{OnlyLoads};
 ghost use Rattle.btree_change.specs.Paths.{HasChildFor, HoldsNothing, StepsOnNodes};
 ghost use Rattle.btree_change.specs.Releases.{LetsGo, MayGo};

@@ -4,7 +4,7 @@ ghost use Rattle.std.specs.Prelude.{IsTrue, IfOk, IfErr, length};
 ghost use Rattle.tree_shape.specs.Changes.{Fit, Overfill};
 ghost use Rattle.tree_laws.specs.Lawful.{IsFilled, IsOrdered};
 ghost use Rattle.tree_shape.specs.NodeData.{IsInFences, IsInner, pairs_of};
-ghost use Rattle.node_store.specs.Locking.{FoundBusy};
+ghost use Rattle.version_locks.specs.Locking.{FoundBusy};
 ghost use Rattle.btree_change.specs.Siblings.{HoldsSiblings, IsInEither, SameKind, is_small_body};
 ghost use Rattle.word_rule.specs.CallerData.{due, surplus};
 ghost use Rattle.word_rule.specs.Callers.{IsIdle};

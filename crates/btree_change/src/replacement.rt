@@ -1,7 +1,7 @@
 //! The replacement of the member that has a whole span.
 ghost use Rattle.std.specs.Prelude.{◌≡◌, ◌≤◌, ◌<◌, ◌+◌, true, false, IfOk, IfErr};
 ghost use Rattle.tree_shape.specs.NodeData.{IsInFences};
-ghost use Rattle.node_store.specs.Locking.{FoundBusy};
+ghost use Rattle.version_locks.specs.Locking.{FoundBusy};
 ghost use Rattle.word_rule.specs.CallerData.{due, surplus};
 ghost use Rattle.word_rule.specs.Callers.{IsIdle};
 ghost use Rattle.word_rule.specs.Places.{CALL_CREDIT};

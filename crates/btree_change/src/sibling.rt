@@ -4,7 +4,7 @@ ghost use Rattle.tree_laws.specs.Decisions.{is_entries};
 ghost use Rattle.tree_laws.specs.Lawful.{IsOrdered};
 ghost use Rattle.tree_shape.specs.NodeData.{IsInFences, IsInner, pairs_of};
 ghost use Rattle.word_rule.specs.CallerData.{surplus};
-ghost use Rattle.node_store.specs.Locking.{FoundBusy};
+ghost use Rattle.version_locks.specs.Locking.{FoundBusy};
 ghost use Rattle.btree_change.specs.Paths.{HoldsNothing};
 ghost use Rattle.btree_change.specs.Releases.{Spends};
 ghost use Rattle.btree_change.specs.Removing.{HoldsAlone};

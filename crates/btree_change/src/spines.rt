@@ -4,7 +4,7 @@ ghost use Rattle.tree_shape.specs.NodeData.{pairs_of};
 ghost use Rattle.tree_laws.specs.Steps.{first_child, last_child};
 ghost use Rattle.word_rule.specs.CallerData.{surplus};
 ghost use Rattle.btree_change.specs.Paths.{StepsOnNodes};
-ghost use Rattle.node_store.specs.Locking.{FoundBusy};
+ghost use Rattle.version_locks.specs.Locking.{FoundBusy};
 ghost use Rattle.btree_change.specs.Loads.{KeepsLoads};
 ghost use Rattle.btree_change.specs.Spines.{HoldsFresh, HoldsSpines, IsPending};
 ghost use Rattle.btree_change.specs.Spines.{LetsGoSettled, LocksSpine, NamesChild, WritesSpines};

@@ -15,7 +15,7 @@ ghost use Rattle.node_store.specs.Holding.{SpellsHeld};
 ghost use Rattle.node_store.specs.Outlines.{OnlyLoads};
 ghost use Rattle.btree_change.specs.Kept.{HoldsPath, LeavesBelow};
 ghost use Rattle.btree_change.specs.Paths.{StepsOnNodes};
-ghost use Rattle.node_store.specs.Locking.{FoundBusy};
+ghost use Rattle.version_locks.specs.Locking.{FoundBusy};
 ghost use Rattle.btree_change.specs.Releases.{Spends};
 ghost use Rattle.btree_change.specs.Roots.{GivesUpWhole};
 ghost use Rattle.btree_change.specs.Splits.{HasSpace};

@@ -3,7 +3,7 @@ use Rattle.std.proofs.Common.{◌≡◌, ℕ, ◌+◌, ◌≤◌, List, [], ◌�
 use Rattle.std.specs.List.{All, Contains}
 use Rattle.std.proofs.lemmas.Bool.{ne_eqb}
 use Rattle.std.proofs.lemmas.List.Elements.{All-cons, All-nil}
-use Rattle.node_store.specs.declared.locking.Busy.{Busy}
+use Rattle.version_locks.specs.declared.locking.Busy.{Busy}
 use Rattle.reg_model.specs.History.{after}
 use Rattle.reg_model.specs.PlainRegistryData.{PlainRegistryData}
 use Rattle.reg_model.specs.SpanData.{IsSpan}

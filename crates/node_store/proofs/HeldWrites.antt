@@ -16,40 +16,14 @@ use Rattle.node_store.specs.declared.writing.Store.{Store}
 use Rattle.node_store.specs.Holding.{AgreeUpto, after_node_stores}
 use Rattle.node_store.specs.Sights.{after_words}
 use Rattle.node_store.specs.Writing.{count_of, kind_of_body, place_in_turn, store_in_turn, store_of, stores_upto, after_stores, wanted_node_word}
+use Rattle.free_list.proofs.LockWrites.{held_changed, held_edited, plain_store}
 use Rattle.node_store.proofs.Sighted.{holdings_same}
 use Rattle.node_store.proofs.Stores.{comes_before, never_again, place_inside, same_store}
-
--- the lock of a node, where each lock was changed and kept its node
-pub held_changed : (n : ℕ) (f : Holding → Holding) → ((h : Holding) → (f h).node ≡ h.node) → (held : List Holding) → held_of n (map f held) ≡ option_map f (held_of n held)
-held_changed n f keeps [] = refl
-held_changed n f keeps (h ∷ held) = ap (λ m. cond (m == n) (Some (f h)) (held_of n (map f held))) (keeps h) ∙ go (nat_eq h.node n) (held_changed n f keeps held)
-  where
-    go : (b : Bool) → held_of n (map f held) ≡ option_map f (held_of n held) → cond b (Some (f h)) (held_of n (map f held)) ≡ option_map f (cond b (Some h) (held_of n held))
-    go true later = refl
-    go false later = later
-
--- a store changes the lock of its node
-pub held_edited : (n : ℕ) (f : Holding → Holding) → ((h : Holding) → (f h).node ≡ h.node) → (held : List Holding) → held_of n (edited n f held) ≡ option_map f (held_of n held)
-held_edited n f keeps [] = refl
-held_edited n f keeps (h ∷ held) = go (nat_eq h.node n) refl (held_edited n f keeps held)
-  where
-    go : (b : Bool) → nat_eq h.node n ≡ b → held_of n (edited n f held) ≡ option_map f (held_of n held)
-        → cond ((if b then f h else h).node == n) (Some (if b then f h else h)) (held_of n (edited n f held)) ≡ option_map f (cond (h.node == n) (Some h) (held_of n held))
-    go true e later =
-        ap (λ c. cond c (Some (f h)) (held_of n (edited n f held))) (ap (λ m. m == n) (keeps h) ∙ e)
-        ∙ sym (ap (λ c. option_map f (cond c (Some h) (held_of n held))) e)
-    go false e later =
-        ap (λ c. cond c (Some h) (held_of n (edited n f held))) e
-        ∙ (later ∙ sym (ap (λ c. option_map f (cond c (Some h) (held_of n held))) e))
 
 pub append_node_stores : (n : ℕ) (made more : List Store) (v : Log) → after_node_stores n (made ++ more) v ≡ after_node_stores n more (after_node_stores n made v)
 unfolding after_node_stores
 append_node_stores n [] more v = refl
 append_node_stores n (x ∷ made) more v = append_node_stores n made more (after_node_store n x.at x.value v)
-
--- a store that makes no live node free
-pub plain_store : (n at value : ℕ) (v : Log) → frees n at value v ≡ false → after_node_store n at value v ≡ stored_log n at value v
-plain_store n at value v e = ap (λ b. if b then settle None (stored_log n at value v) else stored_log n at value v) e
 
 pub may_stays : (n at value : ℕ) (v : Log) → frees n at value v ≡ false → MayStore n v → MayStore n (after_node_store n at value v)
 may_stays n at value v e may =

@@ -1,13 +1,9 @@
-pub mod Tries
 pub mod Readings
 pub mod Spelled
 pub mod Stores
 pub mod Sighted
 pub mod HeldWords
 pub mod HeldWrites
-pub mod Settled
-pub mod Rounds
-pub mod Giving
 pub mod OutNodes
 pub mod Overwritten
 pub mod Shapes

@@ -15,7 +15,8 @@ use Rattle.word_rule.specs.declared.log.Log.{Log}
 use Rattle.node_store.specs.declared.writing.Store.{Store}
 use Rattle.node_store.specs.Entries.{store_over}
 use Rattle.node_store.specs.Holding.{AgreeUpto, AreHeld, MakesStores, SpellsHeld, StoresHeld, WritesInOrder, after_node_stores}
-use Rattle.node_store.specs.Outlines.{OnlyLoads, loaded}
+use Rattle.node_store.specs.Outlines.{OnlyLoads}
+use Rattle.version_locks.specs.Locking.{loaded}
 use Rattle.node_store.specs.Sights.{after_words}
 use Rattle.node_store.specs.Writing.{FitsWords, Write, after_stores, stores}
 use Rattle.node_store.proofs.HeldWrites.{HasHeld, append_node_stores, has_all_stored, may_stays, stores_same}

@@ -20,13 +20,13 @@ use Rattle.node_store.specs.declared.writing.Store.{Store}
 use Rattle.std.specs.Option.{option_to_list}
 use Rattle.word_rule.proofs.Each.{all_map}
 use Rattle.word_rule.specs.Steps.{mark_at_lock}
-use Rattle.node_store.specs.declared.locking.Busy.{Busy}
-use Rattle.node_store.specs.Free.{EndsRound, HoldsOut, GivesFree, LeavesOthers, headed}
+use Rattle.version_locks.specs.declared.locking.Busy.{Busy}
+use Rattle.free_list.specs.Free.{EndsRound, HoldsOut, GivesFree, LeavesOthers, headed}
 use Rattle.node_store.specs.Holding.{MakesStores, SpellsHeld, StoresHeld, after_node_stores}
-use Rattle.node_store.specs.Outlines.{loaded}
+use Rattle.version_locks.specs.Locking.{loaded}
 use Rattle.node_store.specs.Writing.{stores}
-use Rattle.node_store.proofs.Giving.{Apart, HasOut, Stays, apart, apart_settled, out_stored, stays_stored, stored_budget}
-use Rattle.node_store.proofs.Giving as giving
+use Rattle.free_list.proofs.Giving.{Apart, HasOut, Stays, apart, apart_settled, out_stored, stays_stored, stored_budget}
+use Rattle.free_list.proofs.Giving as giving
 
 -- what a step leaves as it was
 pub record Keeps (k k' : CallerData) : Type 0 where

@@ -20,7 +20,8 @@ use Rattle.word_rule.specs.declared.log.Log.{Log}
 use Rattle.word_rule.specs.Logs.{load_of}
 use Rattle.word_rule.proofs.Spells.{entries_length, pairs_length, reads, reads_pairs}
 use Rattle.node_store.specs.Holding.{IsLiveHeld, SpellsHeld}
-use Rattle.node_store.specs.Outlines.{IsCountOf, OnlyLoads, loaded}
+use Rattle.node_store.specs.Outlines.{IsCountOf, OnlyLoads}
+use Rattle.version_locks.specs.Locking.{loaded}
 use Rattle.node_store.proofs.HeldWords.{live_held}
 
 -- nothing was loaded yet

@@ -10,7 +10,7 @@ use Rattle.word_rule.specs.Places.{CONTENT_WORDS}
 use Rattle.word_rule.specs.Spelling.{node_word, SpellsNode}
 use Rattle.word_rule.specs.Steps.{after_node_store}
 use Rattle.node_store.specs.declared.writing.Store.{Store}
-use Rattle.node_store.specs.Outlines.{loaded}
+use Rattle.version_locks.specs.Locking.{loaded}
 use Rattle.node_store.specs.Sights.{after_words}
 use Rattle.node_store.specs.Writing.{Write, stores}
 

@@ -1,6 +1,4 @@
 pub mod Holding
-pub mod Locking
-pub mod Free
 pub mod Sights
 pub mod Writing
 pub mod Outlines

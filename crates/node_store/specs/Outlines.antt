@@ -1,9 +1,9 @@
 -- What is known of a held node without its items, and what loads of its words leave as it was.
-use Rattle.std.specs.Prelude.{◌≡◌, ℕ, List, ◌++◌, length}
+use Rattle.std.specs.Prelude.{◌≡◌, ℕ, List, length}
 use Rattle.tree_shape.specs.NodeData.{NodeData, Body, Pairs, Entries, Link}
 use Rattle.word_rule.specs.CallerData.{CallerData}
 use Rattle.word_rule.specs.declared.log.LoadEvent.{LoadEvent}
-use Rattle.word_rule.specs.declared.log.Log.{Log}
+use Rattle.version_locks.specs.Locking.{loaded}
 
 -- so many pairs or entries stand in a node; of a free one any number will do
 abbrev pub IsCountOf : ℕ → Body → Type 0
@@ -15,10 +15,6 @@ IsCountOf count (Link next) = Unit {0}
 pub record IsOutline (level count : ℕ) (s : NodeData) : Type 0 where
   pub level_is : level ≡ s.level
   pub count_is : IsCountOf count s.body
-
--- a log with more loads
-abbrev pub loaded : List LoadEvent → Log → Log
-loaded more v = record v { trace = record v.trace { loads = v.trace.loads ++ more } }
 
 -- Words were loaded, and nothing else was done.
 abbrev pub OnlyLoads : CallerData → CallerData → Type 0

@@ -3,7 +3,7 @@ ghost use Rattle.std.specs.Option.{option_to_list};
 ghost use Rattle.tree_laws.specs.Numbers.{is_among};
 ghost use Rattle.word_rule.specs.CallerData.{surplus};
 ghost use Rattle.word_rule.specs.Held.{all_but};
-ghost use Rattle.node_store.specs.Free.{HoldsOut};
+ghost use Rattle.free_list.specs.Free.{HoldsOut};
 
 use node_store::{Waiting, give_free, take_free};
 use std::sync::Wait;

@@ -1,7 +1,7 @@
 ghost use Rattle.std.specs.Prelude.{◌≡◌, ◌+◌, ◌*◌, ◌<◌, ◌≤◌, [], true, IsTrue};
 ghost use Rattle.tree_laws.specs.Numbers.{is_among};
 ghost use Rattle.word_rule.specs.CallerData.{surplus};
-ghost use Rattle.node_store.specs.Free.{HoldsOut};
+ghost use Rattle.free_list.specs.Free.{HoldsOut};
 
 use crate::free_list::{gives, taken};
 use node_store::{CONTENT_WORDS, Sight, check, peek, write_held};

@@ -16,8 +16,8 @@ use Rattle.word_rule.specs.declared.log.Terms.{Terms}
 use Rattle.reg_model.specs.declared.span.Member.{Member}
 use Rattle.btree_change.specs.Paths.{IsLeftOut}
 use Rattle.btree_change.specs.Updates.{GivesUp}
-use Rattle.node_store.specs.declared.locking.Busy.{Busy}
-use Rattle.node_store.specs.declared.locking.Busy.TheVariants as busy
+use Rattle.version_locks.specs.declared.locking.Busy.{Busy}
+use Rattle.version_locks.specs.declared.locking.Busy.TheVariants as busy
 use Rattle.word_rule.specs.Callers.{IsIdle}
 use Rattle.registry_c.proofs.Caches.{GoOnToFit, adds_none, goes_on}
 use Rattle.registry_c.specs.Clients.{ClientData, IsClient, begun_count}

@@ -3,8 +3,8 @@ use Rattle.std.specs.Prelude.{◌≡◌, ◌-◌, ◌<◌, ◌≤◌, ◌⊎◌,
 use Rattle.std.specs.Prelude.{if◌then◌else◌}
 use Rattle.word_rule.specs.CallerData.{CallerData, surplus}
 use Rattle.word_rule.specs.Places.{CALL_CREDIT}
-use Rattle.node_store.specs.declared.locking.Busy.{Busy}
-use Rattle.node_store.specs.declared.locking.Busy.TheVariants as busy
+use Rattle.version_locks.specs.declared.locking.Busy.{Busy}
+use Rattle.version_locks.specs.declared.locking.Busy.TheVariants as busy
 use Rattle.registry_c.specs.Clients.{ClientData}
 
 -- whether a call is begun, and the releases that it may make are to spare

@@ -5,7 +5,7 @@ use Rattle.btree_change.specs.Insertion.{AnswersInsertion}
 use Rattle.btree_change.specs.Removal.{AnswersRemoval}
 use Rattle.btree_change.specs.Replacement.{AnswersReplacement}
 use Rattle.btree_change.specs.Updates.{GivesUp}
-use Rattle.node_store.specs.Locking.{IsBusyAt}
+use Rattle.version_locks.specs.Locking.{IsBusyAt}
 use Rattle.word_rule.specs.declared.log.LockId.TheVariants as lock
 use Rattle.reg_model.specs.declared.answer.Inserted.{Inserted}
 use Rattle.reg_model.specs.declared.answer.Inserted.TheVariants as inserted

@@ -4,9 +4,9 @@ use Rattle.array_publish.specs.Update.{TellsLoad}
 use Rattle.btree_change.specs.Insertion.{AnswersInsertion, TriesInsertion}
 use Rattle.btree_change.specs.Paths.{HoldsNothing}
 use Rattle.btree_change.specs.Updates.{GivesUp}
-use Rattle.node_store.specs.Locking.{UnlessLost}
-use Rattle.node_store.specs.declared.locking.Busy.{Busy}
-use Rattle.node_store.specs.declared.locking.Busy.TheVariants as busy
+use Rattle.version_locks.specs.Locking.{UnlessLost}
+use Rattle.version_locks.specs.declared.locking.Busy.{Busy}
+use Rattle.version_locks.specs.declared.locking.Busy.TheVariants as busy
 use Rattle.word_rule.specs.Callers.{IsIdle}
 use Rattle.reg_model.specs.declared.answer.Inserted.{Inserted}
 use Rattle.reg_model.specs.declared.answer.Inserted.TheVariants as inserted

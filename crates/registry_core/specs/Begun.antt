@@ -2,8 +2,8 @@
 use Rattle.std.specs.Prelude.{◌≡◌, ℕ, ◌<◌, ◌≤◌, Bool, true, Result, IfErr, OnErr, OnOk}
 use Rattle.array_publish.specs.Update.{IsFreeAgain, TellsLoad, TellsUnload}
 use Rattle.btree_change.specs.Updates.{GivesUp}
-use Rattle.node_store.specs.Locking.{IsBusyAt, UnlessLost}
-use Rattle.node_store.specs.declared.locking.Busy.{Busy}
+use Rattle.version_locks.specs.Locking.{IsBusyAt, UnlessLost}
+use Rattle.version_locks.specs.declared.locking.Busy.{Busy}
 use Rattle.reg_model.specs.declared.answer.Loading.{Loading}
 use Rattle.reg_model.specs.declared.answer.Loading.TheVariants as loading
 use Rattle.reg_model.specs.declared.answer.Removed.{Removed}

@@ -11,9 +11,9 @@ use Rattle.btree_change.specs.Loads.{FoundNoRoom}
 use Rattle.btree_change.specs.Removal.{TriesRemoval}
 use Rattle.btree_change.specs.Updates.{AnswersUpdate, GivesUp}
 use Rattle.btree_change.proofs.NodeSteps.{calls_so}
-use Rattle.node_store.specs.Locking.{IsBusyAt}
-use Rattle.node_store.specs.declared.locking.Busy.{Busy}
-use Rattle.node_store.specs.declared.locking.Busy.TheVariants as busy
+use Rattle.version_locks.specs.Locking.{IsBusyAt}
+use Rattle.version_locks.specs.declared.locking.Busy.{Busy}
+use Rattle.version_locks.specs.declared.locking.Busy.TheVariants as busy
 use Rattle.registry_core.specs.Begun.{TriesLoad, TriesUnload}
 use Rattle.reg_model.specs.History.{IsHistory, state_after}
 use Rattle.reg_model.specs.Receipt.{IsRight, accepted, moment}

@@ -12,8 +12,8 @@ use Rattle.word_rule.specs.CallerData.{CallerData, WordsData}
 use Rattle.word_rule.specs.Callers.{IsAlone, IsIdle, start}
 use Rattle.word_rule.specs.Places.{ALLOWANCE}
 use Rattle.word_rule.specs.declared.log.Terms.{Terms}
-use Rattle.node_store.specs.declared.locking.Busy.{Busy}
-use Rattle.node_store.specs.Locking.{FoundBusy}
+use Rattle.version_locks.specs.declared.locking.Busy.{Busy}
+use Rattle.version_locks.specs.Locking.{FoundBusy}
 
 -- what contracts see of a writer: the words, its caller, and whether it was stopped
 pub record WriterData : Type 0 where

@@ -1,6 +1,6 @@
 use Rattle.std.proofs.Common.{◌≡◌, true}
 use Rattle.btree_change.specs.Splits.{GivesBack, LosesFree}
-use Rattle.node_store.specs.Free.{GivesFree, LosesNode}
+use Rattle.free_list.specs.Free.{GivesFree, LosesNode}
 use Rattle.btree_change.proofs.AtRoot.{if_err, on_ok}
 use Rattle.btree_change.proofs.GivingBack.{gives_back, loses_free}
 use Rattle.btree_change.proofs.lift.give_back.Goals as goal

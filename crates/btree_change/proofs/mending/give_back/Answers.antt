@@ -1,6 +1,6 @@
 use Rattle.std.proofs.Common.{◌≡◌, true}
 use Rattle.btree_change.specs.Siblings.{KeepsOut, ReturnsNode}
-use Rattle.node_store.specs.Free.{GivesFree, LosesNode}
+use Rattle.free_list.specs.Free.{GivesFree, LosesNode}
 use Rattle.btree_change.proofs.AtRoot.{if_err, on_ok}
 use Rattle.btree_change.proofs.GivenBack.{given_back, kept_out}
 use Rattle.btree_change.proofs.mending.give_back.Goals as goal

@@ -1,5 +1,5 @@
 use Rattle.std.proofs.Common.{sym, subst, true, IfErr}
-use Rattle.node_store.specs.Locking.{FoundBusy}
+use Rattle.version_locks.specs.Locking.{FoundBusy}
 use Rattle.tree_shape.specs.NodeData.{IsInFences}
 use Rattle.btree_change.specs.Releases.{Spends}
 use Rattle.btree_change.proofs.Releases.{under_left, under_may}

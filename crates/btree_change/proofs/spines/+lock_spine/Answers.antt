@@ -8,7 +8,7 @@ use Rattle.word_rule.specs.declared.log.Terms.{Terms}
 use Rattle.word_rule.specs.declared.log.LockId.TheVariants as lock
 use Rattle.word_rule.specs.Sights.{after_node_load}
 use Rattle.node_store.specs.Holding.{ReadsHeld}
-use Rattle.node_store.specs.Locking.{Locks}
+use Rattle.version_locks.specs.Locking.{Locks}
 use Rattle.btree_change.specs.Paths.{StepsOnNodes}
 use Rattle.btree_change.specs.Spines.{LocksSpine, NamesChild}
 use Rattle.btree_change.proofs.Descending.{steps_of_letting_go, steps_of_read, steps_of_take}

@@ -1,6 +1,6 @@
 use Rattle.std.proofs.Common.{◌≡◌, ◌+◌, ◌≤◌, []}
 use Rattle.word_rule.specs.CallerData.{surplus}
-use Rattle.node_store.specs.Free.{HoldsOut}
+use Rattle.free_list.specs.Free.{HoldsOut}
 use Rattle.node_tests.proofs.whole_nodes.write_often.Given as goal
 
 abbrev pub invariant-loop-step : goal.invariant-loop-step

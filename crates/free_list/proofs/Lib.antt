@@ -1,0 +1,4 @@
+pub mod LockWrites
+pub mod Settled
+pub mod Rounds
+pub mod Giving
