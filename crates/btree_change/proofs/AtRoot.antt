@@ -1,42 +1,46 @@
 -- An insertion at the root, and below a lifted one.
-use Rattle.std.proofs.Common.{◌≡◌, ℕ, ◌+◌, ◌<◌, ◌≤◌, ◌⊎◌, inl, inr, Bool, true, List, [], ◌∷◌, drop, sym, refl, ap, ◌∙◌, subst, arith, None, Result, Ok, Err, IfOk, OnOk, IfErr}
+use Rattle.std.proofs.Common.{◌<◌, [], sym, subst, arith, ◌≡◌, refl, None, ◌∙◌, ◌≤◌, List, drop, ap, ◌∷◌, ◌⊎◌, inl, inr, ℕ, ◌+◌, Bool, Result, Ok, Err, IfOk, true, IfErr}
 use Rattle.reg_model.specs.SpanData.{IsSpan}
-use Rattle.reg_model.specs.declared.answer.Inserted.{Inserted}
-use Rattle.reg_model.specs.declared.answer.Receipt.TheVariants as receipt
 use Rattle.reg_model.specs.declared.span.Member.{Member}
+use Rattle.reg_model.specs.declared.answer.Inserted.{Inserted}
 use Rattle.tree_shape.specs.NodeData.{IsInFences}
-use Rattle.tree_laws.specs.Lawful.{IsFilled, IsOrdered}
+use Rattle.tree_laws.specs.Lawful.{IsFilled}
 use Rattle.tree_laws.specs.Steps.{IsFull}
-use Rattle.word_rule.specs.CallerData.{CallerData}
-use Rattle.word_rule.specs.Spelling.{SpellsNode}
-use Rattle.word_rule.specs.declared.log.Holding.{Holding}
 use Rattle.word_rule.specs.declared.log.Holdings.{Holdings}
-use Rattle.version_locks.specs.declared.locking.Busy.{Busy}
-use Rattle.word_rule.specs.declared.log.Log.{Log}
 use Rattle.word_rule.specs.declared.log.Terms.{Terms}
-use Rattle.btree_change.specs.declared.descent.Held.{Held}
-use Rattle.btree_change.specs.declared.lift.FullRoot.{FullRoot}
-use Rattle.btree_change.specs.declared.lift.TwoNodes.{TwoNodes}
-use Rattle.btree_change.specs.declared.stand.Step.{Step}
-use Rattle.btree_change.specs.declared.stand.Room.{Room}
-use Rattle.btree_change.specs.declared.stand.Room.TheVariants as room
-use Rattle.reg_model.specs.declared.answer.Inserted.TheVariants as inserted
-use Rattle.btree_change.specs.Insertion.{AnswersInsertion, IfFull, Inserts, call_begun, taken_by}
-use Rattle.btree_change.specs.Loads.{FoundNoRoom}
-use Rattle.version_locks.specs.Locking.{FoundBusy}
-use Rattle.btree_change.specs.Paths.{AreHigher, HoldsNothing, IsLeftOut, StepsOnNodes}
-use Rattle.btree_change.specs.Releases.{LetsGo, Spends}
-use Rattle.btree_change.specs.Roots.{EndsInsertion, EndsPart, GivesUpWhole}
-use Rattle.btree_change.specs.Splits.{HoldsFullAlone, HoldsFullRoot, KeepsHeld, LiftsRoot, TakesTwo, root_for, with_release_less}
-use Rattle.btree_change.specs.Stands.{HasCause, HasWayOn, HoldsPair, HoldsRoot, Reaches, StandsOnWay, StandsAt}
-use Rattle.btree_change.specs.Updates.{GivesUp}
-use Rattle.btree_change.proofs.Halved.{split_pair}
-use Rattle.btree_change.proofs.Loading.{found_after, nothing_left}
-use Rattle.btree_change.proofs.Lowering.{settled_live}
-use Rattle.btree_change.proofs.NoRoom.{if_full, no_room_after}
-use Rattle.btree_change.proofs.Releasing.{IsLowest, left_above}
-use Rattle.btree_change.proofs.Spending.{answers_so, more_spent, right_after, spends_after, spends_one, spends_same, steps_after}
+use Rattle.word_rule.specs.declared.log.Log.{Log}
+use Rattle.word_rule.specs.CallerData.{CallerData}
+use Rattle.word_rule.specs.declared.log.Holding.{Holding}
 use Rattle.word_rule.specs.Places.{CALL_CREDIT}
+use Rattle.word_rule.specs.Spelling.{SpellsNode}
+use Rattle.version_locks.specs.declared.locking.Busy.{Busy}
+use Rattle.version_locks.specs.Locking.{FoundBusy}
+use Rattle.tree_descent.specs.declared.descent.Held.{Held}
+use Rattle.tree_descent.specs.Stands.{HoldsRoot, StandsAt, HoldsPair}
+use Rattle.tree_descent.proofs.Lowering.{settled_live}
+use Rattle.tree_descent.specs.Paths.{AreHigher, StepsOnNodes, HoldsNothing, IsLeftOut}
+use Rattle.tree_descent.specs.Releases.{Spends, with_release_less, LetsGo}
+use Rattle.tree_descent.proofs.Spending.{spends_one, more_spent, spends_same, right_after, steps_after}
+use Rattle.tree_descent.specs.Insertion.{taken_by, IfFull}
+use Rattle.tree_descent.proofs.Loading.{found_after, nothing_left}
+use Rattle.tree_descent.specs.Loads.{FoundNoRoom}
+use Rattle.tree_descent.specs.Updates.{GivesUp}
+use Rattle.leaf_change.specs.Insertion.{EndsInsertion}
+use Rattle.leaf_change.proofs.Releasing.{IsLowest, left_above}
+use Rattle.node_split.specs.declared.split.Room.{Room}
+use Rattle.node_split.specs.Splits.{HoldsFullAlone, HoldsFullRoot, LiftsRoot, root_for, TakesTwo, KeepsHeld}
+use Rattle.node_split.specs.declared.root_split.FullRoot.{FullRoot}
+use Rattle.node_split.specs.declared.split.Coupled.{Coupled}
+use Rattle.node_split.proofs.Halved.{split_pair}
+use Rattle.node_split.specs.declared.root_split.TwoNodes.{TwoNodes}
+use Rattle.node_split.proofs.NoRoom.{no_room_after}
+use Rattle.btree_change.specs.Stands.{HasWayOn, StandsOnWay, Reaches, HasCause}
+use Rattle.btree_change.proofs.Spending.{spends_after, answers_so}
+use Rattle.btree_change.specs.Roots.{GivesUpWhole, EndsPart}
+use Rattle.btree_change.proofs.NoRoom.{if_full}
+use Rattle.btree_change.specs.Insertion.{AnswersInsertion}
+use Rattle.node_split.specs.declared.split.Room.TheVariants as room
+use Rattle.reg_model.specs.declared.answer.Receipt.TheVariants as receipt
 
 -- the root alone is where an insertion stands
 abbrev pub root_stands : (t : Terms) (root : Held) (holdings : Holdings) → HoldsRoot t root holdings → StandsAt t root holdings
@@ -64,9 +68,6 @@ root_stand t root way m v h span loader on = record {
   loader = loader;
 }
 
-pub root_order : (t : Terms) (root : Held) (holdings : Holdings) → HoldsRoot t root holdings → IsOrdered root.content
-root_order t root holdings h = (settled_live t root.node root.content root.changed h.lock h.here).1.1.ordered
-
 pub root_filled : (t : Terms) (root : Held) (holdings : Holdings) → HoldsRoot t root holdings → IsFilled root.node root.content
 root_filled t root holdings h = (settled_live t root.node root.content root.changed h.lock h.here).1.1.filled
 
@@ -86,7 +87,7 @@ full_alone t root m holdings h span full = record {
 }
 
 -- The root was lifted.
-module _ (t : Terms) (m : Member) (full : FullRoot) (k : CallerData) (held : HoldsFullRoot t full m.span.first k.log.holdings) (high : full.root.content.high ≡ 18446744073709551615) (span : IsSpan m.span) (step : Step) (k1 : CallerData) (lifts : LiftsRoot t full m.span.first step k k1) where
+module _ (t : Terms) (m : Member) (full : FullRoot) (k : CallerData) (held : HoldsFullRoot t full m.span.first k.log.holdings) (high : full.root.content.high ≡ 18446744073709551615) (span : IsSpan m.span) (step : Coupled) (k1 : CallerData) (lifts : LiftsRoot t full m.span.first step k k1) where
   rest_is : drop 2 k1.log.holdings.held ≡ []
   rest_is = ap (drop 2) lifts.held ∙ ap (drop 3) held.held
 
@@ -201,14 +202,6 @@ pub if_ok : {A E : Type 0} (P Q : A → Type 0) (r : Result A E) → ((a : A) �
 if_ok P Q (Ok a) f p = f a p
 if_ok P Q (Err e) f p = tt
 
-pub on_ok : {A E : Type 0} (P Q : Type 0) (r : Result A E) → (P → Q) → OnOk r P → OnOk r Q
-on_ok P Q (Ok a) f p = f p
-on_ok P Q (Err e) f p = tt
-
-pub if_err : {A E : Type 0} (P Q : E → Type 0) (r : Result A E) → ((e : E) → P e → Q e) → IfErr r P → IfErr r Q
-if_err P Q (Ok a) f p = tt
-if_err P Q (Err e) f p = f e p
-
 -- the whole of an insertion, by how its part ends after steps that took no release
 pub answered_so : (t : Terms) (m : Member) (gives_up : Bool) (k l n : CallerData) (r : Result Inserted Busy) → StepsOnNodes k l → EndsPart t m CALL_CREDIT room.Splitting gives_up l n r → IfOk r (λ answer. AnswersInsertion t m answer k n)
 answered_so t m gives_up k l n (Ok answer) same (e, full) = update_answered t m answer k l n same e full
@@ -217,9 +210,3 @@ answered_so t m gives_up k l n (Err why) same e = tt
 pub given_up_so : (t : Terms) (m : Member) (gives_up : Bool) (k l n : CallerData) (r : Result Inserted Busy) → StepsOnNodes k l → EndsPart t m CALL_CREDIT room.Splitting gives_up l n r → IfErr r (λ why. GivesUp why k n × (gives_up ≡ true))
 given_up_so t m gives_up k l n (Ok answer) same e = tt
 given_up_so t m gives_up k l n (Err why) same (g, up, found) = (update_given_up why k l n same found g, up)
-
-pub inserts_so : (t : Terms) (m : Member) (answer : Inserted) (k k' : CallerData) → 0 < k.left → AnswersInsertion t m answer (call_begun k) k' → Inserts t m k k' answer
-inserts_so t m (inserted.Done number) k k' some a = (some, a)
-inserts_so t m (inserted.Overlap other stamp) k k' some a = (some, a)
-inserts_so t m (inserted.Full stamp) k k' some a = (some, a)
-inserts_so t m inserted.Spent k k' some a = absurd a.right

@@ -1,57 +1,60 @@
 -- An insertion whose span ends in the next leaf.
-use Rattle.std.proofs.Common.{◌≡◌, ◌≢◌, ℕ, ◌+◌, ◌<◌, ◌≤◌, List, [], ◌∷◌, ◌++◌, length, drop, map, sym, refl, ap, ◌∙◌, subst, arith, true, Some, IsSome, IsSomeAnd}
-use Rattle.std.proofs.lemmas.List.{length-map}
+use Rattle.std.proofs.Common.{ℕ, ◌<◌, [], ◌∷◌, length, arith, List, sym, subst, ◌≡◌, ◌+◌, ap, ◌∙◌, ◌≢◌, ◌++◌, drop, map, refl, ◌≤◌, true, Some, IsSome, IsSomeAnd}
 use Rattle.std.specs.List.{AllByRecursion}
+use Rattle.std.proofs.lemmas.List.{length-map}
 use Rattle.reg_model.specs.State.{IsFree}
-use Rattle.reg_model.specs.declared.answer.Inserted.{Inserted}
-use Rattle.reg_model.specs.declared.answer.Receipt.TheVariants as receipt
 use Rattle.reg_model.specs.declared.span.Member.{Member}
-use Rattle.tree_shape.specs.Changes.{ends_at_as, ends_at_fence}
-use Rattle.tree_shape.specs.NodeData.{NodeData, Body, Pairs, Entries, Link, IsInFences, IsLeaf, entries_in, entries_of}
-use Rattle.tree_laws.specs.Steps.{LiesAbove}
+use Rattle.reg_model.specs.declared.answer.Inserted.{Inserted}
+use Rattle.tree_shape.specs.NodeData.{NodeData, IsInFences, entries_of, Body, Pairs, Entries, Link, entries_in, IsLeaf}
 use Rattle.tree_shape.specs.declared.node.NodeBounds.{NodeBounds}
-use Rattle.word_rule.specs.CallerData.{CallerData, WordsData, surplus}
-use Rattle.word_rule.specs.Held.{held_of}
+use Rattle.tree_shape.specs.Changes.{ends_at_as, ends_at_fence}
+use Rattle.tree_laws.specs.Steps.{LiesAbove}
+use Rattle.word_rule.specs.CallerData.{CallerData, surplus, WordsData}
 use Rattle.word_rule.specs.NodeTells.{IsLiveNode}
-use Rattle.word_rule.specs.Spelling.{spelled, SpellsNode}
 use Rattle.word_rule.specs.TreeRefusals.{HadNoRoom, ShowsFull}
-use Rattle.word_rule.specs.declared.log.Holding.{Holding}
-use Rattle.word_rule.specs.declared.log.Holdings.{Holdings}
 use Rattle.word_rule.specs.declared.log.Terms.{Terms}
+use Rattle.word_rule.specs.declared.log.Holdings.{Holdings}
+use Rattle.word_rule.specs.declared.log.Holding.{Holding}
+use Rattle.word_rule.specs.Held.{held_of}
+use Rattle.word_rule.specs.Spelling.{spelled, SpellsNode}
 use Rattle.node_store.proofs.Outlined.{loads_hold}
 use Rattle.node_store.specs.Holding.{SpellsHeld}
 use Rattle.node_store.specs.Outlines.{OnlyLoads}
 use Rattle.version_locks.specs.declared.locking.Busy.{Busy}
-use Rattle.btree_change.specs.declared.beyond.Far.{Far}
-use Rattle.btree_change.specs.declared.beyond.Next.{Next}
-use Rattle.btree_change.specs.declared.descent.Held.{Held}
+use Rattle.tree_descent.specs.declared.descent.Held.{Held}
+use Rattle.tree_descent.specs.Releases.{HaveSettled, Spends}
+use Rattle.tree_descent.specs.Paths.{AreApart, HoldsNothing, StepsOnNodes, IsSettledLock, AreHigher}
+use Rattle.tree_descent.specs.Stands.{StandsAt}
+use Rattle.tree_descent.proofs.Spending.{spends_same, steps_after, surplus_steps}
+use Rattle.tree_descent.proofs.Outlining.{spells_same, steps_of_loads, alone_spells, spells_held}
+use Rattle.tree_descent.proofs.Settling.{found_first}
+use Rattle.tree_descent.specs.Removing.{HoldsAlone}
+use Rattle.tree_descent.specs.Loads.{KeepsLoads}
+use Rattle.tree_descent.proofs.Lowering.{settled_live}
+use Rattle.tree_descent.proofs.Putting.{leaf_at_zero}
+use Rattle.tree_descent.specs.Insertion.{RefusesMember, taken_by}
+use Rattle.tree_descent.proofs.HeldLists.{found_head}
+use Rattle.tree_descent.proofs.Loading.{nothing_left}
+use Rattle.leaf_change.specs.Insertion.{FitsLeaf, MayPut, EndsInsertion, SpendsCall}
+use Rattle.leaf_change.proofs.Spending.{right_before, spends_before, surplus_after}
+use Rattle.fence_move.specs.Spines.{HoldsLeafPair, AreMovedLocks, HoldsNext, HoldsWay, MovesFence}
+use Rattle.fence_move.proofs.NextOverlaps.{both_free, both_leaves}
+use Rattle.fence_move.proofs.LockedSpines.{may_read_found}
 use Rattle.btree_change.specs.declared.path.KeptNode.{KeptNode}
-use Rattle.btree_change.specs.declared.stand.Room.TheVariants as room
-use Rattle.btree_change.specs.Far.{HoldsFar, HoldsMoved, IsAtNext, IsReadyFar, StandsFar}
-use Rattle.btree_change.specs.Insertion.{FitsLeaf, MayPut, RefusesMember, taken_by}
 use Rattle.btree_change.specs.Kept.{AreKept, HoldsPath, LeavesBelow, as_changed}
-use Rattle.btree_change.specs.Paths.{AreHigher, HoldsNothing, IsSettledLock, StepsOnNodes}
-use Rattle.btree_change.specs.Loads.{KeepsLoads}
-use Rattle.btree_change.specs.Releases.{HaveSettled, Spends}
-use Rattle.btree_change.specs.Roots.{EndsInsertion, GivesUpWhole}
-use Rattle.btree_change.specs.Spines.{AreApart, AreMovedLocks, HoldsLeafPair, HoldsNext, HoldsWay, MovesFence}
-use Rattle.btree_change.specs.Stands.{HasWayOn, LiesBeyond, SpendsCall, StandsAt, kept_node}
+use Rattle.btree_change.specs.Stands.{kept_node, HasWayOn, LiesBeyond}
+use Rattle.btree_change.proofs.Standing.{lowest_of, live_lock}
+use Rattle.btree_change.specs.declared.beyond.Far.{Far}
+use Rattle.btree_change.specs.Far.{HoldsFar, HoldsMoved, IsReadyFar, IsAtNext, StandsFar}
 use Rattle.btree_change.proofs.Answering.{leaf_room}
 use Rattle.btree_change.proofs.AtRoot.{ends_after}
+use Rattle.btree_change.proofs.Spending.{may_still, refused_call}
+use Rattle.btree_change.specs.declared.beyond.Next.{Next}
+use Rattle.btree_change.specs.Roots.{GivesUpWhole}
 use Rattle.btree_change.proofs.Going.{way_lowered}
-use Rattle.btree_change.proofs.Loading.{nothing_left}
-use Rattle.btree_change.proofs.LockedSpines.{may_read_found}
-use Rattle.btree_change.proofs.Lowering.{settled_live}
-use Rattle.btree_change.proofs.Outlining.{spells_held, spells_same, steps_of_loads}
-use Rattle.btree_change.proofs.Putting.{leaf_at_zero}
-use Rattle.btree_change.proofs.NextOverlaps.{both_free, both_leaves}
-use Rattle.btree_change.proofs.Settling.{found_first}
-use Rattle.btree_change.proofs.Spending.{may_still, refused_call, right_before, spends_before, spends_same, steps_after, surplus_after, surplus_steps}
-use Rattle.btree_change.proofs.Standing.{live_lock, lowest_of}
 use Rattle.btree_change.proofs.Stepping.{splits_on}
-use Rattle.btree_change.proofs.HeldLists.{found_head}
-use Rattle.btree_change.proofs.HeldOutlines.{alone_spells}
-use Rattle.btree_change.specs.Removing.{HoldsAlone}
+use Rattle.node_split.specs.declared.split.Room.TheVariants as room
+use Rattle.reg_model.specs.declared.answer.Receipt.TheVariants as receipt
 
 -- No member overlaps in two leaves, and there was no room.
 module _ (t : Terms) (n : ℕ) (s : NodeData) (r : ℕ) (u : NodeData) (m : Member) (k : CallerData) (pair : HoldsLeafPair n s r u k.log.holdings) (live : (place : NodeBounds) × IsLiveNode t r u place) (here : IsInFences m.span.first s) (high : m.span.last < u.high) (free : IsFree m.span (entries_of s)) (free_right : IsFree m.span (entries_of u)) (cause : HadNoRoom m.span.first (length k.log.receipts.own) k.log.trace.loads) where

@@ -1,32 +1,34 @@
 -- An insertion goes down from where it stands: what it makes of its caller.
-use Rattle.std.proofs.Common.{◌≡◌, ◌≢◌, ℕ, ◌+◌, ◌-◌, ◌<◌, ◌≤◌, List, [], ◌∷◌, drop, length, sym, ap, ◌∙◌, subst, arith, Option, Some, None}
+use Rattle.std.proofs.Common.{ℕ, ap, ◌≡◌, ◌+◌, List, [], ◌∷◌, sym, ◌∙◌, arith, Option, Some, None, ◌≢◌, ◌-◌, ◌<◌, ◌≤◌, drop, length, subst}
 use Rattle.std.specs.List.{AllByRecursion}
 use Rattle.reg_model.specs.declared.span.Member.{Member}
-use Rattle.tree_shape.specs.NodeData.{NodeData, IsInFences, frame_of}
+use Rattle.tree_shape.specs.NodeData.{NodeData, frame_of, IsInFences}
 use Rattle.tree_shape.specs.declared.node.NodeBounds.{NodeBounds}
 use Rattle.word_rule.specs.CallerData.{CallerData}
-use Rattle.word_rule.specs.Spelling.{SpellsNode}
 use Rattle.word_rule.specs.declared.log.Holding.{Holding}
 use Rattle.word_rule.specs.declared.log.Terms.{Terms}
+use Rattle.word_rule.specs.Spelling.{SpellsNode}
 use Rattle.version_locks.specs.declared.locking.Busy.{Busy}
-use Rattle.btree_change.specs.declared.descent.Held.{Held}
+use Rattle.tree_descent.specs.Loads.{KeepsLoads}
+use Rattle.tree_descent.specs.Paths.{StepsOnNodes, AreApart}
+use Rattle.tree_descent.specs.declared.descent.Held.{Held}
+use Rattle.tree_descent.specs.Releases.{HaveSettled, Spends}
+use Rattle.tree_descent.specs.Stands.{HoldsPair}
+use Rattle.tree_descent.proofs.Loading.{nothing_left}
+use Rattle.tree_descent.proofs.Spending.{spends_all, spends_same, steps_after}
+use Rattle.node_split.specs.declared.split.Room.{Room}
+use Rattle.node_split.specs.declared.split.Coupled.{Coupled}
+use Rattle.fence_move.specs.Spines.{Climbs}
+use Rattle.fence_move.proofs.NextLeaves.{higher_spelled}
+use Rattle.btree_change.specs.Stands.{HasWayOn, LiesBeyond, Reaches, GoesTo, HasCause, HasSplit, HoldsStep, IfNoneFree, StandsOnWay, kept_above, kept_node, releases_from}
+use Rattle.btree_change.proofs.Standing.{way_kept, reach_kept}
 use Rattle.btree_change.specs.declared.stand.Beyond.{Beyond}
-use Rattle.btree_change.specs.declared.stand.Room.{Room}
-use Rattle.btree_change.specs.declared.stand.Room.TheVariants as room
 use Rattle.btree_change.specs.declared.stand.Stand.{Stand}
-use Rattle.btree_change.specs.declared.stand.Step.{Step}
 use Rattle.btree_change.specs.Kept.{HoldsPath, LeavesBelow}
-use Rattle.btree_change.specs.Loads.{KeepsLoads}
-use Rattle.btree_change.specs.Paths.{StepsOnNodes}
-use Rattle.btree_change.specs.Releases.{HaveSettled, Spends}
 use Rattle.btree_change.specs.Roots.{GivesUpWhole}
-use Rattle.btree_change.specs.Spines.{AreApart, Climbs}
-use Rattle.btree_change.specs.Stands.{GoesTo, HasCause, HasSplit, HasWayOn, HoldsPair, HoldsStep, IfNoneFree, LiesBeyond, Reaches, StandsOnWay, kept_above, kept_node, releases_from}
-use Rattle.btree_change.proofs.Loading.{nothing_left}
-use Rattle.btree_change.proofs.NextLeaves.{higher_spelled}
-use Rattle.btree_change.proofs.NoRoom.{cause_after, cause_below, cause_still, same_cause}
-use Rattle.btree_change.proofs.Spending.{own_same, spends_all, spends_same, steps_after}
-use Rattle.btree_change.proofs.Standing.{reach_kept, way_kept}
+use Rattle.btree_change.proofs.NoRoom.{cause_after, cause_still, same_cause, cause_below}
+use Rattle.btree_change.proofs.Spending.{own_same}
+use Rattle.node_split.specs.declared.split.Room.TheVariants as room
 
 -- the way on, after the child was locked
 pub way_lowered : (way : Room) (pc : ℕ) (s : NodeData) (k l : CallerData) → StepsOnNodes k l → KeepsLoads k l → HasWayOn way pc s k.log → HasWayOn way pc s l.log
@@ -65,7 +67,7 @@ module _ (t : Terms) (m : Member) (stand : Stand) (k : CallerData) (stands : Sta
 
   -- the child was locked
   module _ (child : Held) (k1 : CallerData) (pair : HoldsPair t m.span.first stand.at child (drop 1 k.log.holdings.held) k1.log.holdings) (steps : StepsOnNodes k k1) (loads : KeepsLoads k k1) where
-    abbrev step : Step
+    abbrev step : Coupled
     step = record { parent = stand.at; child = child; room = stand.room }
 
     rest_is : drop 2 k1.log.holdings.held ≡ drop 1 k.log.holdings.held
@@ -78,7 +80,7 @@ module _ (t : Terms) (m : Member) (stand : Stand) (k : CallerData) (stands : Sta
     }
 
     -- and split where it had to be
-    pub split_reaches : (after : Step) (k2 : CallerData) → (s : HasSplit t m.span.first step after k1 k2) → (p : HoldsPair t m.span.first after.parent after.child (drop 2 k2.log.holdings.held) k2.log.holdings) × Reaches t m.span.last after.parent.content stand.beyond p.upper (drop 2 k2.log.holdings.held)
+    pub split_reaches : (after : Coupled) (k2 : CallerData) → (s : HasSplit t m.span.first step after k1 k2) → (p : HoldsPair t m.span.first after.parent after.child (drop 2 k2.log.holdings.held) k2.log.holdings) × Reaches t m.span.last after.parent.content stand.beyond p.upper (drop 2 k2.log.holdings.held)
     split_reaches after k2 s =
         let rest : drop 2 k2.log.holdings.held ≡ drop 2 k1.log.holdings.held = ap (drop 2) s.pair.held in
         let level : s.pair.upper.settled.level ≡ stands.at.lock.settled.level = ap (λ (z : NodeData). z.level) s.pair.parent_is.settled ∙ (ap (λ (f : NodeBounds). f.level) s.frame ∙ ap (λ (z : NodeData). z.level) (sym stands.at.here.settled)) in
@@ -98,7 +100,7 @@ module _ (t : Terms) (m : Member) (stand : Stand) (k : CallerData) (stands : Sta
         }
 
     -- it stands below now
-    pub goes_below : (after : Step) (k2 : CallerData) → (s : HasSplit t m.span.first step after k1 k2) → (found : Stand) (k3 : CallerData) → StandsOnWay t m found k3.log → found.at ≡ after.child → found.room ≡ after.room → length (kept_above found.beyond) ≤ length (kept_above stand.beyond) + 1 → Spends (length (kept_above stand.beyond) + 1 - length (kept_above found.beyond)) k2 k3 → (found.at.content.level < stand.at.content.level) × GoesTo t m stand found k k3
+    pub goes_below : (after : Coupled) (k2 : CallerData) → (s : HasSplit t m.span.first step after k1 k2) → (found : Stand) (k3 : CallerData) → StandsOnWay t m found k3.log → found.at ≡ after.child → found.room ≡ after.room → length (kept_above found.beyond) ≤ length (kept_above stand.beyond) + 1 → Spends (length (kept_above stand.beyond) + 1 - length (kept_above found.beyond)) k2 k3 → (found.at.content.level < stand.at.content.level) × GoesTo t m stand found k k3
     goes_below after k2 s found k3 on at way few spent =
         let less : found.at.content.level < stand.at.content.level = subst (λ (h : Held). h.content.level < stand.at.content.level) (sym at) s.less in (
           less,

@@ -1,19 +1,19 @@
 -- Nodes that were kept are let go of one by one, and those below them are left.
-use Rattle.std.proofs.Common.{◌≡◌, ◌≢◌, ℕ, ◌<◌, List, [], ◌∷◌, ◌++◌, append-nil, sym, refl, ap, ◌∙◌, subst, cond, not, ne_eqb}
+use Rattle.std.proofs.Common.{List, [], ◌∷◌, ◌++◌, ◌≢◌, ◌≡◌, ℕ, sym, ap, ◌∙◌, subst, cond, not, ne_eqb, refl, ◌<◌, append-nil}
 use Rattle.std.specs.List.{AllByRecursion}
-use Rattle.word_rule.specs.CallerData.{CallerData}
-use Rattle.word_rule.specs.Held.{held_of, without_lock}
-use Rattle.word_rule.specs.Spelling.{SpellsNode}
 use Rattle.word_rule.specs.declared.log.Holding.{Holding}
-use Rattle.word_rule.specs.declared.log.Holdings.{Holdings}
+use Rattle.word_rule.specs.Held.{without_lock, held_of}
 use Rattle.word_rule.specs.declared.log.Terms.{Terms}
+use Rattle.word_rule.specs.CallerData.{CallerData}
+use Rattle.word_rule.specs.Spelling.{SpellsNode}
+use Rattle.word_rule.specs.declared.log.Holdings.{Holdings}
+use Rattle.tree_descent.specs.Paths.{AreApart}
+use Rattle.tree_descent.specs.Releases.{LetsGo, MayGo}
+use Rattle.tree_descent.proofs.Storing.{found_at}
+use Rattle.fence_move.proofs.FreshSpines.{apart_mid}
+use Rattle.fence_move.proofs.LockedSpines.{without_head}
 use Rattle.btree_change.specs.declared.path.KeptNode.{KeptNode}
-use Rattle.btree_change.specs.Kept.{AreKept, HoldsPath, IsKeptLock}
-use Rattle.btree_change.specs.Releases.{LetsGo, MayGo}
-use Rattle.btree_change.specs.Spines.{AreApart}
-use Rattle.btree_change.proofs.FreshSpines.{apart_mid}
-use Rattle.btree_change.proofs.LockedSpines.{without_head}
-use Rattle.btree_change.proofs.Storing.{found_at}
+use Rattle.btree_change.specs.Kept.{AreKept, IsKeptLock, HoldsPath}
 
 -- what is left of a list without a lock in its middle
 all_less : (P : Holding → Type 0) (below : List Holding) (h : Holding) (above : List Holding) → AllByRecursion P (below ++ h ∷ above) → AllByRecursion P (below ++ above)

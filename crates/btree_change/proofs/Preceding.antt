@@ -1,20 +1,16 @@
--- Steps on nodes before an answer, which leave what is held: the answer is one from before them too.
-use Rattle.std.proofs.Common.{◌≡◌, ℕ, [], ◌∷◌, ◌++◌, length, sym, ap, ◌∙◌, subst}
-use Rattle.reg_model.specs.declared.answer.Inserted.{Inserted}
-use Rattle.reg_model.specs.declared.answer.Receipt.TheVariants as receipt
+-- Steps on nodes before an answer, which leave what is held: an insertion stands as it did.
+use Rattle.std.proofs.Common.{◌≡◌, sym, ap, ◌∙◌, subst, ℕ, length}
 use Rattle.reg_model.specs.declared.span.Member.{Member}
 use Rattle.word_rule.specs.CallerData.{CallerData}
-use Rattle.word_rule.specs.TreeRefusals.{HadNoRoom}
 use Rattle.word_rule.specs.declared.log.Receipts.{Receipts}
 use Rattle.word_rule.specs.declared.log.Terms.{Terms}
+use Rattle.word_rule.specs.TreeRefusals.{HadNoRoom}
+use Rattle.tree_descent.specs.Paths.{StepsOnNodes}
+use Rattle.tree_descent.specs.Stands.{StandsAt}
+use Rattle.node_split.proofs.NoRoom.{more_loads}
 use Rattle.btree_change.specs.declared.stand.Stand.{Stand}
-use Rattle.btree_change.specs.Insertion.{RefusesMember}
-use Rattle.btree_change.specs.Paths.{StepsOnNodes}
-use Rattle.btree_change.specs.Stands.{Reaches, StandsAt, StandsOnWay}
-use Rattle.btree_change.proofs.NoRoom.{more_loads}
-use Rattle.btree_change.proofs.Spending.{right_after}
+use Rattle.btree_change.specs.Stands.{Reaches, StandsOnWay}
 use Rattle.btree_change.proofs.Standing.{way_kept}
-use Rattle.word_rule.proofs.CallersKept.{kept_caller_on}
 
 -- an insertion stands where it stood
 pub stands_still : (t : Terms) (m : Member) (stand : Stand) (k k1 : CallerData) → k1.log.holdings ≡ k.log.holdings → StepsOnNodes k k1 → StandsOnWay t m stand k.log → StandsOnWay t m stand k1.log
@@ -27,18 +23,6 @@ stands_still t m stand k k1 same steps s =
       height = s.height;
       loader = steps.calls.caller.loader ∙ s.loader;
     }
-
-pub refused_after : (t : Terms) (m : Member) (answer : Inserted) (k k1 k2 : CallerData) → k1.log.holdings ≡ k.log.holdings → StepsOnNodes k k1 → RefusesMember t m answer k1 k2 → RefusesMember t m answer k k2
-refused_after t m answer k k1 k2 same steps r = record {
-  right = right_after t m answer k k1 k2 steps.calls r.right;
-  none_taken = r.none_taken;
-  call = record {
-    caller = kept_caller_on steps.calls.caller r.call.caller;
-    budget = r.call.budget ∙ steps.budget;
-    holdings = r.call.holdings ∙ same;
-    receipts = subst (λ (x : Receipts). k2.log.receipts ≡ record x { own = x.own ++ receipt.Register m answer ∷ [] }) steps.calls.receipts r.call.receipts;
-  };
-}
 
 -- that there was no room stays so
 pub still_no_room : (base : ℕ) (k k1 : CallerData) → StepsOnNodes k k1 → HadNoRoom base (length k.log.receipts.own) k.log.trace.loads → HadNoRoom base (length k1.log.receipts.own) k1.log.trace.loads

@@ -1,38 +1,45 @@
 -- What a removal answers, from the steps of its way.
-use Rattle.std.proofs.Common.{◌≡◌, ℕ, zero, suc, ◌*◌, ◌<◌, ◌≤◌, [], ◌∷◌, length, sym, ap, ◌∙◌, subst, arith, true, false, IsNone}
+use Rattle.std.proofs.Common.{◌≡◌, length, arith, false, ℕ, sym, subst, zero, suc, ap, ◌∙◌, IsNone, [], ◌∷◌, true, ◌*◌, ◌<◌, ◌≤◌, Bool}
 use Rattle.std.proofs.lemmas.Bool.{ltb-false}
 use mathlib.Core.List.{IsPrefix}
 use Rattle.reg_model.specs.History.{state_after}
 use Rattle.reg_model.specs.State.{at_base}
-use Rattle.reg_model.specs.declared.answer.Receipt.{Receipt}
-use Rattle.reg_model.specs.declared.answer.Receipt.TheVariants as receipt
 use Rattle.reg_model.specs.declared.answer.Removed.{Removed}
-use Rattle.reg_model.specs.declared.answer.Removed.TheVariants as removed
+use Rattle.reg_model.specs.declared.answer.Receipt.{Receipt}
 use Rattle.reg_model.specs.declared.span.Member.{Member}
-use Rattle.tree_shape.specs.NodeData.{NodeData, Body, Pairs, Entries, Link}
-use Rattle.word_rule.specs.CallerData.{CallerData, surplus}
-use Rattle.word_rule.specs.Callers.{start}
+use Rattle.tree_shape.specs.NodeData.{Body, Pairs, Entries, Link, NodeData}
 use Rattle.word_rule.specs.Spelling.{SpellsNode}
 use Rattle.word_rule.specs.declared.log.Holdings.{Holdings}
 use Rattle.word_rule.specs.declared.log.Terms.{Terms}
-use Rattle.btree_change.specs.Paths.{HoldsLeftOver, HoldsNothing, IsLeftOut, StepsOnNodes}
-use Rattle.btree_change.specs.Releases.{LetsGo, Spends}
-use Rattle.btree_change.specs.Removal.{AnswersRemoval, AnswersRightly, taken_by_removal}
-use Rattle.btree_change.specs.Removing.{IsSpare, IsSpareAs}
-use Rattle.btree_change.specs.Siblings.{HoldsChild, HoldsUnder, LeavesParent, is_small_body}
-use Rattle.btree_change.specs.declared.sibling.Siblings.{Siblings}
-use Rattle.version_locks.specs.Locking.{FoundBusy}
-use Rattle.version_locks.specs.declared.locking.Busy.{Busy}
-use Rattle.btree_change.proofs.Loading.{found_still}
-use Rattle.btree_change.specs.Stands.{SpendsCall}
-use Rattle.btree_change.specs.Takings.{RefusesBase, TakesMember}
-use Rattle.btree_change.specs.Updates.{AnswersUpdate}
-use Rattle.btree_change.specs.declared.sibling.Child.{Child}
-use Rattle.btree_change.proofs.Joining.{spare_of}
-use Rattle.btree_change.proofs.Releases.{lock_gone}
-use Rattle.btree_change.proofs.Rooted.{surplus_left}
-use Rattle.btree_change.proofs.Spending.{accepted_call, answers_so, refused_call, spends_after, spends_before, spends_same, steps_after, surplus_steps}
+use Rattle.word_rule.specs.CallerData.{CallerData, surplus}
+use Rattle.word_rule.specs.Callers.{start}
 use Rattle.word_rule.specs.Places.{CALL_CREDIT}
+use Rattle.word_rule.specs.Held.{held_of, without_lock}
+use Rattle.version_locks.specs.declared.locking.Busy.{Busy}
+use Rattle.version_locks.specs.Locking.{FoundBusy}
+use Rattle.tree_descent.specs.Removing.{IsSpareAs, IsSpare, HoldsAlone}
+use Rattle.tree_descent.specs.Stands.{HoldsChild}
+use Rattle.tree_descent.specs.declared.descent.Child.{Child}
+use Rattle.tree_descent.specs.Paths.{HoldsNothing, StepsOnNodes}
+use Rattle.tree_descent.specs.Releases.{Spends, LetsGo, HaveSettled, MayGo}
+use Rattle.tree_descent.specs.Updates.{AnswersUpdate}
+use Rattle.tree_descent.proofs.Spending.{spends_same, steps_after}
+use Rattle.tree_descent.proofs.Loading.{found_still}
+use Rattle.tree_descent.specs.declared.descent.Held.{Held}
+use Rattle.tree_descent.proofs.Storing.{found_at}
+use Rattle.leaf_change.specs.Removal.{AnswersRightly, taken_by_removal}
+use Rattle.leaf_change.specs.Insertion.{SpendsCall}
+use Rattle.leaf_change.proofs.Spending.{spends_before, accepted_call}
+use Rattle.leaf_change.specs.Takings.{RefusesBase, TakesMember}
+use Rattle.node_mend.specs.Siblings.{is_small_body, HoldsUnder, LeavesParent}
+use Rattle.node_mend.proofs.Joining.{spare_of}
+use Rattle.node_mend.specs.declared.sibling.Siblings.{Siblings}
+use Rattle.node_mend.proofs.Mended.{without_high}
+use Rattle.btree_change.proofs.Spending.{answers_so, spends_after, refused_call}
+use Rattle.btree_change.specs.Removal.{AnswersRemoval}
+use Rattle.btree_change.proofs.Rooted.{surplus_left}
+use Rattle.reg_model.specs.declared.answer.Removed.TheVariants as removed
+use Rattle.reg_model.specs.declared.answer.Receipt.TheVariants as receipt
 
 not_small : (b : Body) → is_small_body b ≡ false → IsSpareAs b
 not_small (Pairs pairs) e = let l = ltb-false (length pairs) 7 e in omega (arith, l)
@@ -103,15 +110,25 @@ surplus_refused t base answer k k1 k2 down most refuses = let left = surplus_lef
 pub surplus_taken : (t : Terms) (base n number : ℕ) (m : Member) (k k1 k2 : CallerData) → Spends 24 k k1 → CALL_CREDIT ≤ surplus k → TakesMember t base n number m k1 k2 → 0 < surplus k2
 surplus_taken t base n number m k k1 k2 down most takes = let left = surplus_left 24 k k1 down most (omega arith) in let a = ap (λ z. z.credit) takes.call.budget in let b : CALL_CREDIT * k2.left ≡ CALL_CREDIT * k1.left = ap (λ z. CALL_CREDIT * z) takes.call.caller.left in omega (arith, left, a, b)
 
--- a node that left the tree was lost: what is left once its parent was let go of
-pub left_over : (x : Siblings) (why : Busy) (k k2 k3 : CallerData) → LeavesParent x why k k2 → LetsGo x.above.node k2 k3 → HoldsLeftOver why k3.log.holdings
-left_over x why k k2 k3 lost goes = (lock_gone x.above.node true k2 k3 lost.above goes, subst (λ w. IsLeftOut w k3.log.holdings.out) (sym lost.lost) (subst (λ ns. length ns ≤ 2) (sym goes.out) lost.out))
-
-pub left_surplus : (x : Siblings) (why : Busy) (k k2 : CallerData) → LeavesParent x why k k2 → 2 < surplus k → 0 < surplus k2
-left_surplus x why k k2 lost some = surplus_steps 2 k k2 1 lost.spends (omega (arith, some))
-
 pub left_spends : (x : Siblings) (why : Busy) (k k2 k3 : CallerData) → LeavesParent x why k k2 → LetsGo x.above.node k2 k3 → Spends 3 k k3
 left_spends x why k k2 k3 lost goes = steps_after 2 1 3 k k2 k3 (omega arith) lost.spends goes.steps
 
 pub left_cause : (x : Siblings) (why : Busy) (k k2 k3 : CallerData) → LeavesParent x why k k2 → LetsGo x.above.node k2 k3 → FoundBusy why k k3
 left_cause x why k k2 k3 lost goes = found_still why k k2 k3 lost.cause goes.steps.loads
+
+pub under_may : (t : Terms) (n : ℕ) (changed : Bool) (at : Held) (holdings : Holdings) → HoldsUnder t n changed at holdings → MayGo n changed holdings
+under_may t n changed at holdings h = record {
+  lock = h.upper;
+  found = ap (held_of n) h.held ∙ found_at n (h.lower ∷ []) h.upper [] h.node ((λ e. h.no_parent (sym h.here.node ∙ e)), tt);
+  stored = λ e. h.stored ∙ e;
+  settled = subst HaveSettled (sym h.held) (subst (SpellsNode h.lower.words) (sym h.here.settled) h.here.spells, (h.spells, tt));
+}
+
+pub under_left : (t : Terms) (n : ℕ) (changed : Bool) (at : Held) (k k' : CallerData) → HoldsUnder t n changed at k.log.holdings → LetsGo n k k' → HoldsAlone t at k'.log.holdings
+under_left t n changed at k k' h goes = record {
+  within = h.within;
+  lock = h.lower;
+  held = goes.held ∙ (ap (without_lock n) h.held ∙ without_high true h.lower h.upper [] n h.node (λ e. h.no_parent (sym h.here.node ∙ e)) tt);
+  here = h.here;
+  out = goes.out ∙ h.out;
+}

@@ -1,47 +1,48 @@
 -- Where an insertion stands after a step down: what it holds is of one tree, and the node above both
 -- leaves is known where the span ends beyond the child.
-use Rattle.std.proofs.Common.{◌≡◌, ◌≢◌, ℕ, zero, suc, ◌+◌, ◌-◌, ◌<◌, ◌≤◌, List, [], ◌∷◌, ◌++◌, length, sym, refl, ap, ◌∙◌, subst, arith, inl, inr, Bool, Option, Some, None, if◌then◌else◌}
-use Rattle.std.proofs.lemmas.Option.{same_Some}
+use Rattle.std.proofs.Common.{◌≡◌, ℕ, List, Some, suc, ◌+◌, ◌≤◌, [], ◌∷◌, ap, ◌∙◌, arith, inl, inr, if◌then◌else◌, zero, length, sym, ◌<◌, refl, subst, Bool, Option, None, ◌≢◌, ◌-◌, ◌++◌}
+use Rattle.std.specs.List.{slice_get, AllByRecursion}
 use Rattle.std.proofs.lemmas.Bool.{le-leb, lt-leb}
-use Rattle.std.specs.List.{AllByRecursion, slice_get}
+use Rattle.std.proofs.lemmas.Option.{same_Some}
 use Rattle.reg_model.specs.declared.span.Member.{Member}
 use Rattle.tree_shape.specs.declared.pair.Pair.{Pair}
-use Rattle.tree_shape.specs.NodeData.{NodeData, Cut, pairs_of, slot_for}
-use Rattle.tree_laws.specs.Steps.{last_child}
-use Rattle.tree_laws.specs.Trees.{Branch, branches, branches_from}
+use Rattle.tree_shape.specs.NodeData.{slot_for, Cut, NodeData, pairs_of}
+use Rattle.tree_laws.specs.Trees.{Branch, branches_from, branches}
 use Rattle.tree_laws.proofs.Leads.{branch_inside, contains_in}
 use Rattle.tree_laws.proofs.Times.{In}
-use Rattle.word_rule.specs.CallerData.{CallerData}
+use Rattle.tree_laws.specs.Steps.{last_child}
 use Rattle.word_rule.specs.declared.log.Holding.{Holding}
-use Rattle.word_rule.specs.declared.log.Holdings.{Holdings}
-use Rattle.word_rule.specs.declared.log.LoadEvent.{LoadEvent}
-use Rattle.word_rule.specs.declared.log.Log.{Log}
-use Rattle.word_rule.specs.declared.log.Receipts.{Receipts}
 use Rattle.word_rule.specs.declared.log.Terms.{Terms}
+use Rattle.word_rule.specs.declared.log.Holdings.{Holdings}
+use Rattle.word_rule.specs.Spelling.{SpellsNode}
+use Rattle.word_rule.specs.declared.log.Log.{Log}
 use Rattle.word_rule.specs.Held.{held_of}
 use Rattle.word_rule.specs.NodeTells.{KnowsTree}
-use Rattle.word_rule.specs.Spelling.{SpellsNode}
+use Rattle.word_rule.specs.declared.log.LoadEvent.{LoadEvent}
 use Rattle.word_rule.specs.TreeRefusals.{HadNoRoom}
-use Rattle.btree_change.specs.declared.descent.Held.{Held}
-use Rattle.btree_change.specs.declared.stand.Beyond.{Beyond}
-use Rattle.btree_change.specs.declared.stand.Room.{Room}
-use Rattle.btree_change.specs.declared.stand.Room.TheVariants as room
-use Rattle.btree_change.specs.declared.stand.Reach.TheVariants as reach
-use Rattle.btree_change.specs.declared.stand.Stand.{Stand}
-use Rattle.btree_change.specs.Kept.{AreKept, HoldsPath, IsKeptLock, LeavesBelow}
-use Rattle.btree_change.specs.Paths.{AreHigher, IsLiveLock, IsSettledLock, StepsOnNodes}
-use Rattle.btree_change.specs.Releases.{HaveSettled, LetsGo, Spends}
-use Rattle.btree_change.specs.Spines.{AreApart}
-use Rattle.btree_change.specs.Stands.{HasWayOn, HoldsPair, IsPairFor, IsReach, Reaches, StandsOnWay, StandsAt, kept_above, kept_node, kept_too}
-use Rattle.btree_change.proofs.HeldTrees.{OnTree, apart_with, child, child_frame, inner, on_tree}
-use Rattle.btree_change.proofs.KeptPaths.{kept_gone, none_kept}
-use Rattle.btree_change.proofs.NextLeaves.{higher_marked, higher_spelled}
-use Rattle.btree_change.proofs.NoRoom.{more_loads}
-use Rattle.btree_change.proofs.Outlining.{spells_held}
-use Rattle.btree_change.proofs.Releasing.{IsLowest}
-use Rattle.btree_change.proofs.Spending.{own_same, spends_same, steps_after}
-use Rattle.btree_change.proofs.Storing.{found_at}
+use Rattle.word_rule.specs.CallerData.{CallerData}
+use Rattle.word_rule.specs.declared.log.Receipts.{Receipts}
 use Rattle.node_store.specs.Holding.{SpellsHeld}
+use Rattle.tree_descent.specs.Paths.{IsLiveLock, IsSettledLock, AreHigher, AreApart, StepsOnNodes}
+use Rattle.tree_descent.specs.declared.descent.Held.{Held}
+use Rattle.tree_descent.specs.Stands.{StandsAt, HoldsPair}
+use Rattle.tree_descent.specs.Releases.{HaveSettled, LetsGo, Spends}
+use Rattle.tree_descent.proofs.Outlining.{spells_held}
+use Rattle.tree_descent.proofs.Storing.{found_at}
+use Rattle.tree_descent.proofs.Spending.{spends_same, steps_after}
+use Rattle.leaf_change.proofs.Releasing.{IsLowest}
+use Rattle.node_split.specs.declared.split.Room.{Room}
+use Rattle.node_split.proofs.NoRoom.{more_loads}
+use Rattle.fence_move.proofs.HeldTrees.{child, OnTree, apart_with, child_frame, inner, on_tree}
+use Rattle.fence_move.proofs.NextLeaves.{higher_spelled, higher_marked}
+use Rattle.btree_change.specs.declared.stand.Beyond.{Beyond}
+use Rattle.btree_change.specs.Kept.{AreKept, HoldsPath, IsKeptLock, LeavesBelow}
+use Rattle.btree_change.specs.Stands.{Reaches, kept_above, IsPairFor, IsReach, kept_node, kept_too, HasWayOn, StandsOnWay}
+use Rattle.btree_change.specs.declared.stand.Stand.{Stand}
+use Rattle.btree_change.proofs.KeptPaths.{kept_gone, none_kept}
+use Rattle.btree_change.proofs.Spending.{own_same}
+use Rattle.btree_change.specs.declared.stand.SpanEnd.TheVariants as reach
+use Rattle.node_split.specs.declared.split.Room.TheVariants as room
 
 -- the branch for an address is that of the slot for it
 pub record IsSlotOf (pc : ℕ) (pairs : List Pair) (b : Branch) : Type 0 where

@@ -1,35 +1,36 @@
 -- A full child is split on the way down where a node is free; then the insertion goes on below.
-use Rattle.std.proofs.Common.{◌≡◌, ℕ, ◌<◌, List, [], ◌∷◌, length, drop, sym, refl, ap, ◌∙◌, subst, arith, inl, Some}
-use Rattle.tree_shape.specs.NodeData.{NodeData, Pairs, IsInFences, frame_of, pairs_of}
+use Rattle.std.proofs.Common.{◌≡◌, ℕ, List, ◌∷◌, ap, ◌∙◌, subst, Some, ◌<◌, length, sym, [], drop, refl, arith, inl}
+use Rattle.tree_shape.specs.NodeData.{NodeData, Pairs, pairs_of, IsInFences, frame_of}
 use Rattle.tree_laws.specs.Lawful.{IsFilled, IsOrdered}
 use Rattle.tree_laws.specs.Steps.{IsFull}
-use Rattle.word_rule.specs.CallerData.{CallerData}
 use Rattle.word_rule.specs.declared.log.Holding.{Holding}
-use Rattle.word_rule.specs.declared.log.Log.{Log}
 use Rattle.word_rule.specs.declared.log.Terms.{Terms}
-use Rattle.word_rule.specs.declared.log.Receipts.{Receipts}
 use Rattle.word_rule.specs.Held.{held_of}
+use Rattle.word_rule.specs.declared.log.Log.{Log}
+use Rattle.word_rule.specs.CallerData.{CallerData}
+use Rattle.word_rule.specs.declared.log.Receipts.{Receipts}
 use Rattle.word_rule.specs.TreeRefusals.{HadNoRoom}
-use Rattle.btree_change.specs.declared.descent.Held.{Held}
-use Rattle.btree_change.specs.declared.stand.Room.{Room}
-use Rattle.btree_change.specs.declared.stand.Room.TheVariants as room
-use Rattle.btree_change.specs.declared.stand.Step.{Step}
-use Rattle.btree_change.specs.Loads.{FoundNoRoom}
-use Rattle.btree_change.specs.Paths.{AreHigher}
-use Rattle.btree_change.specs.Releases.{LetsGo, Spends}
-use Rattle.btree_change.specs.Splits.{HasSpace, HoldsFull, HoldsFullChild, SplitsChild, StaysHeld, TakesRoom}
 use Rattle.word_rule.specs.NodeTells.{KnowsTree}
 use Rattle.word_rule.specs.Sights.{after_node_load}
-use Rattle.btree_change.specs.Stands.{HasCause, HasSplit, HasWayOn, HoldsPair, IfNoneFree}
-use Rattle.btree_change.proofs.Halved.{split_pair}
-use Rattle.btree_change.proofs.Descents.{steps_of_load}
+use Rattle.tree_descent.specs.declared.descent.Held.{Held}
+use Rattle.tree_descent.proofs.Settling.{found_first}
+use Rattle.tree_descent.specs.Stands.{HasSpace, HoldsPair}
+use Rattle.tree_descent.specs.Loads.{FoundNoRoom}
+use Rattle.tree_descent.specs.Paths.{AreHigher}
+use Rattle.tree_descent.specs.Releases.{LetsGo, Spends}
+use Rattle.tree_descent.proofs.Descents.{steps_of_load}
+use Rattle.tree_descent.proofs.Lowering.{pair_inner, settled_live}
+use Rattle.tree_descent.proofs.Spending.{more_spent, spends_all, spends_one, spends_same, steps_after}
+use Rattle.tree_descent.proofs.NodeSteps.{steps_then}
+use Rattle.leaf_change.proofs.Releasing.{IsLowest, left_above}
+use Rattle.node_split.specs.declared.split.Room.{Room}
+use Rattle.node_split.specs.declared.split.Coupled.{Coupled}
+use Rattle.node_split.specs.Splits.{HoldsFull, HoldsFullChild, SplitsChild, StaysHeld, TakesRoom}
+use Rattle.node_split.proofs.Halved.{split_pair}
+use Rattle.btree_change.specs.Stands.{HasWayOn, HasCause, HasSplit, IfNoneFree}
 use Rattle.btree_change.proofs.NoRoom.{found_cause, no_room_now, same_cause}
 use Rattle.btree_change.proofs.Standing.{lowest_of, stands_below}
-use Rattle.btree_change.proofs.Lowering.{pair_inner, settled_live}
-use Rattle.btree_change.proofs.Releasing.{IsLowest, left_above}
-use Rattle.btree_change.proofs.Spending.{more_spent, spends_all, spends_one, spends_same, steps_after}
-use Rattle.btree_change.proofs.Settling.{found_first}
-use Rattle.btree_change.proofs.NodeSteps.{steps_then}
+use Rattle.node_split.specs.declared.split.Room.TheVariants as room
 
 -- the child is found among what is held
 pub child_found : (t : Terms) (pc : ℕ) (parent child : Held) (above held : List Holding) (lower upper : Holding) → held ≡ lower ∷ upper ∷ above → lower.node ≡ child.node → held_of child.node held ≡ Some lower
@@ -43,14 +44,11 @@ pairs_room s inner room = subst HasSpace inner room
 pub splits_on : (way : Room) (pc : ℕ) (s : NodeData) (v : Log) → way ≡ room.Splitting → HasWayOn way pc s v → HasSpace s.body
 splits_on way pc s v is h = subst (λ w. HasWayOn w pc s v) is h
 
-pub has_way : (way : Room) (pc : ℕ) (s : NodeData) (v : Log) → way ≡ room.Splitting → HasSpace s.body → HasWayOn way pc s v
-has_way way pc s v is h = subst (λ w. HasWayOn w pc s v) (sym is) h
-
 -- where no node is free it doesn't matter which node is full
 pub none_free_on : (way : Room) (pc : ℕ) (s u : NodeData) (v : Log) → way ≡ room.NoneFree → HasWayOn way pc s v → HasWayOn way pc u v
 none_free_on way pc s u v is h = subst (λ w. HasWayOn w pc u v) (sym is) (subst (λ w. HasWayOn w pc s v) is h)
 
-module _ (t : Terms) (pc : ℕ) (step : Step) (above : List Holding) (k : CallerData) (pair : HoldsPair t pc step.parent step.child above k.log.holdings) where
+module _ (t : Terms) (pc : ℕ) (step : Coupled) (above : List Holding) (k : CallerData) (pair : HoldsPair t pc step.parent step.child above k.log.holdings) where
   pub child_order : IsOrdered step.child.content
   child_order = (settled_live t step.child.node step.child.content step.child.changed pair.lower pair.child_is).1.1.ordered
 
@@ -158,7 +156,7 @@ module _ (t : Terms) (pc : ℕ) (step : Step) (above : List Holding) (k : Caller
   }
 
   -- it was split
-  pub was_split : (fresh : ℕ) (after : Step) (k1 k2 : CallerData) → above ≡ drop 2 k.log.holdings.held → TakesRoom fresh k k1 → (s : SplitsChild t (record { parent = step.parent; child = step.child; fresh = fresh }) pc after k1 k2) → HasSplit t pc step after k k2
+  pub was_split : (fresh : ℕ) (after : Coupled) (k1 k2 : CallerData) → above ≡ drop 2 k.log.holdings.held → TakesRoom fresh k k1 → (s : SplitsChild t (record { parent = step.parent; child = step.child; fresh = fresh }) pc after k1 k2) → HasSplit t pc step after k k2
   was_split fresh after k1 k2 is takes s =
       let rest : drop 3 k1.log.holdings.held ≡ drop 2 k.log.holdings.held = ap (drop 3) (takes.held ∙ ap (λ hs. takes.new ∷ hs) pair.held) ∙ is in
       let level : after.parent.content.level ≡ step.parent.content.level = ap (λ (h : Held). h.content.level) s.parent in record {

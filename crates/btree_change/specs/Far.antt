@@ -1,24 +1,24 @@
 -- An insertion whose span ends beyond its leaf, in the next one.
-use Rattle.std.specs.Prelude.{◌≡◌, ℕ, ◌+◌, ◌<◌, true, [], ◌∷◌, length, map, Some}
-use Rattle.reg_model.specs.State.{IsFree}
+use Rattle.std.specs.Prelude.{Some, ℕ, ◌+◌, length, ◌≡◌, ◌<◌, [], true, ◌∷◌, map}
 use Rattle.reg_model.specs.declared.span.Member.{Member}
+use Rattle.reg_model.specs.State.{IsFree}
 use Rattle.tree_shape.specs.NodeData.{NodeData, IsInFences, entries_of}
-use Rattle.tree_laws.specs.Steps.{LiesAbove}
 use Rattle.tree_shape.specs.declared.node.NodeBounds.{NodeBounds}
+use Rattle.tree_laws.specs.Steps.{LiesAbove}
+use Rattle.word_rule.specs.declared.log.Log.{Log}
+use Rattle.word_rule.specs.declared.log.Terms.{Terms}
+use Rattle.word_rule.specs.declared.log.Holdings.{Holdings}
 use Rattle.word_rule.specs.NodeTells.{IsLiveNode}
 use Rattle.word_rule.specs.TreeRefusals.{HadNoRoom}
 use Rattle.word_rule.specs.declared.log.Holding.{Holding}
-use Rattle.word_rule.specs.declared.log.Holdings.{Holdings}
-use Rattle.word_rule.specs.declared.log.Log.{Log}
-use Rattle.word_rule.specs.declared.log.Terms.{Terms}
+use Rattle.tree_descent.specs.Stands.{StandsAt, HasSpace}
+use Rattle.tree_descent.specs.Paths.{IsSettledLock}
+use Rattle.fence_move.specs.Spines.{HoldsNext, HoldsLeafPair}
 use Rattle.btree_change.specs.declared.beyond.Far.{Far}
-use Rattle.btree_change.specs.declared.beyond.Next.{Next}
-use Rattle.btree_change.specs.declared.stand.Room.TheVariants as room
+use Rattle.btree_change.specs.Stands.{StandsOnWay}
 use Rattle.btree_change.specs.Kept.{AreKept, HoldsPath, as_changed}
-use Rattle.btree_change.specs.Paths.{IsSettledLock}
-use Rattle.btree_change.specs.Spines.{HoldsLeafPair, HoldsNext}
-use Rattle.btree_change.specs.Splits.{HasSpace}
-use Rattle.btree_change.specs.Stands.{StandsAt, StandsOnWay}
+use Rattle.btree_change.specs.declared.beyond.Next.{Next}
+use Rattle.node_split.specs.declared.split.Room.TheVariants as room
 
 -- It stands at the leaf, and the node above both leaves is known.
 abbrev pub StandsFar : Terms → Member → Far → Log → Type 0

@@ -1,13 +1,12 @@
 -- The nodes that an insertion keeps locked above the one at which it stands.
-use Rattle.std.specs.Prelude.{◌≡◌, ℕ, ◌<◌, List, [], ◌∷◌, ◌++◌, Option, Some, None}
-use Rattle.std.specs.Prelude.{true, length}
-use Rattle.word_rule.specs.CallerData.{CallerData}
+use Rattle.std.specs.Prelude.{◌≡◌, ◌<◌, List, [], ◌∷◌, Option, Some, None, length, true, ◌++◌, ℕ}
 use Rattle.word_rule.specs.declared.log.Holding.{Holding}
-use Rattle.word_rule.specs.declared.log.Holdings.{Holdings}
 use Rattle.word_rule.specs.declared.log.Terms.{Terms}
+use Rattle.word_rule.specs.declared.log.Holdings.{Holdings}
+use Rattle.word_rule.specs.CallerData.{CallerData}
+use Rattle.tree_descent.specs.Releases.{HaveSettled, Spends}
+use Rattle.tree_descent.specs.Paths.{AreApart}
 use Rattle.btree_change.specs.declared.path.KeptNode.{KeptNode}
-use Rattle.btree_change.specs.Releases.{HaveSettled, Spends}
-use Rattle.btree_change.specs.Spines.{AreApart}
 
 -- the lowest node is taken out, where there is one
 abbrev pub PopsLowest : List KeptNode → List KeptNode → Option KeptNode → Type 0

@@ -1,24 +1,17 @@
 -- What an insertion makes of its caller from the root on.
-use Rattle.std.specs.Prelude.{◌≡◌, ℕ, Bool, true, [], ◌∷◌, Result, Ok, Err}
+use Rattle.std.specs.Prelude.{ℕ, ◌≡◌, Bool, true, Result, Ok, Err}
 use Rattle.reg_model.specs.declared.answer.Inserted.{Inserted}
-use Rattle.reg_model.specs.declared.answer.Receipt.TheVariants as receipt
 use Rattle.reg_model.specs.declared.span.Member.{Member}
 use Rattle.word_rule.specs.CallerData.{CallerData}
 use Rattle.word_rule.specs.declared.log.Terms.{Terms}
-use Rattle.version_locks.specs.Locking.{FoundBusy}
 use Rattle.version_locks.specs.declared.locking.Busy.{Busy}
-use Rattle.btree_change.specs.Insertion.{IfFull, IsRightInsertion, taken_by}
-use Rattle.btree_change.specs.Paths.{HoldsLeftOver, HoldsNothing}
-use Rattle.btree_change.specs.Releases.{Spends}
-use Rattle.btree_change.specs.Stands.{HasCause, SpendsCall}
-use Rattle.btree_change.specs.declared.stand.Room.{Room}
-
--- It was answered, by at most so many releases, and nothing is held.
-pub record EndsInsertion (t : Terms) (m : Member) (answer : Inserted) (most : ℕ)
-    (k k' : CallerData) : Type 0 where
-  pub right : IsRightInsertion t m k k' answer
-  pub call : SpendsCall (receipt.Register m answer ∷ []) (taken_by answer) most k k'
-  pub nothing : HoldsNothing k'.log.holdings
+use Rattle.version_locks.specs.Locking.{FoundBusy}
+use Rattle.tree_descent.specs.Paths.{HoldsLeftOver}
+use Rattle.tree_descent.specs.Releases.{Spends}
+use Rattle.tree_descent.specs.Insertion.{IfFull}
+use Rattle.leaf_change.specs.Insertion.{EndsInsertion}
+use Rattle.node_split.specs.declared.split.Room.{Room}
+use Rattle.btree_change.specs.Stands.{HasCause}
 
 -- It gave up, and nothing is held; no node is out but one that was lost.
 pub record GivesUpWhole (most : ℕ) (why : Busy) (k k' : CallerData) : Type 0 where

@@ -1,56 +1,29 @@
 -- Where an insertion stands on its way down, and what each part of it makes of its caller.
-use Rattle.std.specs.Prelude.{◌≡◌, ℕ, ◌+◌, ◌-◌, ◌*◌, ◌^◌, ◌<◌, ◌≤◌, false, List, [], ◌∷◌, ◌++◌}
-use Rattle.std.specs.Prelude.{length, drop, slice_get, Option, Some, None}
-use Rattle.reg_model.specs.declared.answer.Receipt.{Receipt}
+use Rattle.std.specs.Prelude.{◌≡◌, ◌<◌, List, [], ◌∷◌, ◌++◌, ℕ, ◌≤◌, Option, Some, None, slice_get}
+use Rattle.std.specs.Prelude.{◌+◌, length, ◌*◌, drop, ◌-◌}
 use Rattle.reg_model.specs.declared.span.Member.{Member}
-use Rattle.tree_shape.specs.NodeData.{NodeData, IsInFences, frame_of, pairs_of, slot_for}
-use Rattle.tree_shape.specs.declared.limits.TheConstants.{HIGHEST_LEVEL}
+use Rattle.tree_shape.specs.NodeData.{NodeData, pairs_of, slot_for, IsInFences, frame_of}
 use Rattle.tree_shape.specs.declared.pair.Pair.{Pair}
-use Rattle.word_rule.specs.CallerData.{CallerData, KeepsCaller}
-use Rattle.word_rule.specs.TreeRefusals.{HadNoRoom}
+use Rattle.tree_shape.specs.declared.limits.TheConstants.{HIGHEST_LEVEL}
 use Rattle.word_rule.specs.declared.log.Holding.{Holding}
-use Rattle.word_rule.specs.declared.log.Holdings.{Holdings}
-use Rattle.word_rule.specs.declared.log.Log.{Log}
 use Rattle.word_rule.specs.declared.log.Terms.{Terms}
-use Rattle.btree_change.specs.declared.descent.Held.{Held}
-use Rattle.btree_change.specs.declared.path.KeptNode.{KeptNode}
+use Rattle.word_rule.specs.TreeRefusals.{HadNoRoom}
+use Rattle.word_rule.specs.declared.log.Log.{Log}
+use Rattle.word_rule.specs.CallerData.{CallerData}
+use Rattle.tree_descent.specs.declared.descent.Held.{Held}
+use Rattle.tree_descent.specs.Stands.{HasSpace, StandsAt, HoldsPair}
+use Rattle.tree_descent.specs.Loads.{FoundNoRoom, KeepsLoads}
+use Rattle.tree_descent.specs.Releases.{Spends}
+use Rattle.node_split.specs.declared.split.Room.{Room}
+use Rattle.node_split.specs.declared.split.Coupled.{Coupled}
+use Rattle.fence_move.specs.Spines.{Climbs}
 use Rattle.btree_change.specs.declared.stand.Beyond.{Beyond}
-use Rattle.btree_change.specs.declared.stand.Reach.{Reach}
-use Rattle.btree_change.specs.declared.stand.Reach.TheVariants as reach
-use Rattle.btree_change.specs.declared.stand.Room.{Room}
-use Rattle.btree_change.specs.declared.stand.Room.TheVariants as room
-use Rattle.btree_change.specs.declared.stand.Stand.{Stand}
-use Rattle.btree_change.specs.declared.stand.Step.{Step}
 use Rattle.btree_change.specs.Kept.{AreKept}
-use Rattle.btree_change.specs.Loads.{FoundNoRoom, KeepsLoads}
-use Rattle.btree_change.specs.Paths.{AreHigher, HasChildFor}
-use Rattle.btree_change.specs.Releases.{Spends}
-use Rattle.btree_change.specs.Spines.{AreApart, Climbs}
-use Rattle.btree_change.specs.Splits.{HasSpace, IsHeldAs}
-
--- A caller holds a node, and above it live nodes that have settled, each of a higher level than the
--- one below it. No node is out.
-pub record StandsAt (t : Terms) (at : Held) (holdings : Holdings) : Type 0 where
-  pub within : at.node < t.nodes
-  pub lock : Holding
-  pub above : List Holding
-  pub held : holdings.held ≡ lock ∷ above
-  pub here : IsHeldAs t at lock
-  pub higher : AreHigher t at.content.level above
-  pub apart : AreApart (lock ∷ above)
-  pub out : holdings.out ≡ []
-
--- A caller holds the root alone, in which nothing was stored.
-pub record HoldsRoot (t : Terms) (at : Held) (holdings : Holdings) : Type 0 where
-  pub within : 0 < t.nodes
-  pub lock : Holding
-  pub held : holdings.held ≡ lock ∷ []
-  pub root : at.node ≡ 0
-  pub unchanged : at.changed ≡ false
-  pub here : IsHeldAs t at lock
-  pub low : at.content.low ≡ 0
-  pub high : at.content.high ≡ 2 ^ 64 - 1
-  pub out : holdings.out ≡ []
+use Rattle.btree_change.specs.declared.stand.SpanEnd.{SpanEnd}
+use Rattle.btree_change.specs.declared.path.KeptNode.{KeptNode}
+use Rattle.btree_change.specs.declared.stand.Stand.{Stand}
+use Rattle.btree_change.specs.declared.stand.SpanEnd.TheVariants as reach
+use Rattle.node_split.specs.declared.split.Room.TheVariants as room
 
 -- The node above both leaves is held above this one, which lies on its left spine. From there up
 -- all is kept, and nothing above it.
@@ -76,7 +49,7 @@ IsPairFor s pc p = slice_get (pairs_of s) (slot_for pc (pairs_of s)) ≡ Some p
 
 -- How far a span reaches that begins in a child of a node: to the child's end, to another child of
 -- the node, or beyond its last one.
-abbrev pub IsReach : NodeData → ℕ → ℕ → Reach → Type 0
+abbrev pub IsReach : NodeData → ℕ → ℕ → SpanEnd → Type 0
 IsReach s pc last reach.Child = (p : Pair) × (IsPairFor s pc p × (last ≤ p.separator))
 IsReach s pc last (reach.Parent slot) = (p : Pair) × (IsPairFor s pc p × (p.separator < last)
     × (slot ≡ slot_for pc (pairs_of s)) × (slot + 1 < length (pairs_of s)))
@@ -123,43 +96,19 @@ pub record StandsOnWay (t : Terms) (m : Member) (stand : Stand) (v : Log) : Type
   pub height : stand.at.content.level + length (kept_above stand.beyond) ≤ HIGHEST_LEVEL
   pub loader : v.loader ≡ None
 
--- What a part of an update call takes of its caller: so many of the allowance, and at most so many
--- releases. These receipts are appended. All else is as it was but what is held, seen and loaded.
-pub record SpendsCall (more : List Receipt) (taken most : ℕ) (k k' : CallerData) : Type 0 where
-  pub caller : KeepsCaller k k'
-  pub receipts : k'.log.receipts ≡ record k.log.receipts { own = k.log.receipts.own ++ more }
-  pub allowance : k'.log.budget.allowance ≡ k.log.budget.allowance - taken
-  pub credit : k.log.budget.credit ≤ k'.log.budget.credit + most
-
 -- At most so many releases for an insertion from where it stands: two for each node below, one for
 -- each that is kept, and those of the node and of a right spine.
 abbrev pub releases_from : Stand → ℕ
 releases_from stand = 2 * stand.at.content.level + length (kept_above stand.beyond) + 13
 
--- a node is held under its parent, to which an address leads
-pub record HoldsPair (t : Terms) (pc : ℕ) (parent child : Held) (above : List Holding)
-    (holdings : Holdings) : Type 0 where
-  pub parent_within : parent.node < t.nodes
-  pub child_within : child.node < t.nodes
-  pub lower : Holding
-  pub upper : Holding
-  pub held : holdings.held ≡ lower ∷ upper ∷ above
-  pub child_is : IsHeldAs t child lower
-  pub parent_is : IsHeldAs t parent upper
-  pub leads : HasChildFor parent.content pc child.node
-  pub here : IsInFences pc child.content
-  pub inner : 0 < parent.content.level
-  pub higher : AreHigher t parent.content.level above
-  pub out : holdings.out ≡ []
-
 -- A node is held under its parent; the node above the parent and the way on are known.
-pub record HoldsStep (t : Terms) (pc : ℕ) (step : Step) (above : List Holding) (v : Log) : Type 0
+pub record HoldsStep (t : Terms) (pc : ℕ) (step : Coupled) (above : List Holding) (v : Log) : Type 0
   where
     pub pair : HoldsPair t pc step.parent step.child above v.holdings
     pub way : HasWayOn step.room pc step.parent.content v
 
 -- The child has room now, or no node is free. The parent is the same node, at the same place.
-pub record HasSplit (t : Terms) (pc : ℕ) (step after : Step) (k k' : CallerData) : Type 0 where
+pub record HasSplit (t : Terms) (pc : ℕ) (step after : Coupled) (k k' : CallerData) : Type 0 where
   pub pair : HoldsPair t pc after.parent after.child (drop 2 k.log.holdings.held) k'.log.holdings
   pub way : HasWayOn after.room pc after.child.content k'.log
   pub cause : IfNoneFree after.room (HasCause step.room pc k k')

@@ -1,24 +1,33 @@
 //! An insertion whose span ends beyond its leaf: in the next one.
 ghost use Rattle.std.specs.Prelude.{◌≡◌, ◌≢◌, ◌<◌, ◌≤◌, ◌+◌, true, IfSome, IfNone, None, length};
-ghost use Rattle.btree_change.specs.Below.{NodeBounds, HadNoRoom, IsFree, IsInFences, IsLiveNode};
-ghost use Rattle.btree_change.specs.Below.{IsSpan, LiesAbove, SpellsHeld, entries_of, surplus};
-ghost use Rattle.btree_change.specs.Paths.{HoldsNothing, StepsOnNodes};
-ghost use Rattle.btree_change.specs.Insertion.{IfFull, MayPut, RefusesMember};
-ghost use Rattle.btree_change.specs.Releases.{Spends};
-ghost use Rattle.btree_change.specs.Removing.{HoldsAlone};
-ghost use Rattle.btree_change.specs.Roots.{EndsInsertion, EndsPart};
-ghost use Rattle.btree_change.specs.Spines.{HoldsLeafPair};
+ghost use Rattle.reg_model.specs.State.{IsFree};
+ghost use Rattle.reg_model.specs.SpanData.{IsSpan};
+ghost use Rattle.tree_shape.specs.declared.node.NodeBounds.{NodeBounds};
+ghost use Rattle.tree_shape.specs.NodeData.{IsInFences, entries_of};
+ghost use Rattle.tree_laws.specs.Steps.{LiesAbove};
+ghost use Rattle.word_rule.specs.TreeRefusals.{HadNoRoom};
+ghost use Rattle.word_rule.specs.NodeTells.{IsLiveNode};
+ghost use Rattle.word_rule.specs.CallerData.{surplus};
+ghost use Rattle.node_store.specs.Holding.{SpellsHeld};
+ghost use Rattle.tree_descent.specs.Paths.{HoldsNothing, StepsOnNodes};
+ghost use Rattle.tree_descent.specs.Insertion.{IfFull, RefusesMember};
+ghost use Rattle.tree_descent.specs.Releases.{Spends};
+ghost use Rattle.tree_descent.specs.Removing.{HoldsAlone};
+ghost use Rattle.leaf_change.specs.Insertion.{MayPut, EndsInsertion};
+ghost use Rattle.fence_move.specs.Spines.{HoldsLeafPair};
+ghost use Rattle.btree_change.specs.Roots.{EndsPart};
 ghost use Rattle.btree_change.specs.Stands.{HasCause};
-ghost use Rattle.btree_change.specs.Far.{HoldsFar, HoldsMoved, IsAtNext, IsReadyFar};
-ghost use Rattle.btree_change.specs.Far.{StandsFar, releases_far};
+ghost use Rattle.btree_change.specs.Far.{HoldsFar, HoldsMoved, IsAtNext, IsReadyFar, StandsFar};
+ghost use Rattle.btree_change.specs.Far.{releases_far};
 
-use crate::descent::Held;
-use crate::fence::{let_go_of_next, next_leaf, raise_fence, refused_next};
-use crate::leaf::{put_in_held, say_full};
 use crate::path::let_go_of_path;
-use crate::stand::{Beyond, Room, kept, let_go_of_all};
+use crate::stand::{Beyond, kept, let_go_of_all};
+use fence_move::{Ancestor, let_go_of_next, next_leaf, raise_fence, refused_next};
+use leaf_change::{put_in_held, say_full};
+use node_split::Room;
 use node_store::{Busy, Locking, Placed, begun_in, outline_of};
 use reg_model::{Inserted, Member};
+use tree_descent::Held;
 use word_rule::{Caller, Words};
 
 /// A leaf beyond which a span ends, and the node above it and the next one.
@@ -85,7 +94,11 @@ fn let_go_far<L: Locking>(locking: &L, words: &Words, me: &mut Caller, far: Far)
     ensures steps { Spends (length far.beyond.kept + 1) me.old me.new }
     ensures nothing { HoldsNothing me.new.log.holdings }
 {
-    let_go_of_next(locking, words, me, &far.beyond);
+    let above = Ancestor {
+        node: far.beyond.node,
+        slot: far.beyond.slot,
+    };
+    let_go_of_next(locking, words, me, &above);
     let lowest = kept(&far.leaf);
     let_go_of_all(locking, words, me, lowest, Some(far.beyond));
 }
@@ -129,7 +142,11 @@ fn put_far<L: Locking>(
         me.old me.new }
     ensures never_full { IfFull result ⊥ }
 {
-    raise_fence(locking, words, me, &far.beyond, member.span.last());
+    let above = Ancestor {
+        node: far.beyond.node,
+        slot: far.beyond.slot,
+    };
+    raise_fence(locking, words, me, &above, member.span.last());
     let leaf = leaf_alone(locking, words, me, far);
     let place = begun_in(words, me, leaf.node, &leaf.content, member.span.first());
     let placed = Placed {
@@ -182,7 +199,11 @@ pub(crate) fn beyond_leaf<L: Locking>(
     ensures { EndsPart words.now.terms member.now (releases_far far) far.room L.gives_up
         me.old me.new result }
 {
-    match next_leaf(locking, words, me, &far.leaf, &far.beyond) {
+    let above = Ancestor {
+        node: far.beyond.node,
+        slot: far.beyond.slot,
+    };
+    match next_leaf(locking, words, me, &far.leaf, &above) {
         Ok(right) => Ok(at_next(locking, words, me, member, Next { far, right })),
         Err(busy) => {
             let lowest = kept(&far.leaf);

@@ -1,18 +1,20 @@
 //! The insertion of a member.
 ghost use Rattle.std.specs.Prelude.{◌≡◌, ◌<◌, ◌≤◌, true, false, IfOk, IfErr};
-ghost use Rattle.btree_change.specs.Below.{CALL_CREDIT, IsIdle, due, surplus};
+ghost use Rattle.word_rule.specs.Places.{CALL_CREDIT};
+ghost use Rattle.word_rule.specs.Callers.{IsIdle};
+ghost use Rattle.word_rule.specs.CallerData.{due, surplus};
+ghost use Rattle.tree_descent.specs.Paths.{HoldsNothing};
+ghost use Rattle.tree_descent.specs.Updates.{GivesUp};
 ghost use Rattle.btree_change.specs.Insertion.{AnswersInsertion, Inserts};
-ghost use Rattle.btree_change.specs.Paths.{HoldsNothing};
-ghost use Rattle.btree_change.specs.Updates.{GivesUp};
 
-use crate::by_sight::{Request, hold_by_sight};
-use crate::descent::at_root;
 use crate::root::at_held_root;
-use crate::stand::{Room, Stand};
+use crate::stand::Stand;
 use crate::walk::below;
+use node_split::Room;
 use node_store::{Busy, Locking, Waiting};
 use reg_model::{Inserted, Member};
 use std::sync::Wait;
+use tree_descent::{Request, at_root, hold_by_sight};
 use word_rule::{Caller, Words};
 
 /// Registers a member, for an update call that was begun: Done with the next number; Overlap with

@@ -4,9 +4,9 @@ ghost use Rattle.word_rule.specs.CallerData.{surplus};
 ghost use Rattle.word_rule.specs.declared.log.Holding.{Holding};
 ghost use Rattle.btree_change.specs.Kept.{HoldsPath, LeavesBelow, PopsLowest, as_changed};
 
-use crate::descent::let_go_of;
 use node_store::Locking;
 use std::marker::Model;
+use tree_descent::let_go_of;
 use word_rule::{Caller, Words};
 
 /// A node that is kept, and whether a word was stored under its lock.

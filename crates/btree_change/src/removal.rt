@@ -1,28 +1,26 @@
 //! The removal of the member that begins at an address.
-ghost use Rattle.std.specs.Prelude.{◌≡◌, ◌≤◌, ◌<◌, ◌+◌, ◌||◌, ◌≢◌, true, false};
-ghost use Rattle.std.specs.Prelude.{IsTrue, IfOk, IfErr, length};
+ghost use Rattle.std.specs.Prelude.{◌≡◌, ◌≤◌, ◌<◌, ◌+◌, ◌||◌, ◌≢◌, true, false, IsTrue, IfOk};
+ghost use Rattle.std.specs.Prelude.{IfErr, length};
 ghost use Rattle.tree_shape.specs.Changes.{Fit, Overfill};
 ghost use Rattle.tree_laws.specs.Lawful.{IsFilled, IsOrdered};
 ghost use Rattle.tree_shape.specs.NodeData.{IsInFences, IsInner, pairs_of};
-ghost use Rattle.version_locks.specs.Locking.{FoundBusy};
-ghost use Rattle.btree_change.specs.Siblings.{HoldsSiblings, IsInEither, SameKind, is_small_body};
 ghost use Rattle.word_rule.specs.CallerData.{due, surplus};
 ghost use Rattle.word_rule.specs.Callers.{IsIdle};
 ghost use Rattle.word_rule.specs.Places.{CALL_CREDIT};
-ghost use Rattle.btree_change.specs.Paths.{HoldsLeftOver, HoldsNothing, StepsOnNodes};
-ghost use Rattle.btree_change.specs.Releases.{Spends};
+ghost use Rattle.version_locks.specs.Locking.{FoundBusy};
+ghost use Rattle.tree_descent.specs.Paths.{HoldsLeftOver, HoldsNothing, StepsOnNodes};
+ghost use Rattle.tree_descent.specs.Releases.{Spends};
+ghost use Rattle.tree_descent.specs.Removing.{HoldsOnWay, IsSpare};
+ghost use Rattle.tree_descent.specs.Updates.{GivesUp};
+ghost use Rattle.node_mend.specs.Siblings.{HoldsSiblings, IsInEither, SameKind, is_small_body};
 ghost use Rattle.btree_change.specs.Removal.{AnswersRemoval, Removes};
-ghost use Rattle.btree_change.specs.Removing.{HoldsOnWay, IsSpare};
-ghost use Rattle.btree_change.specs.Updates.{GivesUp};
 
-use crate::by_sight::{Request, hold_by_sight};
-use crate::descent::{Held, at_root, let_go_of};
-use crate::leaf_removal::{not_found, take_in_leaf};
-use crate::mending::{join, share, sink};
-use crate::sibling::{Siblings, is_leaf, is_small, pair_count, take_child, take_sibling};
+use leaf_change::{not_found, take_in_leaf};
+use node_mend::{Siblings, is_leaf, is_small, join, pair_count, share, sink, take_sibling};
 use node_store::{Busy, Locking, Waiting, begun_in};
 use reg_model::Removed;
 use std::sync::Wait;
+use tree_descent::{Held, Request, at_root, hold_by_sight, let_go_of, take_child};
 use tree_shape::{ENTRIES, PAIRS};
 use word_rule::{Caller, Words};
 

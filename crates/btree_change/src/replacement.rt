@@ -1,23 +1,21 @@
 //! The replacement of the member that has a whole span.
-ghost use Rattle.std.specs.Prelude.{◌≡◌, ◌≤◌, ◌<◌, ◌+◌, true, false, IfOk, IfErr};
+ghost use Rattle.std.specs.Prelude.{◌≡◌, ◌≤◌, ◌<◌, true, false, IfOk, IfErr};
 ghost use Rattle.tree_shape.specs.NodeData.{IsInFences};
-ghost use Rattle.version_locks.specs.Locking.{FoundBusy};
 ghost use Rattle.word_rule.specs.CallerData.{due, surplus};
 ghost use Rattle.word_rule.specs.Callers.{IsIdle};
 ghost use Rattle.word_rule.specs.Places.{CALL_CREDIT};
-ghost use Rattle.btree_change.specs.Paths.{HoldsLeftOver, HoldsNothing, StepsOnNodes};
-ghost use Rattle.btree_change.specs.Releases.{Spends};
-ghost use Rattle.btree_change.specs.Removing.{HoldsAlone};
+ghost use Rattle.version_locks.specs.Locking.{FoundBusy};
+ghost use Rattle.tree_descent.specs.Paths.{HoldsLeftOver, HoldsNothing, StepsOnNodes};
+ghost use Rattle.tree_descent.specs.Releases.{Spends};
+ghost use Rattle.tree_descent.specs.Removing.{HoldsAlone};
+ghost use Rattle.tree_descent.specs.Updates.{GivesUp};
 ghost use Rattle.btree_change.specs.Replacement.{AnswersReplacement, MakesReplacement};
-ghost use Rattle.btree_change.specs.Updates.{GivesUp};
 
-use crate::by_sight::{Request, hold_by_sight};
-use crate::descent::{Held, at_root, let_go_of};
-use crate::replacing::{entry_with, none_with, replace_in_leaf};
-use crate::sibling::take_child;
+use leaf_change::{entry_with, none_with, replace_in_leaf};
 use node_store::{Busy, Locking, Waiting};
 use reg_model::{Member, Replaced};
 use std::sync::Wait;
+use tree_descent::{Held, Request, at_root, hold_by_sight, let_go_of, take_child};
 use word_rule::{Caller, Words};
 
 /// The node at which a replacement begins, held alone. Nothing above a leaf changes, so by sight

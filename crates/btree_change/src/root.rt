@@ -1,17 +1,18 @@
 //! An insertion at the root, which is lifted where it is full.
-ghost use Rattle.std.specs.Prelude.{◌≡◌, ◌-◌, ◌^◌, ◌<◌, None};
-ghost use Rattle.btree_change.specs.Below.{CALL_CREDIT, IsSpan};
-ghost use Rattle.btree_change.specs.Insertion.{MayPut};
+ghost use Rattle.std.specs.Prelude.{◌≡◌, ◌-◌, ◌^◌, None};
+ghost use Rattle.reg_model.specs.SpanData.{IsSpan};
+ghost use Rattle.word_rule.specs.Places.{CALL_CREDIT};
+ghost use Rattle.tree_descent.specs.Stands.{HoldsRoot};
+ghost use Rattle.leaf_change.specs.Insertion.{MayPut};
+ghost use Rattle.node_split.specs.Splits.{HoldsFullRoot};
 ghost use Rattle.btree_change.specs.Roots.{EndsPart};
-ghost use Rattle.btree_change.specs.Splits.{HoldsFullRoot};
-ghost use Rattle.btree_change.specs.Stands.{HoldsRoot};
 
-use crate::descent::{Held, let_go_of};
-use crate::lift::{FullRoot, lift, room_for_root};
-use crate::stand::{Room, Stand, is_full, stand_below};
+use crate::stand::{Stand, is_full, stand_below};
 use crate::walk::below;
+use node_split::{FullRoot, Room, lift, room_for_root};
 use node_store::{Busy, Locking};
 use reg_model::{Inserted, Member};
+use tree_descent::{Held, let_go_of};
 use word_rule::{Caller, Words};
 
 /// Lifts the full root, and answers an insertion below it.

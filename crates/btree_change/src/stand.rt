@@ -2,8 +2,8 @@
 //!
 //! Parent and child are held together. A node above is let go of as soon as the child can neither
 //! split under it nor end at a fence that moves in it.
-ghost use Rattle.std.specs.Prelude.{◌≡◌, ◌<◌, ◌≤◌, ◌+◌, ◌-◌, true, [], ◌∷◌, drop, length};
-ghost use Rattle.std.specs.Prelude.{List, IfOk, IfErr, MatchBool, None, Some};
+ghost use Rattle.std.specs.Prelude.{◌≡◌, ◌<◌, ◌≤◌, ◌+◌, ◌-◌, true, [], ◌∷◌, drop, length, List};
+ghost use Rattle.std.specs.Prelude.{IfOk, IfErr, MatchBool, None, Some};
 ghost use Rattle.tree_shape.specs.NodeData.{IsInFences, IsInner, InOrder};
 ghost use Rattle.tree_shape.specs.declared.limits.TheConstants.{HIGHEST_LEVEL};
 ghost use Rattle.tree_shape.specs.declared.pair.Pair.{Pair};
@@ -13,31 +13,24 @@ ghost use Rattle.word_rule.specs.CallerData.{surplus};
 ghost use Rattle.word_rule.specs.declared.log.Holding.{Holding};
 ghost use Rattle.node_store.specs.Holding.{SpellsHeld};
 ghost use Rattle.node_store.specs.Outlines.{OnlyLoads};
-ghost use Rattle.btree_change.specs.Kept.{HoldsPath, LeavesBelow};
-ghost use Rattle.btree_change.specs.Paths.{StepsOnNodes};
 ghost use Rattle.version_locks.specs.Locking.{FoundBusy};
-ghost use Rattle.btree_change.specs.Releases.{Spends};
+ghost use Rattle.tree_descent.specs.Paths.{StepsOnNodes};
+ghost use Rattle.tree_descent.specs.Releases.{Spends};
+ghost use Rattle.tree_descent.specs.Stands.{HasSpace, HoldsPair, StandsAt};
+ghost use Rattle.btree_change.specs.Kept.{HoldsPath, LeavesBelow};
 ghost use Rattle.btree_change.specs.Roots.{GivesUpWhole};
-ghost use Rattle.btree_change.specs.Splits.{HasSpace};
-ghost use Rattle.btree_change.specs.Stands.{GoesTo, HasSplit, HasWayOn, HoldsPair, HoldsStep};
-ghost use Rattle.btree_change.specs.Stands.{IsPairFor, IsReach, Reaches, StandsAt, StandsOnWay};
-ghost use Rattle.btree_change.specs.Stands.{kept_above, kept_node, kept_too, releases_from};
+ghost use Rattle.btree_change.specs.Stands.{GoesTo, HasSplit, HasWayOn, HoldsStep, IsPairFor};
+ghost use Rattle.btree_change.specs.Stands.{IsReach, Reaches, StandsOnWay, kept_above, kept_node};
+ghost use Rattle.btree_change.specs.Stands.{kept_too, releases_from};
 
-use crate::descent::{Held, child_for, let_go_of, take_node};
 use crate::path::{KeptNode, Path, let_go_of_path};
-use crate::split::{FullChild, room_for, split_child};
+use node_split::{Coupled, FullChild, Room, room_for, split_child};
 use node_store::{Busy, Locking, high_of, outline_of, slot_of};
 use reg_model::Member;
+use tree_descent::{Held, child_for, let_go_of, take_node};
 use tree_shape::{ENTRIES, PAIRS};
 use word_rule::places::LEVEL;
 use word_rule::{Caller, Words};
-
-/// Whether full nodes are split on the way down, or none was free for that.
-#[derive(Clone, Copy, Debug, PartialEq, Eq)]
-pub(crate) enum Room {
-    Splitting,
-    NoneFree,
-}
 
 /// The node above both leaves of a span that ends beyond the fences of a node, and its slot on the
 /// way.
@@ -59,21 +52,13 @@ pub(crate) struct Stand {
 
 /// How far a span reaches that begins in a child of a node.
 #[derive(Clone, Copy, Debug, PartialEq, Eq)]
-pub(crate) enum Reach {
+pub(crate) enum SpanEnd {
     /// It ends in the child.
     Child,
     /// It ends in another child of the node, and the slot of the first one is not the last.
     Parent { slot: usize },
     /// It ends beyond the node, of which the child is the last.
     Above,
-}
-
-/// A node that is held under its parent.
-#[derive(Drop)]
-pub(crate) struct Step {
-    pub(crate) parent: Held,
-    pub(crate) child: Held,
-    pub(crate) room: Room,
 }
 
 /// Whether a node is full.
@@ -125,9 +110,9 @@ fn split_full<L: Locking>(
     locking: &L,
     words: &Words,
     me: &mut Caller,
-    step: Step,
+    step: Coupled,
     pc: u64,
-) -> Result<Step, Busy>
+) -> Result<Coupled, Busy>
     requires table { me.old.table ≡ words.now.table }
     requires terms { me.old.log.terms ≡ words.now.terms }
     requires pair { HoldsPair words.now.terms pc step.parent step.child
@@ -146,7 +131,7 @@ fn split_full<L: Locking>(
     if !is_full(&step.child) {
         return Ok(step);
     }
-    let Step { parent, child, .. } = step;
+    let Coupled { parent, child, .. } = step;
     match room_for(locking, words, me, &child, pc) {
         Err(busy) => {
             // By this load it is known of which tree the nodes are.
@@ -154,7 +139,7 @@ fn split_full<L: Locking>(
             let_go_of(locking, words, me, child.node, child.changed);
             Err(busy)
         }
-        Ok(None) => Ok(Step {
+        Ok(None) => Ok(Coupled {
             parent,
             child,
             room: Room::NoneFree,
@@ -175,9 +160,9 @@ fn split_if_full<L: Locking>(
     locking: &L,
     words: &Words,
     me: &mut Caller,
-    step: Step,
+    step: Coupled,
     pc: u64,
-) -> Result<Step, Busy>
+) -> Result<Coupled, Busy>
     requires table { me.old.table ≡ words.now.table }
     requires terms { me.old.log.terms ≡ words.now.terms }
     requires step { HoldsStep words.now.terms pc step (drop 2 me.old.log.holdings.held)
@@ -198,7 +183,7 @@ fn split_if_full<L: Locking>(
 }
 
 /// How far a span reaches that begins in the child of a step, seen from its parent.
-fn reach_of(words: &Words, me: &mut Caller, member: &Member, step: &Step) -> Reach
+fn reach_of(words: &Words, me: &mut Caller, member: &Member, step: &Coupled) -> SpanEnd
     requires table { me.old.table ≡ words.now.table }
     requires above { step.now.parent.node < words.now.terms.nodes }
     requires below { step.now.child.node < words.now.terms.nodes }
@@ -215,13 +200,13 @@ fn reach_of(words: &Words, me: &mut Caller, member: &Member, step: &Step) -> Rea
 {
     let (parent, child) = (&step.parent, &step.child);
     if member.span.last() <= high_of(words, me, child.node, &child.content) {
-        return Reach::Child;
+        return SpanEnd::Child;
     }
     let slot = slot_of(words, me, parent.node, &parent.content, member.span.first());
     if slot as u64 + 1 < parent.content.count() {
-        Reach::Parent { slot }
+        SpanEnd::Parent { slot }
     } else {
-        Reach::Above
+        SpanEnd::Above
     }
 }
 
@@ -296,7 +281,7 @@ pub(crate) fn stand_below<L: Locking>(
     words: &Words,
     me: &mut Caller,
     member: &Member,
-    step: Step,
+    step: Coupled,
     so_far: Option<Beyond>,
 ) -> Stand
     requires table { me.old.table ≡ words.now.table }
@@ -320,13 +305,13 @@ pub(crate) fn stand_below<L: Locking>(
     // By this load it is known of which tree both nodes are.
     words.load_node(me, step.child.node, LEVEL);
     let reach = reach_of(words, me, member, &step);
-    let Step {
+    let Coupled {
         parent,
         child,
         room,
     } = step;
     match reach {
-        Reach::Child => {
+        SpanEnd::Child => {
             let_go_of(locking, words, me, parent.node, parent.changed);
             Stand {
                 at: child,
@@ -334,7 +319,7 @@ pub(crate) fn stand_below<L: Locking>(
                 room,
             }
         }
-        Reach::Parent { slot } => {
+        SpanEnd::Parent { slot } => {
             let_go_of_kept(locking, words, me, so_far);
             Stand {
                 at: child,
@@ -342,7 +327,7 @@ pub(crate) fn stand_below<L: Locking>(
                 room,
             }
         }
-        Reach::Above => Stand {
+        SpanEnd::Above => Stand {
             at: child,
             beyond: keep_too(&parent, so_far),
             room,
@@ -380,7 +365,7 @@ pub(crate) fn go_below<L: Locking>(
             return Err(busy);
         }
     };
-    let step = Step {
+    let step = Coupled {
         parent: at,
         child,
         room,

@@ -1,16 +1,20 @@
 //! The way of an insertion from where it stands down to its leaf, and its answer there.
-ghost use Rattle.std.specs.Prelude.{◌≡◌, ◌<◌, ◌≤◌, None, length};
-ghost use Rattle.btree_change.specs.Below.{IsFree, IsSpan, entries_of, place_for};
-ghost use Rattle.btree_change.specs.Insertion.{IfFull, MayPut};
-ghost use Rattle.btree_change.specs.Roots.{EndsInsertion, EndsPart};
+ghost use Rattle.std.specs.Prelude.{◌≡◌, ◌≤◌, None, length};
+ghost use Rattle.reg_model.specs.State.{IsFree};
+ghost use Rattle.reg_model.specs.SpanData.{IsSpan};
+ghost use Rattle.tree_shape.specs.NodeData.{entries_of, place_for};
+ghost use Rattle.tree_descent.specs.Insertion.{IfFull};
+ghost use Rattle.leaf_change.specs.Insertion.{MayPut, EndsInsertion};
+ghost use Rattle.btree_change.specs.Roots.{EndsPart};
 ghost use Rattle.btree_change.specs.Stands.{HasCause, StandsOnWay, releases_from};
 
 use crate::beyond::{Far, beyond_leaf};
-use crate::descent::{Held, let_go_of};
-use crate::leaf::{put_in_held, refused, say_full};
-use crate::stand::{Room, Stand, go_below, kept, let_go_of_all};
+use crate::stand::{Stand, go_below, kept, let_go_of_all};
+use leaf_change::{put_in_held, refused, say_full};
+use node_split::Room;
 use node_store::{Busy, Locking, Placed, begun_in};
 use reg_model::{Inserted, Member};
+use tree_descent::{Held, let_go_of};
 use word_rule::{Caller, Words};
 
 /// Puts a member into its leaf, in which nothing overlaps it and whose fences hold its span, or

@@ -14,8 +14,8 @@ use Rattle.word_rule.specs.CallerData.{CallerData, WordsData, due, surplus}
 use Rattle.word_rule.specs.Places.{CALL_CREDIT}
 use Rattle.word_rule.specs.declared.log.Terms.{Terms}
 use Rattle.reg_model.specs.declared.span.Member.{Member}
-use Rattle.btree_change.specs.Paths.{IsLeftOut}
-use Rattle.btree_change.specs.Updates.{GivesUp}
+use Rattle.tree_descent.specs.Paths.{IsLeftOut}
+use Rattle.tree_descent.specs.Updates.{GivesUp}
 use Rattle.version_locks.specs.declared.locking.Busy.{Busy}
 use Rattle.version_locks.specs.declared.locking.Busy.TheVariants as busy
 use Rattle.word_rule.specs.Callers.{IsIdle}

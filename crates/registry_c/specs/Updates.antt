@@ -4,7 +4,7 @@ use Rattle.array_publish.specs.Update.{TellsLoad, TellsUnload}
 use Rattle.btree_change.specs.Insertion.{AnswersInsertion}
 use Rattle.btree_change.specs.Removal.{AnswersRemoval}
 use Rattle.btree_change.specs.Replacement.{AnswersReplacement}
-use Rattle.btree_change.specs.Updates.{GivesUp}
+use Rattle.tree_descent.specs.Updates.{GivesUp}
 use Rattle.version_locks.specs.Locking.{IsBusyAt}
 use Rattle.word_rule.specs.declared.log.LockId.TheVariants as lock
 use Rattle.reg_model.specs.declared.answer.Inserted.{Inserted}

@@ -2,8 +2,8 @@
 use Rattle.std.proofs.Common.{◌≡◌, ◌<◌, ◌≤◌, ◌∙◌, arith, Bool, true, Result, Ok, Err, IfOk, IfErr}
 use Rattle.array_publish.specs.Update.{TellsLoad}
 use Rattle.btree_change.specs.Insertion.{AnswersInsertion, TriesInsertion}
-use Rattle.btree_change.specs.Paths.{HoldsNothing}
-use Rattle.btree_change.specs.Updates.{GivesUp}
+use Rattle.tree_descent.specs.Paths.{HoldsNothing}
+use Rattle.tree_descent.specs.Updates.{GivesUp}
 use Rattle.version_locks.specs.Locking.{UnlessLost}
 use Rattle.version_locks.specs.declared.locking.Busy.{Busy}
 use Rattle.version_locks.specs.declared.locking.Busy.TheVariants as busy

@@ -18,7 +18,7 @@ use Rattle.word_rule.specs.declared.log.Terms.{Terms}
 use Rattle.btree_change.specs.Insertion.{Inserts, call_begun}
 use Rattle.btree_change.specs.Removal.{Removes}
 use Rattle.btree_change.specs.Replacement.{MakesReplacement}
-use Rattle.btree_change.specs.Updates.{AnswersUpdate}
+use Rattle.tree_descent.specs.Updates.{AnswersUpdate}
 use Rattle.word_rule.proofs.ObservationsFrame.{longer_length}
 use Rattle.registry_core.specs.Calls.{Answered, is_of_update, receipts_of_call}
 use Rattle.word_rule.proofs.Joins.{prefix_both}

@@ -1,7 +1,7 @@
 -- What a try of an update that was begun makes of its caller.
 use Rattle.std.specs.Prelude.{◌≡◌, ℕ, ◌<◌, ◌≤◌, Bool, true, Result, IfErr, OnErr, OnOk}
 use Rattle.array_publish.specs.Update.{IsFreeAgain, TellsLoad, TellsUnload}
-use Rattle.btree_change.specs.Updates.{GivesUp}
+use Rattle.tree_descent.specs.Updates.{GivesUp}
 use Rattle.version_locks.specs.Locking.{IsBusyAt, UnlessLost}
 use Rattle.version_locks.specs.declared.locking.Busy.{Busy}
 use Rattle.reg_model.specs.declared.answer.Loading.{Loading}

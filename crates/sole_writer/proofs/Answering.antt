@@ -6,11 +6,12 @@ use Rattle.std.specs.Result.{IfOk, IfErr, is_err}
 use Rattle.std.proofs.lemmas.List.Elements.{All-cons, All-nil}
 use mathlib.Core.List.{IsPrefix}
 use Rattle.array_publish.specs.Update.{CallsWith, IsRightLoad, IsRightUnload, TellsLoad, TellsUnload, is_loaded, is_unloaded, one_if}
-use Rattle.btree_change.specs.Insertion.{IfFull, TriesInsertion}
-use Rattle.btree_change.specs.Loads.{FoundNoRoom}
+use Rattle.btree_change.specs.Insertion.{TriesInsertion}
+use Rattle.tree_descent.specs.Insertion.{IfFull}
+use Rattle.tree_descent.specs.Loads.{FoundNoRoom}
 use Rattle.btree_change.specs.Removal.{TriesRemoval}
-use Rattle.btree_change.specs.Updates.{AnswersUpdate, GivesUp}
-use Rattle.btree_change.proofs.NodeSteps.{calls_so}
+use Rattle.tree_descent.specs.Updates.{AnswersUpdate, GivesUp}
+use Rattle.tree_descent.proofs.NodeSteps.{calls_so}
 use Rattle.version_locks.specs.Locking.{IsBusyAt}
 use Rattle.version_locks.specs.declared.locking.Busy.{Busy}
 use Rattle.version_locks.specs.declared.locking.Busy.TheVariants as busy

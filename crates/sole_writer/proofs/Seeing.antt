@@ -4,7 +4,7 @@ use Rattle.std.specs.List.{All}
 use Rattle.std.specs.Option.{option_to_list}
 use Rattle.std.proofs.lemmas.List.Elements.{All-append, All-filter, All-push, All-head, All-tail, All-nil}
 use mathlib.Core.List.{IsPrefix}
-use Rattle.btree_change.specs.Updates.{AnswersUpdate}
+use Rattle.tree_descent.specs.Updates.{AnswersUpdate}
 use Rattle.reg_model.specs.History.{Fits, IsHistory, after, state_after}
 use Rattle.reg_model.specs.PlainRegistryData.{Step}
 use Rattle.reg_model.specs.Receipt.{IsRight, accepted, made, moment}

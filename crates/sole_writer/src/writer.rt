@@ -3,8 +3,8 @@
 ghost use Rattle.std.specs.Prelude.{◌≡◌, ◌<◌, ◌≤◌, ◌+◌, ◌-◌, ◌↔◌, IfOk, IfErr, IsTrue, All, true};
 ghost use Rattle.std.specs.Prelude.{false, []};
 ghost use Rattle.std.specs.Arc.{arc_value};
-ghost use Rattle.btree_change.specs.Insertion.{IfFull};
-ghost use Rattle.btree_change.specs.Loads.{FoundNoRoom};
+ghost use Rattle.tree_descent.specs.Insertion.{IfFull};
+ghost use Rattle.tree_descent.specs.Loads.{FoundNoRoom};
 ghost use Rattle.reg_model.specs.State.{IsLawful};
 ghost use Rattle.reg_model.specs.SpanData.{IsSpan};
 ghost use Rattle.reg_model.specs.declared.answer.Receipt.TheVariants as receipt;

@@ -1,7 +1,8 @@
 use Rattle.std.proofs.Common.{arith}
+use Rattle.tree_descent.proofs.Spending.{spends_same}
 use Rattle.btree_change.proofs.AtRoot.{ends_after}
 use Rattle.btree_change.proofs.FarLeaves.{is_ready, next_spelled, next_within, refused_ends, refused_holds, refused_surplus}
-use Rattle.btree_change.proofs.Spending.{may_still, spends_same}
+use Rattle.btree_change.proofs.Spending.{may_still}
 use Rattle.btree_change.proofs.NoRoom.{cause_still, if_full}
 use Rattle.btree_change.specs.Far.{releases_far}
 use Rattle.btree_change.proofs.beyond.at_next.Goals as goal

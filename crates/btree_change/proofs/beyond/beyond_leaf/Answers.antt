@@ -1,10 +1,11 @@
 use Rattle.std.proofs.Common.{ap, arith, sym, subst, length, ◌+◌, ◌∷◌, []}
+use Rattle.tree_descent.proofs.Loading.{found_still}
+use Rattle.tree_descent.proofs.Spending.{spends_same, surplus_steps}
 use Rattle.btree_change.specs.Kept.{HoldsPath}
 use Rattle.btree_change.proofs.AtRoot.{ends_after}
 use Rattle.btree_change.proofs.FarLeaves.{at_next_so, busy_kept, gives_up, way_here}
-use Rattle.btree_change.proofs.Loading.{found_still}
 use Rattle.btree_change.proofs.NoRoom.{cause_after, if_full}
-use Rattle.btree_change.proofs.Spending.{may_still, spends_same, surplus_steps}
+use Rattle.btree_change.proofs.Spending.{may_still}
 use Rattle.btree_change.specs.Far.{releases_far}
 use Rattle.btree_change.proofs.beyond.beyond_leaf.Goals as goal
 

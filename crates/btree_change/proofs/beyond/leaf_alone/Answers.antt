@@ -1,5 +1,5 @@
-use Rattle.btree_change.proofs.FarLeaves.{alone_so, alone_spends, outline_is, left_path, may_outline, moved_over, moved_surplus}
 use Rattle.std.proofs.Common.{◌∙◌}
+use Rattle.btree_change.proofs.FarLeaves.{alone_so, alone_spends, outline_is, left_path, may_outline, moved_over, moved_surplus}
 use Rattle.btree_change.proofs.beyond.leaf_alone.Goals as goal
 
 pub let_go_of_path-requires-clause-path : goal.let_go_of_path-requires-clause-path

@@ -1,10 +1,11 @@
 use Rattle.std.proofs.Common.{subst, sym, ◌∙◌}
-use Rattle.btree_change.specs.Spines.{HoldsLeafPair}
+use Rattle.tree_descent.proofs.Loading.{keeps_then}
+use Rattle.tree_descent.proofs.Refusing.{refused_after}
+use Rattle.fence_move.specs.Spines.{HoldsLeafPair}
 use Rattle.btree_change.specs.Stands.{HasCause}
 use Rattle.btree_change.proofs.FarLeaves.{shows_full_next}
-use Rattle.btree_change.proofs.Loading.{keeps_then}
 use Rattle.btree_change.proofs.NoRoom.{any_full, if_full}
-use Rattle.btree_change.proofs.Preceding.{refused_after, still_no_room}
+use Rattle.btree_change.proofs.Preceding.{still_no_room}
 use Rattle.btree_change.proofs.beyond.refused_far.Goals as goal
 
 pub say_full-requires-clause-table : goal.say_full-requires-clause-table

@@ -1,16 +1,17 @@
 use Rattle.std.proofs.Common.{◌+◌, ◌*◌, ◌≤◌, arith, ◌∙◌}
 use Rattle.std.proofs.lemmas.Result.{err_from_is_err_and}
-use Rattle.btree_change.specs.BySight.{HoldsFor}
+use Rattle.word_rule.specs.Places.{CALL_CREDIT}
+use Rattle.tree_descent.specs.BySight.{HoldsFor}
+use Rattle.tree_descent.proofs.Loading.{found_after}
+use Rattle.tree_descent.proofs.Spending.{spends_all, spends_same}
+use Rattle.tree_descent.proofs.NodeSteps.{steps_then, still_idle}
 use Rattle.btree_change.specs.Roots.{EndsPart}
-use Rattle.btree_change.specs.declared.by_sight.Request.TheVariants as request
-use Rattle.btree_change.specs.declared.stand.Room.TheVariants as room
 use Rattle.btree_change.proofs.AtRoot.{answered_so, ends_part, given_up_so, root_busy}
 use Rattle.btree_change.proofs.BySights.{seen_for, seen_stand}
-use Rattle.btree_change.proofs.Loading.{found_after}
-use Rattle.btree_change.proofs.Spending.{may_still, spends_all, spends_same}
-use Rattle.btree_change.proofs.NodeSteps.{steps_then, still_idle}
-use Rattle.word_rule.specs.Places.{CALL_CREDIT}
+use Rattle.btree_change.proofs.Spending.{may_still}
 use Rattle.btree_change.proofs.insertion.insert_by.Goals.{After-below, In-Some}
+use Rattle.tree_descent.specs.declared.by_sight.Request.TheVariants as request
+use Rattle.node_split.specs.declared.split.Room.TheVariants as room
 use Rattle.btree_change.proofs.insertion.insert_by.Goals as goal
 
 -- the node that was locked by sight is held for the span

@@ -1,7 +1,7 @@
 use Rattle.std.proofs.Common.{◌-◌, ◌∙◌, length, ap, arith, refl, subst}
+use Rattle.tree_descent.proofs.Spending.{more_spent, steps_after}
 use Rattle.btree_change.specs.Kept.{HoldsPath}
 use Rattle.btree_change.proofs.KeptPaths.{kept_gone, kept_may, kept_within, none_kept}
-use Rattle.btree_change.proofs.Spending.{more_spent, steps_after}
 use Rattle.btree_change.proofs.path.let_go_of_path.Goals as goal
 
 pub let_go_of-requires-clause-inside : goal.let_go_of-requires-clause-inside

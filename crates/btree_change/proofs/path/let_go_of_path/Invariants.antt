@@ -1,7 +1,7 @@
 use Rattle.std.proofs.Common.{◌≡◌, ◌-◌, ◌≤◌, List, length}
 use Rattle.word_rule.specs.declared.log.Holding.{Holding}
+use Rattle.tree_descent.specs.Releases.{Spends}
 use Rattle.btree_change.specs.Kept.{HoldsPath}
-use Rattle.btree_change.specs.Releases.{Spends}
 use Rattle.btree_change.proofs.path.let_go_of_path.Given as goal
 
 abbrev pub invariant-loop-kept : goal.invariant-loop-kept

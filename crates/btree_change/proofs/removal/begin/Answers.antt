@@ -1,13 +1,13 @@
 use Rattle.std.proofs.Common.{◌≤◌, arith}
-use Rattle.btree_change.specs.Removing.{HoldsOnWay}
-use Rattle.btree_change.specs.Stands.{HoldsRoot}
-use Rattle.btree_change.specs.declared.descent.Held.{Held}
+use Rattle.tree_descent.specs.Removing.{HoldsOnWay}
+use Rattle.tree_descent.specs.Stands.{HoldsRoot}
+use Rattle.tree_descent.specs.declared.descent.Held.{Held}
+use Rattle.tree_descent.proofs.Loading.{if_found_after}
+use Rattle.tree_descent.proofs.NodeSteps.{steps_then, still_idle}
+use Rattle.node_mend.proofs.Joining.{spare_of}
 use Rattle.btree_change.proofs.AtRoot.{if_ok}
-use Rattle.btree_change.proofs.Joining.{spare_of}
-use Rattle.btree_change.proofs.Loading.{if_found_after}
 use Rattle.btree_change.proofs.RemovalAnswers.{root_spare}
 use Rattle.btree_change.proofs.Rooted.{root_alone, root_has, root_low}
-use Rattle.btree_change.proofs.NodeSteps.{steps_then, still_idle}
 use Rattle.btree_change.proofs.removal.begin.Goals as goal
 
 pub returns-in-Some-clause-ok : goal.returns-in-Some-clause-ok

@@ -1,6 +1,6 @@
 use Rattle.std.proofs.Common.{◌+◌, ◌-◌, arith}
-use Rattle.btree_change.proofs.Loading.{found_after}
-use Rattle.btree_change.proofs.Spending.{more_spent, spends_same}
+use Rattle.tree_descent.proofs.Loading.{found_after}
+use Rattle.tree_descent.proofs.Spending.{more_spent, spends_same}
 use Rattle.btree_change.proofs.removal.leaf_for.Goals as goal
 
 pub loop-me-init : goal.loop-me-init

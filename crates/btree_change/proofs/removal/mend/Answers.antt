@@ -1,11 +1,10 @@
 use Rattle.std.proofs.Common.{sym, subst, true, IfErr}
-use Rattle.version_locks.specs.Locking.{FoundBusy}
 use Rattle.tree_shape.specs.NodeData.{IsInFences}
-use Rattle.btree_change.specs.Releases.{Spends}
-use Rattle.btree_change.proofs.Releases.{under_left, under_may}
-use Rattle.btree_change.proofs.RemovalAnswers.{left_cause, left_spends}
-use Rattle.btree_change.proofs.removal.mend.Goals as goal
+use Rattle.version_locks.specs.Locking.{FoundBusy}
+use Rattle.tree_descent.specs.Releases.{Spends}
+use Rattle.btree_change.proofs.RemovalAnswers.{under_left, under_may, left_cause, left_spends}
 use Rattle.btree_change.proofs.removal.mend.Goals.{in-Ok, in-Err}
+use Rattle.btree_change.proofs.removal.mend.Goals as goal
 
 pub let_go_of-requires-clause-may : goal.let_go_of-requires-clause-may
 let_go_of-requires-clause-may g c = under_may c.args.words.now.terms c.args.x.above.node true c.share-below.result c.share-below.new.me.log.holdings c.share-below.ensures.mends.holds

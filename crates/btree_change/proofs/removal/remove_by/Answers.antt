@@ -1,10 +1,10 @@
 use Rattle.std.proofs.Common.{◌∙◌, ap, sym, subst, true}
 use Rattle.word_rule.specs.CallerData.{CallerData}
 use Rattle.word_rule.specs.declared.log.Holdings.{Holdings}
-use Rattle.btree_change.specs.Paths.{HoldsNothing}
-use Rattle.btree_change.specs.Removing.{HoldsLock}
-use Rattle.btree_change.proofs.Outlining.{steps_of_loads}
-use Rattle.btree_change.proofs.Releases.{alone_lock, lock_gone, lock_may}
+use Rattle.tree_descent.specs.Paths.{HoldsNothing}
+use Rattle.tree_descent.specs.Removing.{HoldsLock}
+use Rattle.tree_descent.proofs.Outlining.{steps_of_loads}
+use Rattle.tree_descent.proofs.Releases.{alone_lock, lock_gone, lock_may}
 use Rattle.btree_change.proofs.RemovalAnswers.{done_so, read_spends, refusal_so, surplus_refused, surplus_taken}
 use Rattle.btree_change.proofs.removal.remove_by.Goals as goal
 

@@ -1,12 +1,12 @@
 use Rattle.std.proofs.Common.{◌∙◌, ap, sym, arith}
-use Rattle.btree_change.specs.Releases.{Spends}
-use Rattle.btree_change.specs.declared.descent.Held.{Held}
-use Rattle.btree_change.proofs.AtRoot.{if_err, if_ok}
-use Rattle.btree_change.proofs.HeldOutlines.{ordered_of}
-use Rattle.btree_change.proofs.Loading.{if_found_after, found_after, keeps_then, nothing_left}
-use Rattle.btree_change.proofs.RemovalAnswers.{child_spare, child_under}
-use Rattle.btree_change.proofs.Releases.{under_left, under_may}
-use Rattle.btree_change.proofs.Spending.{steps_after}
+use Rattle.tree_descent.specs.Releases.{Spends}
+use Rattle.tree_descent.specs.declared.descent.Held.{Held}
+use Rattle.tree_descent.proofs.Descents.{if_err}
+use Rattle.tree_descent.proofs.Loading.{if_found_after, found_after, keeps_then, nothing_left}
+use Rattle.tree_descent.proofs.Spending.{steps_after}
+use Rattle.node_mend.proofs.HeldOutlines.{ordered_of}
+use Rattle.btree_change.proofs.AtRoot.{if_ok}
+use Rattle.btree_change.proofs.RemovalAnswers.{child_spare, child_under, under_left, under_may}
 use Rattle.btree_change.proofs.removal.step_down.Goals as goal
 
 pub let_go_of-requires-clause-may : goal.let_go_of-requires-clause-may

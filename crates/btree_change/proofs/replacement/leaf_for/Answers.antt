@@ -1,10 +1,9 @@
 use Rattle.std.proofs.Common.{◌-◌, ◌∙◌, ap, arith}
 use Rattle.std.proofs.lemmas.Result.{err_from_is_err_and}
-use Rattle.btree_change.specs.declared.descent.Held.{Held}
-use Rattle.btree_change.proofs.Loading.{found_after}
-use Rattle.btree_change.proofs.Releases.{under_left, under_may}
-use Rattle.btree_change.proofs.RemovalAnswers.{child_under}
-use Rattle.btree_change.proofs.Spending.{more_spent, spends_same, steps_after}
+use Rattle.tree_descent.specs.declared.descent.Held.{Held}
+use Rattle.tree_descent.proofs.Loading.{found_after}
+use Rattle.tree_descent.proofs.Spending.{more_spent, spends_same, steps_after}
+use Rattle.btree_change.proofs.RemovalAnswers.{under_left, under_may, child_under}
 use Rattle.btree_change.proofs.replacement.leaf_for.Goals as goal
 
 pub loop-me-init : goal.loop-me-init

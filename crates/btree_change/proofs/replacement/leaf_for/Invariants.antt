@@ -1,7 +1,7 @@
 use Rattle.std.proofs.Common.{◌-◌, ◌≤◌}
 use Rattle.tree_shape.specs.NodeData.{IsInFences}
-use Rattle.btree_change.specs.Releases.{Spends}
-use Rattle.btree_change.specs.Removing.{HoldsAlone}
+use Rattle.tree_descent.specs.Releases.{Spends}
+use Rattle.tree_descent.specs.Removing.{HoldsAlone}
 use Rattle.btree_change.proofs.replacement.leaf_for.Given as goal
 
 abbrev pub invariant-loop-me : goal.invariant-loop-me

@@ -1,15 +1,17 @@
 use Rattle.std.proofs.Common.{◌+◌, ◌*◌, arith, subst, sym, ap, ◌∙◌, length, Ok}
 use Rattle.word_rule.specs.TreeRefusals.{HadNoRoom}
-use Rattle.btree_change.specs.declared.stand.Room.TheVariants as room
-use Rattle.btree_change.specs.Loads.{FoundNoRoom}
-use Rattle.btree_change.specs.Splits.{HoldsFullAlone, IsRoomForRoot}
-use Rattle.btree_change.proofs.AtRoot.{ends_part, full_alone, full_root, kept_steps, root_gone, root_filled, root_kept, root_lowest, root_stand, root_stands}
-use Rattle.btree_change.proofs.Loading.{found_still}
-use Rattle.btree_change.proofs.NoRoom.{no_room_after, no_room_now, no_room_still}
-use Rattle.btree_change.proofs.Releasing.{lowest_may}
-use Rattle.btree_change.proofs.Rooted.{root_low}
-use Rattle.btree_change.proofs.Spending.{may_still, own_same, spends_all, spends_same, surplus_steps}
 use Rattle.word_rule.specs.Places.{CALL_CREDIT}
+use Rattle.tree_descent.specs.Loads.{FoundNoRoom}
+use Rattle.tree_descent.proofs.Loading.{found_still}
+use Rattle.tree_descent.proofs.Spending.{spends_all, spends_same, surplus_steps}
+use Rattle.leaf_change.proofs.Releasing.{lowest_may}
+use Rattle.node_split.specs.Splits.{HoldsFullAlone, IsRoomForRoot}
+use Rattle.node_split.proofs.NoRoom.{no_room_after, no_room_still}
+use Rattle.btree_change.proofs.AtRoot.{ends_part, full_alone, full_root, kept_steps, root_gone, root_filled, root_kept, root_lowest, root_stand, root_stands}
+use Rattle.btree_change.proofs.NoRoom.{no_room_now}
+use Rattle.btree_change.proofs.Rooted.{root_low}
+use Rattle.btree_change.proofs.Spending.{may_still, own_same}
+use Rattle.node_split.specs.declared.split.Room.TheVariants as room
 use Rattle.btree_change.proofs.root.at_held_root.Goals as goal
 
 pub is_full-requires-clause-filled : goal.is_full-requires-clause-filled

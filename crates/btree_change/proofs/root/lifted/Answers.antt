@@ -1,13 +1,14 @@
 use Rattle.std.proofs.Common.{◌-◌, ◌≤◌, arith, length, subst, sym, ◌∙◌}
-use Rattle.btree_change.specs.declared.descent.Held.{Held}
-use Rattle.btree_change.specs.Splits.{HoldsFullRoot, LiftsRoot}
+use Rattle.tree_descent.specs.declared.descent.Held.{Held}
+use Rattle.tree_descent.proofs.Spending.{steps_after, surplus_steps}
+use Rattle.node_split.specs.Splits.{HoldsFullRoot, LiftsRoot}
+use Rattle.node_split.proofs.NoRoom.{no_room_after}
 use Rattle.btree_change.specs.Stands.{HasCause, kept_above, releases_from}
 use Rattle.btree_change.proofs.AtRoot.{ends_part, lifted_height, lifted_here, lifted_level, lifted_reach, lifted_steps, lifted_way}
-use Rattle.btree_change.proofs.NoRoom.{no_room_after}
-use Rattle.btree_change.proofs.Spending.{may_still, own_same, steps_after, surplus_steps}
+use Rattle.btree_change.proofs.Spending.{may_still, own_same}
 use Rattle.btree_change.proofs.root.lifted.Goals.{After-lift-step}
 use Rattle.btree_change.proofs.root.lifted.Goals as goal
-use Rattle.btree_change.specs.declared.stand.Room.TheVariants as room
+use Rattle.node_split.specs.declared.split.Room.TheVariants as room
 
 pub lift-step-requires-clause-held : goal.lift-step-requires-clause-held
 lift-step-requires-clause-held g c =

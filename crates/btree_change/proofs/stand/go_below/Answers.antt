@@ -1,11 +1,12 @@
 use Rattle.std.proofs.Common.{◌+◌, ◌∷◌, ◌<◌, [], subst, sym, drop, arith, length, ap, ◌∙◌}
 use Rattle.word_rule.specs.declared.log.Holdings.{Holdings}
+use Rattle.tree_descent.specs.Stands.{HoldsPair}
+use Rattle.tree_descent.proofs.Loading.{found_between, found_still}
+use Rattle.tree_descent.proofs.Spending.{spends_same, steps_after, surplus_steps}
 use Rattle.btree_change.specs.declared.path.KeptNode.{KeptNode}
 use Rattle.btree_change.specs.Kept.{HoldsPath}
-use Rattle.btree_change.specs.Stands.{HasSplit, HoldsPair, HoldsStep, kept_above, kept_node}
+use Rattle.btree_change.specs.Stands.{HasSplit, HoldsStep, kept_above, kept_node}
 use Rattle.btree_change.proofs.Going.{gives_up_all, goes_below, split_here, split_path, split_reaches, step_held}
-use Rattle.btree_change.proofs.Loading.{found_between, found_still}
-use Rattle.btree_change.proofs.Spending.{spends_same, steps_after, surplus_steps}
 use Rattle.btree_change.proofs.Standing.{stand_path}
 use Rattle.btree_change.proofs.stand.go_below.Goals as goal
 

@@ -1,7 +1,7 @@
 use Rattle.std.proofs.Common.{◌+◌, [], arith, length, refl, ◌∙◌}
+use Rattle.tree_descent.proofs.Spending.{steps_after, surplus_steps}
 use Rattle.btree_change.specs.Stands.{kept_above}
 use Rattle.btree_change.proofs.KeptPaths.{kept_gone, kept_may, kept_within}
-use Rattle.btree_change.proofs.Spending.{steps_after, surplus_steps}
 use Rattle.btree_change.proofs.stand.let_go_of_all.Goals as goal
 
 pub let_go_of-requires-clause-inside : goal.let_go_of-requires-clause-inside

@@ -1,10 +1,10 @@
 use Rattle.std.proofs.Common.{drop, false, sym, subst, ◌∙◌}
 use Rattle.word_rule.specs.declared.log.Holdings.{Holdings}
 use Rattle.node_store.proofs.Outlined.{loads_hold}
-use Rattle.btree_change.specs.Stands.{HoldsPair, StandsAt}
-use Rattle.btree_change.proofs.Lowering.{lowered, may_read_child, settled_inner, settled_order, steps_lowered}
-use Rattle.btree_change.proofs.Outlining.{stands_spelled, steps_of_loads}
-use Rattle.btree_change.proofs.NodeSteps.{steps_then}
+use Rattle.tree_descent.specs.Stands.{HoldsPair, StandsAt}
+use Rattle.tree_descent.proofs.Lowering.{lowered, may_read_child, settled_inner, settled_order, steps_lowered}
+use Rattle.tree_descent.proofs.Outlining.{stands_spelled, steps_of_loads}
+use Rattle.tree_descent.proofs.NodeSteps.{steps_then}
 use Rattle.btree_change.proofs.stand.lower.Goals as goal
 
 pub child_for-node-requires-clause-inside : goal.child_for-node-requires-clause-inside

@@ -2,7 +2,7 @@ use Rattle.std.proofs.Common.{◌≡◌, ◌∙◌, length, ap, subst, arith}
 use Rattle.tree_shape.specs.NodeData.{pairs_of, slot_for}
 use Rattle.node_store.specs.Outlines.{IsCountOf}
 use Rattle.node_store.proofs.Outlined.{inner_of, known}
-use Rattle.btree_change.proofs.Outlining.{slot_pair}
+use Rattle.tree_descent.proofs.Outlining.{slot_pair}
 use Rattle.btree_change.proofs.stand.reach_of.Goals as goal
 
 pub returns-then-last-high_of-clause-reach : goal.returns-then-last-high_of-clause-reach

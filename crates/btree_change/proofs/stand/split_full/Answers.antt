@@ -1,7 +1,7 @@
 use Rattle.std.proofs.Common.{drop, subst, refl, Ok}
-use Rattle.btree_change.specs.Splits.{IsRoomFor}
-use Rattle.btree_change.proofs.Loading.{found_still, keeps_load, keeps_then}
-use Rattle.btree_change.proofs.Releasing.{lowest_may}
+use Rattle.tree_descent.proofs.Loading.{found_still, keeps_load, keeps_then}
+use Rattle.leaf_change.proofs.Releasing.{lowest_may}
+use Rattle.node_split.specs.Splits.{IsRoomFor}
 use Rattle.btree_change.proofs.Stepping.{child_lowest, busy_gone, child_filled, child_order, full_child, none_split, was_split}
 use Rattle.btree_change.proofs.stand.split_full.Goals as goal
 

@@ -1,12 +1,12 @@
 use Rattle.std.proofs.Common.{◌+◌, ◌-◌, ◌≤◌, Option, Some, [], ap, arith, drop, length, subst, sym, ◌∷◌, ◌∙◌}
 use Rattle.word_rule.specs.CallerData.{CallerData}
+use Rattle.tree_descent.proofs.Lowering.{pair_inner, settled_order}
+use Rattle.tree_descent.proofs.Outlining.{steps_read}
+use Rattle.tree_descent.proofs.Spending.{more_spent, spends_same, steps_after, surplus_steps}
 use Rattle.btree_change.specs.Kept.{HoldsPath}
 use Rattle.btree_change.specs.declared.stand.Beyond.{Beyond}
 use Rattle.btree_change.specs.Stands.{IsReach, StandsOnWay, kept_above, kept_node}
 use Rattle.btree_change.proofs.KeptPaths.{kept_may}
-use Rattle.btree_change.proofs.Lowering.{pair_inner, settled_order}
-use Rattle.btree_change.proofs.Outlining.{steps_read}
-use Rattle.btree_change.proofs.Spending.{more_spent, spends_same, steps_after, surplus_steps}
 use Rattle.btree_change.proofs.Standing.{above_path, child_ends, kept_length, left_alone, left_with_parent, lower_spelled, parent_path, stands_above, stands_child, stands_parent, upper_spelled}
 use Rattle.btree_change.proofs.stand.stand_below.Goals as goal
 

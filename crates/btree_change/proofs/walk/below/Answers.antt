@@ -1,11 +1,12 @@
 use Rattle.std.proofs.Common.{◌-◌, arith, ◌∙◌}
 use Rattle.std.proofs.lemmas.Result.{err_from_is_err_and}
+use Rattle.tree_descent.proofs.Loading.{found_after}
+use Rattle.tree_descent.proofs.Spending.{surplus_steps}
 use Rattle.btree_change.specs.Stands.{releases_from}
 use Rattle.btree_change.proofs.AtRoot.{ends_part, gives_up_after}
 use Rattle.btree_change.proofs.Going.{goes_nowhere, goes_on}
-use Rattle.btree_change.proofs.Loading.{found_after}
 use Rattle.btree_change.proofs.NoRoom.{cause_below}
-use Rattle.btree_change.proofs.Spending.{may_still, own_same, surplus_steps}
+use Rattle.btree_change.proofs.Spending.{may_still, own_same}
 use Rattle.btree_change.proofs.walk.below.Goals as goal
 
 pub loop-me-init : goal.loop-me-init

@@ -1,7 +1,8 @@
 use Rattle.std.proofs.Common.{◌≡◌, ◌+◌, arith, length, subst}
+use Rattle.tree_descent.proofs.Spending.{spends_all}
 use Rattle.btree_change.specs.Stands.{StandsOnWay, kept_above, releases_from}
 use Rattle.btree_change.proofs.AtRoot.{ends_after, ends_part}
-use Rattle.btree_change.proofs.Spending.{may_still, spends_all}
+use Rattle.btree_change.proofs.Spending.{may_still}
 use Rattle.btree_change.proofs.walk.in_free_leaf.Goals as goal
 
 pub beyond_leaf-requires-clause-stands : goal.beyond_leaf-requires-clause-stands

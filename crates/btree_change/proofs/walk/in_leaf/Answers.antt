@@ -1,18 +1,19 @@
 use Rattle.std.proofs.Common.{◌+◌, ◌∷◌, [], arith, ap, length, subst, sym, ◌∙◌}
 use Rattle.tree_shape.specs.NodeData.{entries_of, place_for}
 use Rattle.word_rule.specs.declared.log.Receipts.{Receipts}
+use Rattle.node_store.proofs.Outlined.{loads_hold}
+use Rattle.tree_descent.proofs.Outlining.{loads_then, steps_of_loads, stands_spelled}
+use Rattle.tree_descent.proofs.Spending.{spends_same, surplus_steps}
+use Rattle.tree_descent.proofs.Lowering.{settled_live}
+use Rattle.tree_descent.proofs.Putting.{leaf_at_zero}
 use Rattle.btree_change.specs.declared.path.KeptNode.{KeptNode}
 use Rattle.btree_change.specs.Kept.{HoldsPath}
 use Rattle.btree_change.specs.Stands.{kept_above, releases_from}
 use Rattle.btree_change.proofs.AtRoot.{ends_after, ends_part}
 use Rattle.btree_change.proofs.Answering.{refused_ends, refused_path, refused_surplus}
 use Rattle.btree_change.proofs.NoRoom.{cause_after, if_full}
-use Rattle.btree_change.proofs.Outlining.{loads_then, steps_of_loads, stands_spelled}
 use Rattle.btree_change.proofs.Preceding.{stands_still}
-use Rattle.btree_change.proofs.Spending.{may_still, spends_same, surplus_steps}
-use Rattle.node_store.proofs.Outlined.{loads_hold}
-use Rattle.btree_change.proofs.Lowering.{settled_live}
-use Rattle.btree_change.proofs.Putting.{leaf_at_zero}
+use Rattle.btree_change.proofs.Spending.{may_still}
 use Rattle.btree_change.proofs.walk.in_leaf.Goals as goal
 
 pub refused-requires-clause-stands : goal.refused-requires-clause-stands

@@ -1,9 +1,10 @@
 use Rattle.std.proofs.Common.{subst, sym, ◌∙◌}
+use Rattle.tree_descent.proofs.Refusing.{shows_full}
+use Rattle.leaf_change.proofs.Answering.{here_ends, here_lowest, here_surplus}
+use Rattle.leaf_change.proofs.Releasing.{lowest_may}
 use Rattle.btree_change.specs.Stands.{HasCause, HasWayOn}
-use Rattle.btree_change.proofs.Answering.{here_ends, here_lowest, here_surplus, holds_leaf, leaf_room, refused_here}
+use Rattle.btree_change.proofs.Answering.{holds_leaf, leaf_room, refused_here}
 use Rattle.btree_change.proofs.NoRoom.{any_full, cause_still, if_full}
-use Rattle.btree_change.proofs.Refusing.{shows_full}
-use Rattle.btree_change.proofs.Releasing.{lowest_may}
 use Rattle.btree_change.proofs.walk.in_place.Goals as goal
 
 pub say_full-answer-requires-clause-shows : goal.say_full-answer-requires-clause-shows

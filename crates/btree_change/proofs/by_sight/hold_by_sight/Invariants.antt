@@ -1,8 +1,0 @@
-use Rattle.btree_change.specs.Paths.{HoldsNothing, StepsOnNodes}
-use Rattle.btree_change.proofs.by_sight.hold_by_sight.Given as goal
-
-abbrev pub invariant-loop : goal.invariant-loop
-invariant-loop g l = record {
-  same : StepsOnNodes l.fn.me l.me;
-  nothing : HoldsNothing l.me.log.holdings;
-}

@@ -1,4 +1,0 @@
-use Rattle.btree_change.proofs.spines.+let_go_of_spine.Given as goal
-
-abbrev pub decreases-let_go_of_spine : goal.decreases-let_go_of_spine
-decreases-let_go_of_spine g l = l.level

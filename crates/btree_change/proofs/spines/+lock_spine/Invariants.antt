@@ -1,4 +1,0 @@
-use Rattle.btree_change.proofs.spines.+lock_spine.Given as goal
-
-abbrev pub decreases-lock_spine : goal.decreases-lock_spine
-decreases-lock_spine g l = l.level

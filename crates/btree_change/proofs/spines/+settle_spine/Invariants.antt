@@ -1,4 +1,0 @@
-use Rattle.btree_change.proofs.spines.+settle_spine.Given as goal
-
-abbrev pub decreases-settle_spine : goal.decreases-settle_spine
-decreases-settle_spine g l = l.level

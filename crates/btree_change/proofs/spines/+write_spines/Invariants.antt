@@ -1,4 +1,0 @@
-use Rattle.btree_change.proofs.spines.+write_spines.Given as goal
-
-abbrev pub decreases-write_spines : goal.decreases-write_spines
-decreases-write_spines l = l.level

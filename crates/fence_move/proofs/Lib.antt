@@ -1,0 +1,10 @@
+pub mod HeldTrees
+pub mod LockedSpines
+pub mod FreshSpines
+pub mod NextLeaves
+pub mod NextOverlaps
+pub mod WrittenSpines
+pub mod PendingSpines
+pub mod FenceSpines
+pub mod FenceMoves
+pub mod RaisedFences

@@ -1,0 +1,13 @@
+pub mod LeafCommits
+pub mod Putting
+pub mod Spending
+pub mod Releasing
+pub mod Answering
+pub mod LeafUpdates
+pub mod Takings
+pub mod Spanned
+pub mod Replacings
+pub mod Absences
+pub mod Overlapping
+pub mod PuttingThere
+pub mod TakingThere

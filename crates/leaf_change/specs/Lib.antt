@@ -1,0 +1,4 @@
+pub mod Insertion
+pub mod Removal
+pub mod Takings
+pub mod Replacement

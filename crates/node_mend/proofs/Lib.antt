@@ -1,0 +1,11 @@
+pub mod HeldOutlines
+pub mod Pairings
+pub mod Written
+pub mod Joining
+pub mod Mended
+pub mod ShareEnds
+pub mod Sharing
+pub mod Neighbouring
+pub mod Raised
+pub mod Sunk
+pub mod Sinking

@@ -1,0 +1,12 @@
+pub mod Settling
+pub mod NoRoom
+pub mod SplitParts
+pub mod HeldParts
+pub mod Halving
+pub mod Halved
+pub mod Splitting
+pub mod SplitEnds
+pub mod Rooms
+pub mod Lifting
+pub mod LiftEnds
+pub mod GivingBack

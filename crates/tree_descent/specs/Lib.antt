@@ -1,0 +1,9 @@
+pub mod Loads
+pub mod Paths
+pub mod Updates
+pub mod Insertion
+pub mod Releases
+pub mod Stands
+pub mod Removing
+pub mod BySight
+pub mod Returns
