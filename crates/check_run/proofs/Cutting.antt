@@ -2,9 +2,9 @@
 use Rattle.std.proofs.Common.{◌≡◌, ℕ, ◌+◌, true, false, cond, List, [], ◌∷◌, ◌++◌, length, codes, length-append, sym, ap, ◌∙◌, arith}
 use Rattle.std.specs.Str.{bytes_eq}
 use Rattle.std.proofs.lemmas.Bool.{cond-true, cond-false}
-use Rattle.event_script.specs.Fields.{pieces}
-use Rattle.event_script.proofs.Joined.{join, join_pieces}
-use Rattle.event_script.proofs.Pieces.{some_pieces}
+use Rattle.script_text.specs.Fields.{pieces}
+use Rattle.script_text.proofs.Joined.{join, join_pieces}
+use Rattle.script_text.proofs.Pieces.{some_pieces}
 use Rattle.check_run.specs.Parts.{script_length}
 
 module _ (rest line after : List ℕ) (cut : pieces 10 rest ≡ line ∷ pieces 10 after) where

@@ -1,7 +1,7 @@
 -- How the program ends.
 use Rattle.std.proofs.Common.{◌≡◌, ◌≢◌, ◌⊎◌, ◌↔◌, ℕ, ◌≤◌, List, [], ◌∷◌, length, map, true, false, eqb, eqb-true, Option, Some, None, IfSome, refl, sym, ap, ◌∙◌, subst, inl, inr, arith}
-use Rattle.event_script.specs.ScriptData.{ScriptData, IsRunnable}
-use Rattle.event_script.specs.Spelling.{IsScript}
+use Rattle.script_text.specs.ScriptData.{ScriptData, IsRunnable}
+use Rattle.script_text.specs.Spelling.{IsScript}
 use Rattle.event_script.specs.Refusal.{HasOneReading}
 use Rattle.run_ports.specs.Endings.{Change, WritesPart}
 use Rattle.run_ports.specs.Ports.{Rose}

@@ -1,10 +1,10 @@
 -- What the program writes, and when it ends how.
 use Rattle.std.specs.Prelude.{◌≡◌, ◌≢◌, ℕ, ◌<◌, ◌≤◌, List, [], length, Option, IfSome, codes}
-use Rattle.event_script.specs.ScriptData.{ScriptData}
-use Rattle.event_script.specs.Spelling.{IsScript}
-use Rattle.event_script.specs.FaultText.{fault_text}
+use Rattle.script_text.specs.ScriptData.{ScriptData}
+use Rattle.script_text.specs.Spelling.{IsScript}
+use Rattle.script_text.specs.FaultText.{fault_text}
 use Rattle.event_script.specs.Refusal.{IsFirstBad}
-use Rattle.event_script.specs.declared.reader.fault.Reason.{Reason}
+use Rattle.script_text.specs.declared.reason.Reason.{Reason}
 use Rattle.journal_check.specs.TextFlaws.{IsVerdictOn}
 use Rattle.journal_check.specs.declared.verdict.Verdict.{Verdict}
 use Rattle.run_ports.specs.Endings.{Change, EndsWith}

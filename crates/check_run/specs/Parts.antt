@@ -1,7 +1,7 @@
 -- The two parts of an input: a script, and the text of a journal.
 use Rattle.std.specs.Prelude.{ℕ, ◌+◌, List, [], ◌∷◌, length, take, drop, codes, if◌then◌else◌}
 use Rattle.std.specs.Str.{bytes_eq}
-use Rattle.event_script.specs.Fields.{pieces}
+use Rattle.script_text.specs.Fields.{pieces}
 
 -- How many bytes the script has that an input in lines begins with: those up to the first line
 -- `end`, with its line feed, or all of them. What follows the last line feed is no line.

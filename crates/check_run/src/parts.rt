@@ -1,7 +1,7 @@
 //! The two parts of the input: a script, and the text of a journal.
 
 ghost use Rattle.std.specs.Prelude.{◌≡◌, ◌≤◌, length};
-ghost use Rattle.event_script.specs.Fields.{pieces};
+ghost use Rattle.script_text.specs.Fields.{pieces};
 ghost use Rattle.check_run.specs.Parts.{script_length};
 
 use journal_reader::next_line;

@@ -3,8 +3,8 @@
 ghost use Rattle.std.specs.Prelude.{◌≡◌, ◌≢◌, ◌⊎◌, ℕ, ◌+◌, ◌≤◌, List, [], length, map, Option};
 ghost use Rattle.std.specs.Prelude.{IfSome};
 ghost use Rattle.std.specs.String.{string_bytes};
-ghost use Rattle.event_script.specs.ScriptData.{ScriptData};
-ghost use Rattle.event_script.specs.Spelling.{IsScript};
+ghost use Rattle.script_text.specs.ScriptData.{ScriptData};
+ghost use Rattle.script_text.specs.Spelling.{IsScript};
 ghost use Rattle.journal_check.specs.TextFlaws.{IsVerdictOn};
 ghost use Rattle.journal_check.specs.declared.verdict.Verdict.{Verdict};
 ghost use Rattle.run_ports.specs.Endings.{Writes, WritesPart, sink_change};

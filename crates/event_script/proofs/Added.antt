@@ -4,26 +4,26 @@ use Rattle.std.specs.List.{AllByRecursion}
 use Rattle.std.specs.Option.{ok_or}
 use Rattle.std.proofs.lemmas.Bool.{cond-true, cond-false}
 use Rattle.std.proofs.lemmas.List.Elements.{recursion_from_All}
-use Rattle.event_script.specs.Digits.{hex}
-use Rattle.event_script.specs.Fields.{pieces, is_printable}
-use Rattle.event_script.specs.Statements.{word_of, kind_of_statement, statement_fields, statement_line, HasForm}
-use Rattle.event_script.specs.Spelling.{statement_text, statements_text}
+use Rattle.script_text.specs.Digits.{hex}
+use Rattle.script_text.specs.Fields.{pieces, is_printable}
+use Rattle.script_text.specs.Statements.{word_of, kind_of_statement, statement_fields, statement_line, HasForm}
+use Rattle.script_text.specs.Spelling.{statement_text, statements_text}
 use Rattle.event_script.specs.Draft.{DraftData, may_come, is_ended, with_statement}
 use Rattle.event_script.specs.Reading.{◌>=>◌, statement_of, added, by_word, after_line, at_line, after_lines}
-use Rattle.event_script.specs.declared.script.Event.TheVariants as event
-use Rattle.event_script.specs.declared.reader.fault.Reason.{Reason}
-use Rattle.event_script.specs.declared.reader.fault.Reason.TheVariants as reason
+use Rattle.script_text.specs.declared.script.Event.TheVariants as event
+use Rattle.script_text.specs.declared.reason.Reason.{Reason}
+use Rattle.script_text.specs.declared.reason.Reason.TheVariants as reason
 use Rattle.event_script.specs.declared.reader.kinds.Stage.{Stage}
 use Rattle.event_script.specs.declared.reader.kinds.Stage.TheVariants as stage
-use Rattle.event_script.specs.declared.reader.kinds.Kind.{Kind}
-use Rattle.event_script.specs.declared.reader.kinds.Kind.TheVariants as kind
-use Rattle.event_script.specs.declared.reader.statement.Statement.{Statement}
-use Rattle.event_script.specs.declared.reader.statement.Statement.TheVariants as statement
-use Rattle.event_script.proofs.Joined.{join, IsVisible, fields_again, printable_again, lines_again}
+use Rattle.script_text.specs.declared.kind.Kind.{Kind}
+use Rattle.script_text.specs.declared.kind.Kind.TheVariants as kind
+use Rattle.script_text.specs.declared.statement.Statement.{Statement}
+use Rattle.script_text.specs.declared.statement.Statement.TheVariants as statement
+use Rattle.script_text.proofs.Joined.{join, IsVisible, fields_again, printable_again, lines_again}
 use Rattle.event_script.proofs.Lines.{line_first}
 use Rattle.event_script.proofs.Words.{word_visible, word_again}
 use Rattle.event_script.proofs.Spoken.{said_again}
-use Rattle.event_script.proofs.Numbers.{decimal_visible, hex_visible}
+use Rattle.script_text.proofs.Numbers.{decimal_visible, hex_visible}
 use Rattle.event_script.proofs.Sections.{section_visible, digits_visible}
 
 -- the line may come, and no reason speaks against it

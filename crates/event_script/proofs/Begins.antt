@@ -3,22 +3,23 @@ use Rattle.std.proofs.Common.{◌≡◌, ◌≢◌, inr, ℕ, suc, ◌+◌, ◌-
 use Rattle.std.specs.List.{All, AllByRecursion}
 use Rattle.std.proofs.lemmas.Bool.{eqb-false}
 use Rattle.std.proofs.lemmas.Grind.{flat_map-append}
-use Rattle.event_script.specs.ScriptData.{ScriptData, SnapshotData, Counts, counts_of, IsSnapshot, IsRunnable}
-use Rattle.event_script.specs.Fields.{with_first, pieces}
-use Rattle.event_script.specs.Spelling.{statement_text, statements_text, body_statements, script_text}
+use Rattle.script_text.specs.ScriptData.{ScriptData, SnapshotData, Counts, counts_of, IsSnapshot, IsRunnable}
+use Rattle.script_text.specs.Fields.{with_first, pieces}
+use Rattle.script_text.specs.Spelling.{statement_text, statements_text, body_statements, script_text}
 use Rattle.event_script.specs.Draft.{DraftData, nothing_known, with_statement}
 use Rattle.event_script.specs.Reasons.{IsReason, IsGood}
-use Rattle.event_script.specs.Refusal.{whole_line, text_before, MakeKnown, IsFirstBad, lines_text, BeginsScript}
+use Rattle.event_script.specs.Refusal.{whole_line, text_before, MakeKnown, IsFirstBad, BeginsScript}
+use Rattle.script_text.specs.Fields.{lines_text}
 use Rattle.event_script.specs.Reading.{◌>=>◌, after_line, BadLine, at_line, after_lines}
-use Rattle.event_script.specs.declared.script.Event.{Event}
-use Rattle.event_script.specs.declared.reader.fault.Reason.{Reason}
-use Rattle.event_script.specs.declared.reader.fault.Reason.TheVariants as reason
+use Rattle.script_text.specs.declared.script.Event.{Event}
+use Rattle.script_text.specs.declared.reason.Reason.{Reason}
+use Rattle.script_text.specs.declared.reason.Reason.TheVariants as reason
 use Rattle.event_script.specs.declared.reader.kinds.Stage.{Stage}
 use Rattle.event_script.specs.declared.reader.kinds.Stage.TheVariants as stage
-use Rattle.event_script.specs.declared.reader.statement.Statement.{Statement}
-use Rattle.event_script.specs.declared.reader.statement.Statement.TheVariants as statement
-use Rattle.event_script.proofs.Pieces.{some_pieces}
-use Rattle.event_script.proofs.Joined.{Without, pieces_first}
+use Rattle.script_text.specs.declared.statement.Statement.{Statement}
+use Rattle.script_text.specs.declared.statement.Statement.TheVariants as statement
+use Rattle.script_text.proofs.Pieces.{some_pieces}
+use Rattle.script_text.proofs.Joined.{Without, pieces_first}
 use Rattle.event_script.specs.declared.reader.totals.Totals.{Totals}
 use Rattle.event_script.proofs.EventTotals.{Totalled}
 use Rattle.event_script.proofs.SoFar.{AreRounds, Sound, statements_so_far, early_rounds, no_rounds, no_snapshots, no_fixed}

@@ -11,19 +11,19 @@ use Rattle.frame_parse.specs.Reading.{section_of}
 use Rattle.hex.specs.Hex.{IsBytes}
 use Rattle.frame_expr.specs.Regions.{RegionData, AreRegions, Accepts}
 use Rattle.frame_expr.specs.declared.regs.Regs.{Regs}
-use Rattle.event_script.specs.declared.reader.statement.SnapshotFields.{SnapshotFields}
-use Rattle.event_script.specs.ScriptData.{ScriptData, ImageData, SnapshotData, counts_of, IsSnapshot, recorded_bytes, IsSectionOf, span_of, AreFixed, IsRound}
-use Rattle.event_script.specs.Spelling.{statements_text, image_data, image_statements, snapshot_lines, snapshot_statements, round_statements, first_statements, body_statements, script_text, IsScript}
+use Rattle.script_text.specs.declared.statement.SnapshotFields.{SnapshotFields}
+use Rattle.script_text.specs.ScriptData.{ScriptData, ImageData, SnapshotData, counts_of, IsSnapshot, recorded_bytes, IsSectionOf, span_of, AreFixed, IsRound}
+use Rattle.script_text.specs.Spelling.{statements_text, image_data, image_statements, snapshot_lines, snapshot_statements, round_statements, first_statements, body_statements, script_text, IsScript}
 use Rattle.event_script.specs.Draft.{DraftData, no_snapshot, no_totals, nothing_known, may_come, snapshots_at, rounds_at, span_from, with_image, contents_or_none, with_statement}
 use Rattle.event_script.specs.Reading.{◌>=>◌, section_or, image_added, last_fixed, is_above, accepts, added, at_end, BadLine, after_lines, outcome}
-use Rattle.event_script.specs.declared.script.Event.{Event}
-use Rattle.event_script.specs.declared.reader.fault.Reason.{Reason}
-use Rattle.event_script.specs.declared.reader.fault.Reason.TheVariants as reason
+use Rattle.script_text.specs.declared.script.Event.{Event}
+use Rattle.script_text.specs.declared.reason.Reason.{Reason}
+use Rattle.script_text.specs.declared.reason.Reason.TheVariants as reason
 use Rattle.event_script.specs.declared.reader.kinds.Stage.{Stage}
 use Rattle.event_script.specs.declared.reader.kinds.Stage.TheVariants as stage
-use Rattle.event_script.specs.declared.reader.kinds.Kind.TheVariants as kind
-use Rattle.event_script.specs.declared.reader.statement.Statement.{Statement}
-use Rattle.event_script.specs.declared.reader.statement.Statement.TheVariants as statement
+use Rattle.script_text.specs.declared.kind.Kind.TheVariants as kind
+use Rattle.script_text.specs.declared.statement.Statement.{Statement}
+use Rattle.script_text.specs.declared.statement.Statement.TheVariants as statement
 use Rattle.event_script.proofs.Sections.{section_ok}
 use Rattle.event_script.proofs.Fixed.{found_span, rise_at}
 use Rattle.event_script.proofs.Recorded.{accepted_is, accepted_at, bytes_in_all, recorded_parts}

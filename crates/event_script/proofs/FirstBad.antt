@@ -6,8 +6,8 @@ use Rattle.std.proofs.lemmas.Bool.{ltb-false}
 use Rattle.frame_parse.specs.Sections.{SectionData}
 use Rattle.frame_parse.specs.Reading.{section_of}
 use Rattle.frame_parse.specs.declared.fault.FrameFault.{FrameFault}
-use Rattle.event_script.specs.ScriptData.{ScriptData, ImageData, SnapshotData, counts_of, recorded_bytes}
-use Rattle.event_script.specs.Spelling.{IsScript}
+use Rattle.script_text.specs.ScriptData.{ScriptData, ImageData, SnapshotData, counts_of, recorded_bytes}
+use Rattle.script_text.specs.Spelling.{IsScript}
 use Rattle.event_script.specs.Draft.{DraftData, nothing_known, is_ended, snapshots_so_far, threads_so_far, rounds_so_far, with_image, contents_or_none, with_statement}
 use Rattle.event_script.specs.Reasons.{LineText, Says, SaysSome, HasBadSection, number_in_table, SpeaksAgainst, IsReason, IsGood}
 use Rattle.event_script.specs.Refusal.{whole_line, text_before, HasLineHere, MakeKnown, IsFirstBad, HasOneReading}
@@ -15,11 +15,11 @@ use Rattle.event_script.specs.Reading.{◌>=>◌, section_or, image_added, last_
 use Rattle.event_script.specs.Fault.{Tells, FailsAt}
 use Rattle.event_script.specs.declared.reader.ScriptFault.{ScriptFault}
 use Rattle.event_script.specs.declared.reader.ScriptFault.TheVariants.{Bad, NoMemory}
-use Rattle.event_script.specs.declared.reader.fault.Reason.{Reason}
-use Rattle.event_script.specs.declared.reader.fault.Reason.TheVariants as reason
-use Rattle.event_script.specs.declared.reader.statement.Statement.{Statement}
-use Rattle.event_script.specs.declared.reader.statement.Statement.TheVariants as statement
-use Rattle.event_script.proofs.Pieces.{some_pieces}
+use Rattle.script_text.specs.declared.reason.Reason.{Reason}
+use Rattle.script_text.specs.declared.reason.Reason.TheVariants as reason
+use Rattle.script_text.specs.declared.statement.Statement.{Statement}
+use Rattle.script_text.specs.declared.statement.Statement.TheVariants as statement
+use Rattle.script_text.proofs.Pieces.{some_pieces}
 use Rattle.event_script.proofs.Steps.{bind_ok, guard_last, guard_then, ok_is}
 use Rattle.event_script.proofs.Spoken.{says_one}
 use Rattle.event_script.proofs.Sections.{section_bad}

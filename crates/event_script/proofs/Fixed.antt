@@ -9,9 +9,9 @@ use Rattle.std.proofs.lemmas.Option.{slice_get_within, slice_get-get_or, unwrap_
 use Rattle.reg_model.specs.SpanData.{SpanData, IsSpan, Overlaps}
 use Rattle.reg_model.specs.State.{AreDisjoint}
 use Rattle.reg_model.specs.declared.span.Member.{Member}
-use Rattle.event_script.specs.ScriptData.{span_of, Rise, AreFixed}
+use Rattle.script_text.specs.ScriptData.{span_of, Rise, AreFixed}
 use Rattle.event_script.specs.Reading.{last_fixed, is_above}
-use Rattle.event_script.specs.Lawful.{image_member}
+use Rattle.script_text.specs.Lawful.{image_member}
 
 abbrev nowhere : SpanData
 nowhere = record { first = 0; last = 0 }

@@ -8,24 +8,24 @@ use Rattle.reg_model.specs.SpanData.{SpanData}
 use Rattle.frame_parse.specs.Sections.{SectionData}
 use Rattle.frame_parse.specs.Reading.{section_of}
 use Rattle.frame_parse.specs.declared.fault.FrameFault.{FrameFault}
-use Rattle.event_script.specs.ScriptData.{ImageData, SnapshotData, recorded_bytes, counts_of, span_of}
-use Rattle.event_script.specs.Fields.{pieces, is_printable}
-use Rattle.event_script.specs.Statements.{word_of, forms, kind_of_statement, statement_fields, AreFields}
-use Rattle.event_script.specs.Spelling.{Line}
+use Rattle.script_text.specs.ScriptData.{ImageData, SnapshotData, recorded_bytes, counts_of, span_of}
+use Rattle.script_text.specs.Fields.{pieces, is_printable}
+use Rattle.script_text.specs.Statements.{word_of, forms, kind_of_statement, statement_fields, AreFields}
+use Rattle.script_text.specs.Spelling.{Line}
 use Rattle.event_script.specs.Draft.{DraftData, may_come, is_ended, snapshots_so_far, threads_so_far, rounds_so_far, with_image, with_statement}
 use Rattle.frame_expr.specs.Regions.{RegionData}
-use Rattle.event_script.specs.declared.reader.statement.SnapshotFields.{SnapshotFields}
+use Rattle.script_text.specs.declared.statement.SnapshotFields.{SnapshotFields}
 use Rattle.event_script.specs.Reasons.{LineText, IsOfKind, Says, SaysSome, IsOutOfOrder, IsUnwindTooMany, IsOutsideLimit, IsNoSpan, HasBadSection, IsNameless, IsNotAbove, IsNoRegion, IsReason, IsGood}
 use Rattle.event_script.specs.Refusal.{whole_line}
 use Rattle.event_script.specs.Reading.{◌>=>◌, kind_of, statement_of, section_or, image_added, last_fixed, is_above, fixed_added, snapshot_added, accepts, memory_added, is_named, has_room, added, by_word, after_line, at_end}
-use Rattle.event_script.specs.declared.script.Event.{Event}
-use Rattle.event_script.specs.declared.script.Event.TheVariants as event
-use Rattle.event_script.specs.declared.reader.fault.Reason.{Reason}
-use Rattle.event_script.specs.declared.reader.fault.Reason.TheVariants as reason
-use Rattle.event_script.specs.declared.reader.kinds.Kind.{Kind}
-use Rattle.event_script.specs.declared.reader.statement.Statement.{Statement}
-use Rattle.event_script.specs.declared.reader.statement.Statement.TheVariants as statement
-use Rattle.event_script.proofs.Pieces.{some_pieces}
+use Rattle.script_text.specs.declared.script.Event.{Event}
+use Rattle.script_text.specs.declared.script.Event.TheVariants as event
+use Rattle.script_text.specs.declared.reason.Reason.{Reason}
+use Rattle.script_text.specs.declared.reason.Reason.TheVariants as reason
+use Rattle.script_text.specs.declared.kind.Kind.{Kind}
+use Rattle.script_text.specs.declared.statement.Statement.{Statement}
+use Rattle.script_text.specs.declared.statement.Statement.TheVariants as statement
+use Rattle.script_text.proofs.Pieces.{some_pieces}
 use Rattle.event_script.proofs.Steps.{kind_word}
 use Rattle.event_script.proofs.Words.{word_again}
 use Rattle.event_script.proofs.Spoken.{same_kind, says_one, spoken, fields_fit, Wrong, unspoken}

@@ -1,12 +1,5 @@
-pub mod Texts
-pub mod Numbered
-pub mod TraceLines
-pub mod Answered
-pub mod Pieces
-pub mod Numbers
-pub mod HexDigits
+pub mod Following
 pub mod Lines
-pub mod Joined
 pub mod Steps
 pub mod Sections
 pub mod LowerDigits
@@ -22,7 +15,6 @@ pub mod LineLists
 pub mod Sound
 pub mod LinesRead
 pub mod LineCounts
-pub mod LineEnds
 pub mod Added
 pub mod SaidLines
 pub mod Standing
@@ -30,5 +22,4 @@ pub mod Rounds
 pub mod Complete
 pub mod FirstBad
 pub mod Begins
-pub mod Spelled
 pub mod Taken

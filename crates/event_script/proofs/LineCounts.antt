@@ -2,16 +2,16 @@
 use Rattle.std.proofs.Common.{◌≡◌, ℕ, ◌+◌, ◌*◌, ◌≤◌, false, List, [], ◌∷◌, ◌++◌, length, map, All, Ok, refl, ap, arith, length-append}
 use Rattle.frame_parse.specs.Sections.{SectionData}
 use Rattle.reg_model.specs.SpanData.{SpanData, IsSpan}
-use Rattle.event_script.specs.declared.script.Event.{Event}
-use Rattle.event_script.specs.declared.reader.fault.Reason.TheVariants as reason
+use Rattle.script_text.specs.declared.script.Event.{Event}
+use Rattle.script_text.specs.declared.reason.Reason.TheVariants as reason
 use Rattle.event_script.specs.declared.reader.kinds.Stage.{Stage}
 use Rattle.event_script.specs.declared.reader.kinds.Stage.TheVariants as stage
-use Rattle.event_script.specs.declared.reader.statement.Statement.TheVariants as statement
+use Rattle.script_text.specs.declared.statement.Statement.TheVariants as statement
 use Rattle.std.specs.List.{AllByRecursion}
 use Rattle.std.proofs.lemmas.List.Elements.{recursion_from_All}
 use Rattle.frame_expr.specs.Regions.{RegionData, end, AreFrom}
-use Rattle.event_script.specs.ScriptData.{ScriptData, SnapshotData, Counts, counts_of, IsSnapshot, recorded_bytes, AreFixed, IsThread, IsRound}
-use Rattle.event_script.specs.Spelling.{image_statements, snapshot_lines, snapshot_statements, thread_statements, round_statements}
+use Rattle.script_text.specs.ScriptData.{ScriptData, SnapshotData, Counts, counts_of, IsSnapshot, recorded_bytes, AreFixed, IsThread, IsRound}
+use Rattle.script_text.specs.Spelling.{image_statements, snapshot_lines, snapshot_statements, thread_statements, round_statements}
 use Rattle.event_script.specs.Draft.{DraftData, is_ended}
 use Rattle.event_script.specs.Reading.{after_line}
 use Rattle.event_script.proofs.Steps.{guard_else}

@@ -4,20 +4,20 @@ use Rattle.std.specs.Option.{ok_or}
 use Rattle.std.proofs.lemmas.Grind.{flat_map-append}
 use Rattle.std.proofs.lemmas.List.Elements.{All-from_recursion}
 use Rattle.reg_model.specs.SpanData.{IsSpan}
-use Rattle.event_script.specs.ScriptData.{IsSectionOf}
-use Rattle.event_script.specs.Statements.{kind_of_statement, statement_fields}
-use Rattle.event_script.specs.Spelling.{Line, spelling_of, statement_text, statements_text, script_text, IsScript}
-use Rattle.event_script.specs.Fields.{pieces, is_printable}
+use Rattle.script_text.specs.ScriptData.{IsSectionOf}
+use Rattle.script_text.specs.Statements.{kind_of_statement, statement_fields}
+use Rattle.script_text.specs.Spelling.{Line, spelling_of, statement_text, statements_text, script_text, IsScript}
+use Rattle.script_text.specs.Fields.{pieces, is_printable}
 use Rattle.event_script.specs.Draft.{DraftData, nothing_known, may_come, is_ended, rounds_at, rounds_so_far}
 use Rattle.event_script.specs.Reasons.{Says}
 use Rattle.event_script.specs.Refusal.{whole_line}
 use Rattle.event_script.specs.Reading.{kind_of, statement_of, added, by_word, after_line, at_end, BadLine, at_line, after_lines, outcome}
-use Rattle.event_script.specs.declared.reader.fault.Reason.{Reason}
-use Rattle.event_script.specs.declared.reader.fault.Reason.TheVariants as reason
+use Rattle.script_text.specs.declared.reason.Reason.{Reason}
+use Rattle.script_text.specs.declared.reason.Reason.TheVariants as reason
 use Rattle.event_script.specs.declared.reader.kinds.Stage.{Stage}
 use Rattle.event_script.specs.declared.reader.kinds.Stage.TheVariants as stage
-use Rattle.event_script.specs.declared.reader.statement.Statement.{Statement}
-use Rattle.event_script.proofs.Joined.{join, join_pieces, spelled_pieces}
+use Rattle.script_text.specs.declared.statement.Statement.{Statement}
+use Rattle.script_text.proofs.Joined.{join, join_pieces, spelled_pieces}
 use Rattle.event_script.proofs.Steps.{bind_ok, guard_last, guard_then, guard_else, kind_word}
 use Rattle.event_script.proofs.Spoken.{same_kind, spoken}
 use Rattle.event_script.specs.declared.reader.totals.Totals.{Totals}

@@ -5,8 +5,8 @@ use Rattle.frame_parse.specs.declared.fault.FrameFault.{FrameFault}
 use Rattle.frame_parse.specs.declared.fault.FrameFault.TheVariants as frame_fault
 use Rattle.event_script.specs.Draft.{DraftData}
 use Rattle.event_script.specs.Reasons.{LineText, number_in_table, SpeaksAgainst, IsReason, IsGood}
-use Rattle.event_script.specs.declared.reader.fault.Reason.{Reason}
-use Rattle.event_script.specs.declared.reader.fault.Reason.TheVariants as reason
+use Rattle.script_text.specs.declared.reason.Reason.{Reason}
+use Rattle.script_text.specs.declared.reason.Reason.TheVariants as reason
 
 -- the reasons by their numbers, sections with this fault; nothing has the numbers 0 and 6
 abbrev pub numbered : FrameFault → ℕ → Reason

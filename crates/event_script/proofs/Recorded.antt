@@ -1,15 +1,15 @@
 -- Recorded memory, region by region.
 use Rattle.std.proofs.Common.{◌≡◌, ℕ, ◌+◌, ◌^◌, ◌≤◌, true, false, true≢false, ◌&&◌, ltb, leb, List, [], ◌∷◌, ◌++◌, length, sym, ◌∙◌, ltb-true, leb-true, lt-ltb, le-leb, arith}
 use Rattle.std.proofs.lemmas.Bool.{and_parts, and_from}
-use Rattle.event_script.specs.ScriptData.{SnapshotData, recorded_bytes, IsSnapshot}
+use Rattle.script_text.specs.ScriptData.{SnapshotData, recorded_bytes, IsSnapshot}
 use Rattle.frame_expr.specs.Regions.{RegionData, regions_end, Accepts, end, AreFrom}
-use Rattle.event_script.specs.declared.reader.statement.SnapshotFields.{SnapshotFields}
+use Rattle.script_text.specs.declared.statement.SnapshotFields.{SnapshotFields}
 use Rattle.event_script.specs.Reading.{accepts}
-use Rattle.event_script.specs.declared.reader.statement.Statement.TheVariants as statement
+use Rattle.script_text.specs.declared.statement.Statement.TheVariants as statement
 use Rattle.std.specs.List.{All}
 use Rattle.std.proofs.lemmas.List.Elements.{All-push, All-from_recursion, All-head, All-tail}
 use Rattle.hex.specs.Hex.{IsBytes}
-use Rattle.event_script.specs.Statements.{HasForm}
+use Rattle.script_text.specs.Statements.{HasForm}
 use Rattle.frame_expr.proofs.Ascending.{one_more}
 
 -- the test of a region

@@ -5,20 +5,20 @@ use Rattle.std.proofs.lemmas.Bool.{and_from, cond-true}
 use Rattle.std.proofs.lemmas.List.Elements.{recursion_from_All}
 use Rattle.reg_model.specs.SpanData.{SpanData}
 use Rattle.frame_parse.specs.Sections.{SectionData}
-use Rattle.event_script.specs.ScriptData.{SnapshotData, Counts, IsEvent, IsThread, IsRound}
-use Rattle.event_script.specs.Statements.{kind_of_statement, HasForm}
-use Rattle.event_script.specs.Spelling.{thread_statements, round_statements}
+use Rattle.script_text.specs.ScriptData.{SnapshotData, Counts, IsEvent, IsThread, IsRound}
+use Rattle.script_text.specs.Statements.{kind_of_statement, HasForm}
+use Rattle.script_text.specs.Spelling.{thread_statements, round_statements}
 use Rattle.event_script.specs.Draft.{DraftData, no_snapshot, may_come, threads_so_far, rounds_so_far, after_round, with_statement}
 use Rattle.event_script.specs.Reading.{is_named, has_room, added}
-use Rattle.event_script.specs.declared.script.Event.{Event}
-use Rattle.event_script.specs.declared.script.Event.TheVariants as event
-use Rattle.event_script.specs.declared.reader.fault.Reason.{Reason}
-use Rattle.event_script.specs.declared.reader.fault.Reason.TheVariants as reason
+use Rattle.script_text.specs.declared.script.Event.{Event}
+use Rattle.script_text.specs.declared.script.Event.TheVariants as event
+use Rattle.script_text.specs.declared.reason.Reason.{Reason}
+use Rattle.script_text.specs.declared.reason.Reason.TheVariants as reason
 use Rattle.event_script.specs.declared.reader.kinds.Stage.{Stage}
 use Rattle.event_script.specs.declared.reader.kinds.Stage.TheVariants as stage
-use Rattle.event_script.specs.declared.reader.kinds.Kind.TheVariants as kind
-use Rattle.event_script.specs.declared.reader.statement.Statement.{Statement}
-use Rattle.event_script.specs.declared.reader.statement.Statement.TheVariants as statement
+use Rattle.script_text.specs.declared.kind.Kind.TheVariants as kind
+use Rattle.script_text.specs.declared.statement.Statement.{Statement}
+use Rattle.script_text.specs.declared.statement.Statement.TheVariants as statement
 use Rattle.event_script.specs.declared.reader.totals.Totals.{Totals}
 use Rattle.event_script.proofs.EventTotals.{totals_of, totals_round, totals_thread, totals_event}
 use Rattle.event_script.proofs.Standing.{CanStand, event_room}

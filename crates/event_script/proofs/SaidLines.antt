@@ -2,28 +2,29 @@
 use Rattle.std.proofs.Common.{◌≡◌, ℕ, ◌^◌, ◌<◌, true, false, cond, List, [], ◌∷◌, ◌++◌, Option, Some, Result, Err, codes, decimal, sym, ap, ap₂, subst, ◌∙◌}
 use Rattle.std.specs.Option.{ok_or}
 use Rattle.std.proofs.lemmas.Bool.{cond-true, cond-false}
-use Rattle.event_script.specs.Digits.{hex}
-use Rattle.event_script.specs.Fields.{pieces, fields_after, is_printable, decimal_in, hex_in, section_bytes}
-use Rattle.event_script.specs.Statements.{word_of, kind_of_event, kind_of_statement, statement_fields, statement_line, HasForm, HasEventForm}
-use Rattle.event_script.specs.EventLines.{event_spelling}
-use Rattle.event_script.specs.ScriptData.{ImageData}
+use Rattle.script_text.specs.Digits.{hex}
+use Rattle.script_text.specs.Fields.{pieces, fields_after, is_printable, decimal_in, hex_in, section_bytes}
+use Rattle.script_text.specs.Statements.{word_of, kind_of_event, kind_of_statement, statement_fields, statement_line, HasForm, HasEventForm}
+use Rattle.script_text.specs.EventLines.{event_spelling}
+use Rattle.script_text.specs.ScriptData.{ImageData}
 use Rattle.event_script.specs.Draft.{DraftData, may_come, is_ended}
 use Rattle.event_script.specs.Reading.{◌>=>◌, statement_of, image_added, added, by_word, after_line}
-use Rattle.event_script.specs.declared.script.Event.{Event}
-use Rattle.event_script.specs.declared.reader.fault.Reason.{Reason}
-use Rattle.event_script.specs.declared.reader.fault.Reason.TheVariants as reason
+use Rattle.script_text.specs.declared.script.Event.{Event}
+use Rattle.script_text.specs.declared.reason.Reason.{Reason}
+use Rattle.script_text.specs.declared.reason.Reason.TheVariants as reason
 use Rattle.event_script.specs.declared.reader.kinds.Stage.{Stage}
 use Rattle.event_script.specs.declared.reader.kinds.Stage.TheVariants as stage
-use Rattle.event_script.specs.declared.reader.kinds.Kind.{Kind}
-use Rattle.event_script.specs.declared.reader.kinds.Kind.TheVariants as kind
-use Rattle.event_script.specs.declared.reader.statement.Statement.{Statement}
-use Rattle.event_script.specs.declared.reader.statement.Statement.TheVariants as statement
+use Rattle.script_text.specs.declared.kind.Kind.{Kind}
+use Rattle.script_text.specs.declared.kind.Kind.TheVariants as kind
+use Rattle.script_text.specs.declared.statement.Statement.{Statement}
+use Rattle.script_text.specs.declared.statement.Statement.TheVariants as statement
 use Rattle.event_script.proofs.Added.{open_still, visible}
-use Rattle.event_script.proofs.Joined.{event_joined, join, join_pieces, IsVisible, fields_again, printable_again}
+use Rattle.script_text.proofs.Joined.{event_joined, join, join_pieces, IsVisible, fields_again, printable_again}
 use Rattle.event_script.proofs.Words.{word_again}
 use Rattle.event_script.proofs.Spoken.{said_again}
 use Rattle.event_script.proofs.Sections.{section_visible}
-use Rattle.event_script.proofs.Steps.{bytes_are, decimal_is, hex_is}
+use Rattle.event_script.proofs.Steps.{bytes_are}
+use Rattle.script_text.proofs.Numbers.{decimal_is, hex_is}
 
 -- what a line adds is what it says
 module _ (known : DraftData) (s : Statement) (may : may_come known.script.version known.stage (kind_of_statement s) ≡ true) (form : HasForm s) where

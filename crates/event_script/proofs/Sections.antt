@@ -17,21 +17,18 @@ use Rattle.frame_parse.specs.Entries.{FdeRecord}
 use Rattle.frame_parse.specs.Sections.{SectionData, HasFdes, IsSection, IsRefused, fdes_of}
 use Rattle.frame_parse.specs.Reading.{section_of}
 use Rattle.frame_parse.proofs.OneAnswer.{one_answer, answered}
-use Rattle.event_script.specs.Lower.{is_lower}
-use Rattle.event_script.specs.Fields.{bytes_if, hex_bytes_in, section_bytes}
-use Rattle.event_script.specs.Statements.{section_digits}
+use Rattle.script_text.specs.Lower.{is_lower}
+use Rattle.script_text.proofs.DigitTable.{or_right}
+use Rattle.script_text.specs.Fields.{bytes_if, hex_bytes_in, section_bytes}
+use Rattle.script_text.specs.Statements.{section_digits}
 use Rattle.event_script.specs.Reading.{IsOfBytes}
-use Rattle.event_script.specs.declared.reader.fault.Reason.TheVariants as reason
+use Rattle.script_text.specs.declared.reason.Reason.TheVariants as reason
 
 -- ---- digits in lower case
 
 -- a digit in lower case is the one of its value
 abbrev is_its_digit : ℕ → Bool
 is_its_digit c = not (is_lower c) || eqb (slice_index lower_digits (unwrap_or (hex_digit_value c) 0)) c
-
-pub or_right : (x y : Bool) → (not x || y) ≡ true → x ≡ true → y ≡ true
-or_right true y e t = e
-or_right false y e t = absurd cc
 
 pub lower_below : (c : ℕ) → is_lower c ≡ true → c < 256
 lower_below c e = elim (or_cases (leb 48 c && leb c 57) (leb 97 c && leb c 102) e) [

@@ -2,14 +2,14 @@
 use Rattle.std.proofs.Common.{◌≡◌, ℕ, ◌<◌, ◌≤◌, List, [], ◌∷◌, ◌++◌, length, All, sym, subst, arith}
 use Rattle.std.proofs.lemmas.List.Elements.{All-from_recursion}
 use Rattle.reg_model.specs.SpanData.{SpanData, IsSpan}
-use Rattle.event_script.specs.ScriptData.{ScriptData, Counts, counts_of, IsSnapshot, IsSectionOf, AreFixed, IsEvent, IsThread, IsRound}
-use Rattle.event_script.specs.Spelling.{body_statements}
+use Rattle.script_text.specs.ScriptData.{ScriptData, Counts, counts_of, IsSnapshot, IsSectionOf, AreFixed, IsEvent, IsThread, IsRound}
+use Rattle.script_text.specs.Spelling.{body_statements}
 use Rattle.event_script.specs.Draft.{DraftData, snapshots_so_far, rounds_so_far}
-use Rattle.event_script.specs.declared.script.Event.{Event}
+use Rattle.script_text.specs.declared.script.Event.{Event}
 use Rattle.event_script.specs.declared.reader.kinds.Stage.{Stage}
 use Rattle.event_script.specs.declared.reader.kinds.Stage.TheVariants as stage
-use Rattle.event_script.specs.declared.reader.statement.Statement.{Statement}
-use Rattle.event_script.specs.declared.reader.statement.Statement.TheVariants as statement
+use Rattle.script_text.specs.declared.statement.Statement.{Statement}
+use Rattle.script_text.specs.declared.statement.Statement.TheVariants as statement
 use Rattle.event_script.proofs.EventTotals.{Totalled}
 
 -- ---- the lines so far

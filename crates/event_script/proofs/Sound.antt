@@ -10,20 +10,20 @@ use Rattle.frame_parse.specs.Sections.{SectionData}
 use Rattle.frame_parse.specs.Reading.{section_of}
 use Rattle.frame_parse.specs.declared.fault.FrameFault.{FrameFault}
 use Rattle.frame_expr.specs.Regions.{RegionData}
-use Rattle.event_script.specs.declared.reader.statement.SnapshotFields.{SnapshotFields}
-use Rattle.event_script.specs.ScriptData.{ScriptData, ImageData, SnapshotData, Counts, counts_of, IsSnapshot, recorded_bytes, IsSectionOf, AreFixed, IsEvent, IsThread, IsRound}
-use Rattle.event_script.specs.Statements.{kind_of_statement, HasForm}
-use Rattle.event_script.specs.Spelling.{image_data, image_statements, snapshot_lines, snapshot_statements, round_statements}
+use Rattle.script_text.specs.declared.statement.SnapshotFields.{SnapshotFields}
+use Rattle.script_text.specs.ScriptData.{ScriptData, ImageData, SnapshotData, Counts, counts_of, IsSnapshot, recorded_bytes, IsSectionOf, AreFixed, IsEvent, IsThread, IsRound}
+use Rattle.script_text.specs.Statements.{kind_of_statement, HasForm}
+use Rattle.script_text.specs.Spelling.{image_data, image_statements, snapshot_lines, snapshot_statements, round_statements}
 use Rattle.event_script.specs.Draft.{DraftData, may_come, span_from, with_image, with_statement}
 use Rattle.event_script.specs.Reading.{section_or, image_added, last_fixed, is_above, fixed_added, snapshot_added, accepts, region_added, memory_added, is_named, has_room, added}
-use Rattle.event_script.specs.declared.script.Event.{Event}
-use Rattle.event_script.specs.declared.script.Event.TheVariants as event
-use Rattle.event_script.specs.declared.reader.fault.Reason.{Reason}
-use Rattle.event_script.specs.declared.reader.fault.Reason.TheVariants as reason
+use Rattle.script_text.specs.declared.script.Event.{Event}
+use Rattle.script_text.specs.declared.script.Event.TheVariants as event
+use Rattle.script_text.specs.declared.reason.Reason.{Reason}
+use Rattle.script_text.specs.declared.reason.Reason.TheVariants as reason
 use Rattle.event_script.specs.declared.reader.kinds.Stage.{Stage}
 use Rattle.event_script.specs.declared.reader.kinds.Stage.TheVariants as stage
-use Rattle.event_script.specs.declared.reader.statement.Statement.{Statement}
-use Rattle.event_script.specs.declared.reader.statement.Statement.TheVariants as statement
+use Rattle.script_text.specs.declared.statement.Statement.{Statement}
+use Rattle.script_text.specs.declared.statement.Statement.TheVariants as statement
 use Rattle.event_script.proofs.Steps.{bind_ok, guard_last, guard_then, ok_is, some_from}
 use Rattle.event_script.proofs.Sections.{section_is}
 use Rattle.event_script.proofs.Fixed.{fixed_push}
@@ -31,7 +31,8 @@ use Rattle.event_script.specs.declared.reader.totals.Totals.{Totals}
 use Rattle.event_script.proofs.EventTotals.{totalled_round, totalled_thread, totalled_event}
 use Rattle.event_script.proofs.SoFar.{AreRounds, Sound, Step, same_step, no_events, no_threads, no_rounds, no_fixed}
 use Rattle.event_script.proofs.Recorded.{accepted_true, no_memory, snapshot_push}
-use Rattle.event_script.proofs.LineLists.{before_fixed, before_rounds, before_snapshots, images_push, map_push, rounds_push, thread_begins, event_comes, thread_push, round_push, snapshots_push}
+use Rattle.event_script.proofs.LineLists.{before_fixed, before_rounds, before_snapshots, rounds_push, thread_begins, event_comes, thread_push, round_push}
+use Rattle.script_text.proofs.StatementLists.{images_push, map_push, snapshots_push}
 
 -- ---- sections
 

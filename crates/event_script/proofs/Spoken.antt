@@ -7,26 +7,26 @@ use Rattle.std.proofs.lemmas.List.{length-map}
 use Rattle.std.proofs.lemmas.List.Elements.{recursion_from_All}
 use Rattle.hex.specs.Hex.{IsBytes, encode_lower}
 use Rattle.frame_expr.specs.Regions.{RegionData}
-use Rattle.event_script.specs.declared.reader.statement.SnapshotFields.{SnapshotFields}
+use Rattle.script_text.specs.declared.statement.SnapshotFields.{SnapshotFields}
 use Rattle.std.specs.Option.{ok_or}
 use Rattle.std.specs.Fmt.{decimal}
-use Rattle.event_script.specs.Digits.{hex}
-use Rattle.event_script.specs.ScriptData.{ImageData}
-use Rattle.event_script.specs.Fields.{decimal_in, hex_in, hex_bytes_in, section_bytes, all_hex_in}
-use Rattle.event_script.specs.Statements.{word_of, Form, Decimal, Hexadecimal, Bytes, BytesOrDash, forms, IsField, AreFields, kind_of_statement, statement_fields, statement_line, HasForm}
-use Rattle.event_script.specs.Spelling.{Line}
+use Rattle.script_text.specs.Digits.{hex}
+use Rattle.script_text.specs.ScriptData.{ImageData}
+use Rattle.script_text.specs.Fields.{decimal_in, hex_in, hex_bytes_in, section_bytes, all_hex_in}
+use Rattle.script_text.specs.Statements.{word_of, Form, Decimal, Hexadecimal, Bytes, BytesOrDash, forms, IsField, AreFields, kind_of_statement, statement_fields, statement_line, HasForm}
+use Rattle.script_text.specs.Spelling.{Line}
 use Rattle.event_script.specs.Reasons.{LineText, Says}
 use Rattle.event_script.specs.Reading.{◌>=>◌, kind_of, one_decimal, one_hex, image_fields, numbers_in, snapshot_fields, memory_fields, fieldless, statement_of}
-use Rattle.event_script.specs.declared.script.Event.TheVariants as event
-use Rattle.event_script.specs.declared.reader.fault.Reason.{Reason}
-use Rattle.event_script.specs.declared.reader.fault.Reason.TheVariants as reason
-use Rattle.event_script.specs.declared.reader.kinds.Kind.{Kind}
-use Rattle.event_script.specs.declared.reader.kinds.Kind.TheVariants as kind
-use Rattle.event_script.specs.declared.reader.statement.Statement.{Statement}
-use Rattle.event_script.specs.declared.reader.statement.Statement.TheVariants as statement
+use Rattle.script_text.specs.declared.script.Event.TheVariants as event
+use Rattle.script_text.specs.declared.reason.Reason.{Reason}
+use Rattle.script_text.specs.declared.reason.Reason.TheVariants as reason
+use Rattle.script_text.specs.declared.kind.Kind.{Kind}
+use Rattle.script_text.specs.declared.kind.Kind.TheVariants as kind
+use Rattle.script_text.specs.declared.statement.Statement.{Statement}
+use Rattle.script_text.specs.declared.statement.Statement.TheVariants as statement
 use Rattle.event_script.proofs.Steps.{bind_ok, ok_is, one_decimal_is, one_hex_is, image_fields_are, snapshot_fields_are, memory_fields_are}
 use Rattle.event_script.proofs.Words.{word_again}
-use Rattle.event_script.proofs.Numbers.{decimal_again, hex_again}
+use Rattle.script_text.proofs.Numbers.{decimal_again, hex_again}
 use Rattle.event_script.proofs.Sections.{bytes_again, some_bytes_again}
 
 -- ---- what is said

@@ -2,10 +2,10 @@
 use Rattle.std.proofs.Common.{◌≡◌, ℕ, ◌+◌, ◌≤◌, true, cond, List, [], ◌∷◌, ◌++◌, refl, lt-ltb, arith}
 use Rattle.std.specs.List.{sum_by, count_by}
 use Rattle.std.proofs.lemmas.List.Sums.{sum_by-append, sum_by-cons, sum_by_push}
-use Rattle.event_script.specs.ScriptData.{is_unwind, count_unwinds}
+use Rattle.script_text.specs.ScriptData.{is_unwind, count_unwinds}
 use Rattle.event_script.specs.Reading.{has_room}
-use Rattle.event_script.specs.declared.script.Event.{Event}
-use Rattle.event_script.specs.declared.script.Event.TheVariants as event
+use Rattle.script_text.specs.declared.script.Event.{Event}
+use Rattle.script_text.specs.declared.script.Event.TheVariants as event
 use Rattle.event_script.specs.declared.reader.totals.Totals.{Totals}
 use Rattle.event_script.proofs.EventTotals.{totals_of}
 

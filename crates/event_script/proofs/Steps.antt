@@ -8,21 +8,21 @@ use Rattle.std.proofs.lemmas.List.Elements.{All-from_recursion}
 use Rattle.std.specs.Str.{bytes_eq}
 use Rattle.std.specs.Fmt.{decimal}
 use Rattle.std.proofs.lemmas.Slice.Eq.{bytes_eq-Decides}
-use Rattle.event_script.specs.declared.reader.fault.Reason.{Reason}
-use Rattle.event_script.specs.declared.reader.fault.Reason.TheVariants as reason
-use Rattle.event_script.specs.declared.reader.kinds.Kind.{Kind}
+use Rattle.script_text.specs.declared.reason.Reason.{Reason}
+use Rattle.script_text.specs.declared.reason.Reason.TheVariants as reason
+use Rattle.script_text.specs.declared.kind.Kind.{Kind}
 use Rattle.hex.specs.Hex.{IsBytes, decode_of, encode_lower}
 use Rattle.hex.specs.declared.error.FromHexError.{FromHexError}
 use Rattle.hex.proofs.HexLemmas.{decode_of-ok}
-use Rattle.event_script.specs.Digits.{hex}
-use Rattle.event_script.specs.ScriptData.{ImageData}
-use Rattle.event_script.specs.Statements.{word_of, section_digits}
-use Rattle.event_script.specs.Spelling.{Line}
-use Rattle.event_script.specs.Fields.{decimal_in, hex_in, bytes_if, hex_bytes_in, section_bytes, all_hex_in}
+use Rattle.script_text.specs.Digits.{hex}
+use Rattle.script_text.specs.ScriptData.{ImageData}
+use Rattle.script_text.specs.Statements.{word_of, section_digits}
+use Rattle.script_text.specs.Spelling.{Line}
+use Rattle.script_text.specs.Fields.{decimal_in, hex_in, bytes_if, hex_bytes_in, section_bytes, all_hex_in}
 use Rattle.event_script.specs.Reading.{◌>=>◌, only, two, five, has_any, one_decimal, one_hex, image_fields, numbers_in, snapshot_fields, memory_fields, kind_of, kinds}
-use Rattle.event_script.specs.declared.reader.statement.SnapshotFields.{SnapshotFields}
+use Rattle.script_text.specs.declared.statement.SnapshotFields.{SnapshotFields}
 use Rattle.frame_expr.specs.Regions.{RegionData}
-use Rattle.event_script.proofs.Numbers.{number_is}
+use Rattle.script_text.proofs.Numbers.{decimal_is, hex_is}
 
 pub bind_ok : {A B E : Type 0} (r : Result A E) (f : A → Result B E) (y : B) → (r >=> f) ≡ Ok y → (x : A) × (r ≡ Ok x) × (f x ≡ Ok y)
 bind_ok (Ok x) f y e = (x, refl, e)
@@ -59,12 +59,6 @@ only_is (first ∷ next ∷ fields) field e = absurd cc
 pub no_fields : (fields : Line) → has_any fields ≡ false → fields ≡ []
 no_fields [] e = refl
 no_fields (field ∷ fields) e = absurd cc
-
-pub decimal_is : (field : List ℕ) (n : ℕ) → decimal_in field ≡ Some n → (n < 2 ^ 32) × (field ≡ decimal n)
-decimal_is field n e = number_is 10 (2 ^ 32) n field e
-
-pub hex_is : (field : List ℕ) (n : ℕ) → hex_in field ≡ Some n → (n < 2 ^ 64) × (field ≡ hex n)
-hex_is field n e = number_is 16 (2 ^ 64) n field e
 
 pub one_decimal_is : (fields : Line) (n : ℕ) → one_decimal fields ≡ Ok n → (n < 2 ^ 32) × (fields ≡ decimal n ∷ [])
 one_decimal_is fields n e =

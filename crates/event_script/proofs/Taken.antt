@@ -5,12 +5,13 @@ use Rattle.std.proofs.lemmas.List.{drop_more}
 use Rattle.event_script.specs.declared.reader.ScriptFault.{ScriptFault}
 use Rattle.event_script.specs.declared.reader.ScriptFault.TheVariants.{Bad, NoMemory}
 use Rattle.event_script.specs.Fault.{FailsAt, IsOfScript}
-use Rattle.event_script.specs.Fields.{pieces}
+use Rattle.script_text.specs.Fields.{pieces}
 use Rattle.event_script.specs.Draft.{DraftData, nothing_known, with_statement}
-use Rattle.event_script.specs.Refusal.{MakeKnown, lines_text}
+use Rattle.event_script.specs.Refusal.{MakeKnown}
+use Rattle.script_text.specs.Fields.{lines_text}
 use Rattle.event_script.specs.Reading.{◌>=>◌, BadLine, at_line, after_line, after_lines, at_end, outcome}
 use Rattle.event_script.specs.Taken.{LinesData, AreLinesOf, HasTaken}
-use Rattle.event_script.proofs.Joined.{join, join_pieces, Without, pieces_first, pieces_only, without_append}
+use Rattle.script_text.proofs.Joined.{join, join_pieces, Without, pieces_first, pieces_only, without_append}
 use Rattle.event_script.proofs.SoFar.{Sound, statements_so_far}
 use Rattle.event_script.proofs.LinesRead.{numbered_ok, at_first}
 use Rattle.event_script.proofs.LineCounts.{few_lines, one_more_line}

@@ -2,11 +2,11 @@
 use Rattle.std.proofs.Common.{◌≡◌, ℕ, true, ◌&&◌, leb, List, [], ◌∷◌, Some, refl}
 use Rattle.std.specs.List.{list_all}
 use Rattle.std.proofs.lemmas.Bool.{and_parts, leb-true}
-use Rattle.event_script.specs.Statements.{word_of}
+use Rattle.script_text.specs.Statements.{word_of}
 use Rattle.event_script.specs.Reading.{kind_of}
-use Rattle.event_script.specs.declared.reader.kinds.Kind.{Kind}
-use Rattle.event_script.specs.declared.reader.kinds.Kind.TheVariants as kind
-use Rattle.event_script.proofs.Joined.{IsVisible}
+use Rattle.script_text.specs.declared.kind.Kind.{Kind}
+use Rattle.script_text.specs.declared.kind.Kind.TheVariants as kind
+use Rattle.script_text.proofs.Joined.{IsVisible}
 
 pub visible_from_test : (field : List ℕ) → list_all (λ b. leb 33 b && leb b 126) field ≡ true → IsVisible field
 visible_from_test [] e = tt

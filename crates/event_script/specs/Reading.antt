@@ -12,33 +12,33 @@ use Rattle.frame_parse.specs.Sections.{SectionData}
 use Rattle.frame_parse.specs.declared.fault.FrameFault.{FrameFault}
 use Rattle.frame_parse.specs.declared.fault.FrameFault.TheVariants as frame_fault
 use Rattle.frame_parse.specs.Reading.{section_of}
-use Rattle.event_script.specs.declared.limits.TheConstants.{FIRST_VERSION, LAST_VERSION}
-use Rattle.event_script.specs.declared.limits.TheConstants.{LEAST_NODES, MOST_NODES}
-use Rattle.event_script.specs.declared.limits.TheConstants.{LEAST_LOADS, MOST_LOADS, MOST_IMAGES}
-use Rattle.event_script.specs.declared.limits.TheConstants.{MOST_SECTION_BYTES, MOST_SNAPSHOTS}
-use Rattle.event_script.specs.declared.limits.TheConstants.{MOST_MEMORY_BYTES, MOST_ROUNDS}
-use Rattle.event_script.specs.declared.limits.TheConstants.{MOST_THREADS, MOST_EVENTS}
-use Rattle.event_script.specs.declared.limits.TheConstants.{MOST_UNWINDS}
+use Rattle.script_text.specs.declared.limits.TheConstants.{FIRST_VERSION, LAST_VERSION}
+use Rattle.script_text.specs.declared.limits.TheConstants.{LEAST_NODES, MOST_NODES}
+use Rattle.script_text.specs.declared.limits.TheConstants.{LEAST_LOADS, MOST_LOADS, MOST_IMAGES}
+use Rattle.script_text.specs.declared.limits.TheConstants.{MOST_SECTION_BYTES, MOST_SNAPSHOTS}
+use Rattle.script_text.specs.declared.limits.TheConstants.{MOST_MEMORY_BYTES, MOST_ROUNDS}
+use Rattle.script_text.specs.declared.limits.TheConstants.{MOST_THREADS, MOST_EVENTS}
+use Rattle.script_text.specs.declared.limits.TheConstants.{MOST_UNWINDS}
 use Rattle.frame_expr.specs.Regions.{RegionData, regions_end}
-use Rattle.event_script.specs.ScriptData.{ImageData, SnapshotData, Counts, recorded_bytes}
-use Rattle.event_script.specs.ScriptData.{counts_of}
-use Rattle.event_script.specs.Fields.{pieces, is_printable, decimal_in, hex_in, section_bytes}
-use Rattle.event_script.specs.Fields.{hex_bytes_in, all_hex_in}
-use Rattle.event_script.specs.Statements.{word_of}
+use Rattle.script_text.specs.ScriptData.{ImageData, SnapshotData, Counts, recorded_bytes}
+use Rattle.script_text.specs.ScriptData.{counts_of}
+use Rattle.script_text.specs.Fields.{pieces, is_printable, decimal_in, hex_in, section_bytes}
+use Rattle.script_text.specs.Fields.{hex_bytes_in, all_hex_in}
+use Rattle.script_text.specs.Statements.{word_of}
 use Rattle.event_script.specs.Draft.{DraftData, nothing_known, may_come, is_ended}
 use Rattle.event_script.specs.Draft.{snapshots_so_far, threads_so_far, rounds_so_far}
 use Rattle.event_script.specs.Draft.{with_image, with_statement}
-use Rattle.event_script.specs.declared.script.Event.{Event}
-use Rattle.event_script.specs.declared.script.Event.TheVariants as event
-use Rattle.event_script.specs.declared.reader.fault.Reason.{Reason}
-use Rattle.event_script.specs.declared.reader.fault.Reason.TheVariants as reason
+use Rattle.script_text.specs.declared.script.Event.{Event}
+use Rattle.script_text.specs.declared.script.Event.TheVariants as event
+use Rattle.script_text.specs.declared.reason.Reason.{Reason}
+use Rattle.script_text.specs.declared.reason.Reason.TheVariants as reason
 use Rattle.event_script.specs.declared.reader.fault.LineFault.{LineFault}
 use Rattle.event_script.specs.declared.reader.fault.LineFault.TheVariants as fault
-use Rattle.event_script.specs.declared.reader.kinds.Kind.{Kind}
-use Rattle.event_script.specs.declared.reader.kinds.Kind.TheVariants as kind
-use Rattle.event_script.specs.declared.reader.statement.SnapshotFields.{SnapshotFields}
-use Rattle.event_script.specs.declared.reader.statement.Statement.{Statement}
-use Rattle.event_script.specs.declared.reader.statement.Statement.TheVariants as statement
+use Rattle.script_text.specs.declared.kind.Kind.{Kind}
+use Rattle.script_text.specs.declared.kind.Kind.TheVariants as kind
+use Rattle.script_text.specs.declared.statement.SnapshotFields.{SnapshotFields}
+use Rattle.script_text.specs.declared.statement.Statement.{Statement}
+use Rattle.script_text.specs.declared.statement.Statement.TheVariants as statement
 use Rattle.event_script.specs.declared.reader.totals.Totals.{Totals}
 
 infixl 10 ◌>=>◌

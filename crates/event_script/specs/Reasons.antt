@@ -3,28 +3,28 @@ use Rattle.std.specs.Prelude.{◌≡◌, ◌≢◌, ◌⊎◌, ℕ, ◌+◌, ◌
 use Rattle.std.specs.Prelude.{Bool, true, false, Some, slice_get}
 use Rattle.frame_parse.specs.Sections.{IsRefused}
 use Rattle.frame_parse.specs.declared.fault.FrameFault.{FrameFault}
-use Rattle.event_script.specs.declared.limits.TheConstants.{FIRST_VERSION, LAST_VERSION}
-use Rattle.event_script.specs.declared.limits.TheConstants.{LEAST_NODES, MOST_NODES}
-use Rattle.event_script.specs.declared.limits.TheConstants.{LEAST_LOADS, MOST_LOADS, MOST_IMAGES}
-use Rattle.event_script.specs.declared.limits.TheConstants.{MOST_SECTION_BYTES, MOST_SNAPSHOTS}
-use Rattle.event_script.specs.declared.limits.TheConstants.{MOST_MEMORY_BYTES, MOST_ROUNDS}
-use Rattle.event_script.specs.declared.limits.TheConstants.{MOST_THREADS, MOST_EVENTS}
-use Rattle.event_script.specs.declared.limits.TheConstants.{MOST_UNWINDS}
+use Rattle.script_text.specs.declared.limits.TheConstants.{FIRST_VERSION, LAST_VERSION}
+use Rattle.script_text.specs.declared.limits.TheConstants.{LEAST_NODES, MOST_NODES}
+use Rattle.script_text.specs.declared.limits.TheConstants.{LEAST_LOADS, MOST_LOADS, MOST_IMAGES}
+use Rattle.script_text.specs.declared.limits.TheConstants.{MOST_SECTION_BYTES, MOST_SNAPSHOTS}
+use Rattle.script_text.specs.declared.limits.TheConstants.{MOST_MEMORY_BYTES, MOST_ROUNDS}
+use Rattle.script_text.specs.declared.limits.TheConstants.{MOST_THREADS, MOST_EVENTS}
+use Rattle.script_text.specs.declared.limits.TheConstants.{MOST_UNWINDS}
 use Rattle.reg_model.specs.SpanData.{SpanData}
-use Rattle.event_script.specs.Fields.{pieces, is_printable}
-use Rattle.event_script.specs.Statements.{word_of, forms, AreFields, statement_line, HasForm}
-use Rattle.event_script.specs.Spelling.{Line}
+use Rattle.script_text.specs.Fields.{pieces, is_printable}
+use Rattle.script_text.specs.Statements.{word_of, forms, AreFields, statement_line, HasForm}
+use Rattle.script_text.specs.Spelling.{Line}
 use Rattle.frame_expr.specs.Regions.{Accepts}
-use Rattle.event_script.specs.ScriptData.{recorded_bytes}
+use Rattle.script_text.specs.ScriptData.{recorded_bytes}
 use Rattle.event_script.specs.Draft.{DraftData, may_come, is_ended, snapshots_so_far}
 use Rattle.event_script.specs.Draft.{threads_so_far, rounds_so_far}
-use Rattle.event_script.specs.declared.script.Event.{Event}
-use Rattle.event_script.specs.declared.script.Event.TheVariants as event
-use Rattle.event_script.specs.declared.reader.fault.Reason.{Reason}
-use Rattle.event_script.specs.declared.reader.fault.Reason.TheVariants as reason
-use Rattle.event_script.specs.declared.reader.kinds.Kind.{Kind}
-use Rattle.event_script.specs.declared.reader.statement.Statement.{Statement}
-use Rattle.event_script.specs.declared.reader.statement.Statement.TheVariants as statement
+use Rattle.script_text.specs.declared.script.Event.{Event}
+use Rattle.script_text.specs.declared.script.Event.TheVariants as event
+use Rattle.script_text.specs.declared.reason.Reason.{Reason}
+use Rattle.script_text.specs.declared.reason.Reason.TheVariants as reason
+use Rattle.script_text.specs.declared.kind.Kind.{Kind}
+use Rattle.script_text.specs.declared.statement.Statement.{Statement}
+use Rattle.script_text.specs.declared.statement.Statement.TheVariants as statement
 
 -- what stands in the place of a line: its bytes, and whether a line feed ends them
 pub record LineText : Type 0 where

@@ -1,13 +1,12 @@
 -- The first bad line of a text.
 use Rattle.std.specs.Prelude.{◌≡◌, ◌≢◌, ◌⊎◌, ℕ, ◌+◌, List, [], ◌∷◌, ◌++◌, length, true, false}
-use Rattle.std.specs.List.{flat_map}
-use Rattle.event_script.specs.ScriptData.{ScriptData, IsRunnable}
-use Rattle.event_script.specs.Spelling.{script_text, IsScript}
-use Rattle.event_script.specs.Fields.{pieces}
+use Rattle.script_text.specs.ScriptData.{ScriptData, IsRunnable}
+use Rattle.script_text.specs.Spelling.{script_text, IsScript}
+use Rattle.script_text.specs.Fields.{pieces, lines_text}
 use Rattle.event_script.specs.Draft.{DraftData, nothing_known, is_ended, with_statement}
 use Rattle.event_script.specs.Reasons.{LineText, Says, IsReason, IsGood}
-use Rattle.event_script.specs.declared.reader.fault.Reason.{Reason}
-use Rattle.event_script.specs.declared.reader.statement.Statement.{Statement}
+use Rattle.script_text.specs.declared.reason.Reason.{Reason}
+use Rattle.script_text.specs.declared.statement.Statement.{Statement}
 
 -- a line that a line feed ends
 abbrev pub whole_line : List ℕ → LineText
@@ -53,10 +52,6 @@ pub record HasOneReading (bytes : List ℕ) : Type 0 where
       → IsFirstBad bytes other because → (line ≡ other) × (why ≡ because)
   pub never_both : (s : ScriptData) (line : ℕ) (why : Reason) → IsScript bytes s
       → IsFirstBad bytes line why → ⊥
-
--- the text of these lines, each with its line feed (10)
-abbrev pub lines_text : List (List ℕ) → List ℕ
-lines_text lines = flat_map (λ line. line ++ 10 ∷ []) lines
 
 -- some script's text begins with these lines
 abbrev pub BeginsScript : List (List ℕ) → Type 0

@@ -1,6 +1,6 @@
 -- Scripts whose bytes come piece after piece: what is known of those that came.
 use Rattle.std.specs.Prelude.{◌≡◌, ℕ, ◌+◌, List, [], ◌∷◌, ◌++◌, length, Result, Ok, Err}
-use Rattle.event_script.specs.Fields.{pieces}
+use Rattle.script_text.specs.Fields.{pieces}
 use Rattle.event_script.specs.Draft.{DraftData, nothing_known}
 use Rattle.event_script.specs.Refusal.{MakeKnown}
 use Rattle.event_script.specs.Fault.{Tells, IsOfScript}

@@ -2,13 +2,13 @@
 
 ghost use Rattle.std.specs.Prelude.{◌≡◌, ◌≢◌, ℕ, ◌-◌, List, take};
 ghost use Rattle.reg_model.specs.State.{AreDisjoint};
-ghost use Rattle.event_script.specs.ScriptData.{ScriptData, IsRunnable};
-ghost use Rattle.event_script.specs.Lawful.{fixed_members};
-ghost use Rattle.event_script.specs.Spelling.{IsScript, script_text};
-ghost use Rattle.event_script.specs.Fields.{pieces};
+ghost use Rattle.script_text.specs.ScriptData.{ScriptData, IsRunnable};
+ghost use Rattle.script_text.specs.Lawful.{fixed_members};
+ghost use Rattle.script_text.specs.Spelling.{IsScript, script_text};
+ghost use Rattle.script_text.specs.Fields.{pieces};
 ghost use Rattle.event_script.specs.Refusal.{IsFirstBad, BeginsScript, HasOneReading};
-ghost use Rattle.event_script.specs.declared.reader.fault.Reason.{Reason};
-ghost use Rattle.event_script.specs.declared.reader.fault.Reason.TheVariants as reason;
+ghost use Rattle.script_text.specs.declared.reason.Reason.{Reason};
+ghost use Rattle.script_text.specs.declared.reason.Reason.TheVariants as reason;
 
 /// Bytes spell one script at the most.
 pub fn bytes_spell_one_script()

@@ -1,25 +1,24 @@
 //! The reader of scripts.
 
 ghost use Rattle.std.specs.Prelude.{List, ℕ, [], ◌++◌, IfOk, IfErr};
-ghost use Rattle.event_script.specs.Spelling.{IsScript};
+ghost use Rattle.script_text.specs.Spelling.{IsScript};
 ghost use Rattle.event_script.specs.Fault.{Tells, IsOfScript};
 ghost use Rattle.event_script.specs.Taken.{HasTaken};
 
+mod bytes;
 mod draft;
 mod events;
-pub mod fault;
-pub mod fields;
+mod fault;
+mod fields;
 mod good_lines;
 mod images;
 mod kinds;
-pub mod numbers;
 mod snapshot_draft;
 mod statement;
 mod totals;
 
-use crate::reader::fault::Reason;
 use crate::reader::good_lines::GoodLines;
-use crate::script::Script;
+use script_text::{Reason, Script};
 use std::alloc::Global;
 use std::marker::Model;
 use std::mem::replace;

@@ -7,10 +7,10 @@ use Rattle.reg_model.specs.declared.answer.Inserted.TheVariants as inserted
 use Rattle.reg_model.specs.declared.answer.Loading.TheVariants as loading
 use Rattle.reg_model.specs.declared.answer.Removed.TheVariants as removed
 use Rattle.reg_model.specs.declared.answer.Replaced.TheVariants as replaced
-use Rattle.event_script.specs.Lawful.{receipts_of, done_after}
+use Rattle.script_text.specs.Lawful.{receipts_of, done_after}
 use Rattle.journal_reader.proofs.LawfulSizes.{count, count_append, of_place, of_frames}
-use Rattle.event_script.specs.declared.journal.Answer.{Answer}
-use Rattle.event_script.specs.declared.journal.Answer.TheVariants.{Register, Deregister, Replace, Load, Unload, Find, Unwind}
+use Rattle.script_text.specs.declared.journal.Answer.{Answer}
+use Rattle.script_text.specs.declared.journal.Answer.TheVariants.{Register, Deregister, Replace, Load, Unload, Find, Unwind}
 use Rattle.journal_check.specs.Telling.{is_update}
 use Rattle.journal_check.proofs.Receipts.{of_thread}
 

@@ -10,9 +10,9 @@ use Rattle.reg_model.specs.declared.answer.Half.TheVariants.{Registered, Loaded}
 use Rattle.reg_model.specs.declared.answer.Receipt.{Receipt}
 use Rattle.reg_model.specs.declared.answer.Receipt.TheVariants as receipt
 use Rattle.unwind_step.specs.declared.backtrace.FrameLine.{FrameLine}
-use Rattle.event_script.specs.Lawful.{image_member}
-use Rattle.event_script.specs.declared.journal.Answer.{Answer}
-use Rattle.event_script.specs.declared.journal.Answer.TheVariants.{Register, Deregister, Replace, Load, Unload, Find, Unwind}
+use Rattle.script_text.specs.Lawful.{image_member}
+use Rattle.script_text.specs.declared.journal.Answer.{Answer}
+use Rattle.script_text.specs.declared.journal.Answer.TheVariants.{Register, Deregister, Replace, Load, Unload, Find, Unwind}
 use Rattle.receipt_check.specs.declared.account.Told.{Told}
 use Rattle.journal_check.specs.Telling.{TellingData, told_after, tell_receipt, next_line, tell_line, tell_answer, tell_thread, tell_rounds, is_update}
 use Rattle.journal_check.specs.declared.teller.Bounds.{Bounds}

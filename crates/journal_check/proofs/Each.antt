@@ -6,8 +6,8 @@ use Rattle.std.proofs.lemmas.List.{length-map}
 use Rattle.reg_model.specs.SpanData.{SpanData}
 use Rattle.reg_model.specs.Receipt.{moment}
 use Rattle.reg_model.specs.declared.answer.Receipt.{Receipt}
-use Rattle.event_script.specs.Lawful.{receipts_of, done_after}
-use Rattle.event_script.specs.declared.journal.Answer.{Answer}
+use Rattle.script_text.specs.Lawful.{receipts_of, done_after}
+use Rattle.script_text.specs.declared.journal.Answer.{Answer}
 use Rattle.receipt_check.specs.declared.account.Told.{Told}
 use Rattle.receipt_check.proofs.Halves.{All-front}
 use Rattle.journal_check.specs.Telling.{TellingData, told_after, receipt_lines, tell_receipt, tell_line, tell_answer, tell_thread, tell_rounds, is_update}

@@ -6,11 +6,11 @@ use Rattle.std.proofs.lemmas.List.{drop_more, drop_all}
 use Rattle.std.proofs.lemmas.Option.{slice_get_read}
 use Rattle.std.proofs.lemmas.List.Sums.{sum_by-append, sum_by-cons}
 use Rattle.std.proofs.lemmas.List.Elements.{All-append, All-cons, All-head, All-tail, All-nil}
-use Rattle.event_script.specs.ScriptData.{ScriptData, SnapshotData}
-use Rattle.event_script.specs.Lawful.{IsUnfolded}
-use Rattle.event_script.specs.Text.{answer_lines}
-use Rattle.event_script.specs.declared.journal.Answer.{Answer}
-use Rattle.event_script.specs.declared.journal.Answer.TheVariants.{Register, Deregister, Replace, Load, Unload, Find, Unwind}
+use Rattle.script_text.specs.ScriptData.{ScriptData, SnapshotData}
+use Rattle.script_text.specs.Lawful.{IsUnfolded}
+use Rattle.script_text.specs.Text.{answer_lines}
+use Rattle.script_text.specs.declared.journal.Answer.{Answer}
+use Rattle.script_text.specs.declared.journal.Answer.TheVariants.{Register, Deregister, Replace, Load, Unload, Find, Unwind}
 use Rattle.unwind_step.specs.Backtrace.{TraceData, Unfolds}
 use Rattle.trace_check.specs.Departures.{IsDeparture}
 use Rattle.trace_check.proofs.Departing.{departs_once}

@@ -6,9 +6,9 @@ use Rattle.reg_model.specs.SpanData.{SpanData}
 use Rattle.reg_model.specs.Receipt.{receipts_of_place}
 use Rattle.reg_model.specs.declared.answer.Receipt.{Receipt}
 use Rattle.unwind_step.specs.declared.backtrace.FrameLine.{FrameLine}
-use Rattle.event_script.specs.Lawful.{receipts_of, in_one}
-use Rattle.event_script.specs.declared.journal.Answer.{Answer}
-use Rattle.event_script.specs.declared.journal.Answer.TheVariants.{Register, Deregister, Replace, Load, Unload, Find, Unwind}
+use Rattle.script_text.specs.Lawful.{receipts_of, in_one}
+use Rattle.script_text.specs.declared.journal.Answer.{Answer}
+use Rattle.script_text.specs.declared.journal.Answer.TheVariants.{Register, Deregister, Replace, Load, Unload, Find, Unwind}
 use Rattle.receipt_check.specs.declared.account.Told.{Told}
 use Rattle.receipt_check.specs.Flaws.{told_receipts}
 use Rattle.journal_check.specs.Telling.{TellingData, told_after, receipt_lines, tell_receipt, tell_line, tell_answer, tell_thread, tell_rounds, is_update}

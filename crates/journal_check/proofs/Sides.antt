@@ -7,7 +7,7 @@ use Rattle.reg_model.specs.State.{State}
 use Rattle.reg_model.specs.Receipt.{moment, accepted, Holds, AllHold, AreInOrder}
 use Rattle.reg_model.specs.declared.answer.Update.{Update}
 use Rattle.reg_model.specs.declared.answer.Receipt.{Receipt}
-use Rattle.event_script.specs.Lawful.{done_after, AreInRounds}
+use Rattle.script_text.specs.Lawful.{done_after, AreInRounds}
 use Rattle.journal_check.specs.declared.teller.Bounds.{Bounds}
 use Rattle.journal_check.proofs.Each.{EachFrom, RoundsEach}
 

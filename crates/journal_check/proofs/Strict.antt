@@ -10,9 +10,9 @@ use Rattle.reg_model.specs.Receipt.{moment, accepted, IsRight, AllHold, AreInOrd
 use Rattle.reg_model.specs.Numbers.{has_number, AreNumbered, history_of}
 use Rattle.reg_model.specs.declared.answer.Update.{Update}
 use Rattle.reg_model.specs.declared.answer.Receipt.{Receipt}
-use Rattle.event_script.specs.ScriptData.{ScriptData}
-use Rattle.event_script.specs.JournalData.{JournalData}
-use Rattle.event_script.specs.Lawful.{RoundsHold, AreInRounds, thread_receipts, in_one, start_of, done_after, AnswersEvent, IsUnfolded, IsLawfulJournal}
+use Rattle.script_text.specs.ScriptData.{ScriptData}
+use Rattle.script_text.specs.JournalData.{JournalData}
+use Rattle.script_text.specs.Lawful.{RoundsHold, AreInRounds, thread_receipts, in_one, start_of, done_after, AnswersEvent, IsUnfolded, IsLawfulJournal}
 use Rattle.receipt_check.proofs.Halves.{All-front, All-back}
 use Rattle.receipt_check.specs.declared.account.Told.{Told}
 use Rattle.receipt_check.specs.declared.account.ReceiptFlaw.TheVariants as flaw

@@ -1,8 +1,8 @@
 -- A text has one verdict at the most.
 use Rattle.std.proofs.Common.{◌≡◌, ◌↔◌, ℕ, List, Result, Ok, Err, IfOk, All, inl, inr, refl, sym, ◌∙◌, ap, ap₂, subst}
-use Rattle.event_script.specs.ScriptData.{ScriptData, IsRunnable}
-use Rattle.event_script.specs.JournalData.{JournalData}
-use Rattle.event_script.specs.Lawful.{IsLawfulJournal, IsUnfolded}
+use Rattle.script_text.specs.ScriptData.{ScriptData, IsRunnable}
+use Rattle.script_text.specs.JournalData.{JournalData}
+use Rattle.script_text.specs.Lawful.{IsLawfulJournal, IsUnfolded}
 use Rattle.journal_reader.specs.FormFlaw.{TellsJournal}
 use Rattle.journal_reader.proofs.OneAnswer.{one_journal, one_line, never_told_and_bad}
 use Rattle.journal_reader.proofs.LawfulSizes.{lawful_is_told}

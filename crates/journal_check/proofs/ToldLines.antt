@@ -7,13 +7,13 @@ use Rattle.reg_model.specs.SpanData.{SpanData}
 use Rattle.reg_model.specs.Receipt.{receipts_of_place}
 use Rattle.reg_model.specs.declared.answer.Receipt.{Receipt}
 use Rattle.unwind_step.specs.declared.backtrace.FrameLine.{FrameLine}
-use Rattle.event_script.specs.Fields.{pieces}
-use Rattle.event_script.specs.JournalData.{JournalData}
-use Rattle.event_script.specs.ScriptData.{ScriptData}
-use Rattle.event_script.specs.Text.{answer_lines, journal_text}
-use Rattle.event_script.specs.declared.journal.Answer.{Answer}
-use Rattle.event_script.specs.declared.journal.Answer.TheVariants.{Register, Deregister, Replace, Load, Unload, Find, Unwind}
-use Rattle.event_script.proofs.TraceLines.{trace_count}
+use Rattle.script_text.specs.Fields.{pieces}
+use Rattle.script_text.specs.JournalData.{JournalData}
+use Rattle.script_text.specs.ScriptData.{ScriptData}
+use Rattle.script_text.specs.Text.{answer_lines, journal_text}
+use Rattle.script_text.specs.declared.journal.Answer.{Answer}
+use Rattle.script_text.specs.declared.journal.Answer.TheVariants.{Register, Deregister, Replace, Load, Unload, Find, Unwind}
+use Rattle.script_text.proofs.TraceLines.{trace_count}
 use Rattle.journal_reader.specs.JournalLines.{event_lines, journal_lines, line_at, numbered_lines, round_lines, thread_lines, updates_line}
 use Rattle.journal_reader.proofs.TextLines.{journal_pieces}
 use Rattle.journal_check.specs.Passing.{text_lines}

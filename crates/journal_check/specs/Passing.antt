@@ -1,9 +1,9 @@
 -- A journal's answers are gone through, one after another.
 use Rattle.std.specs.Prelude.{◌≡◌, ℕ, ◌+◌, List, length, Result, Ok, Err, All, sum_by}
-use Rattle.event_script.specs.ScriptData.{ScriptData}
-use Rattle.event_script.specs.Lawful.{IsUnfolded}
-use Rattle.event_script.specs.Text.{answer_lines}
-use Rattle.event_script.specs.declared.journal.Answer.{Answer}
+use Rattle.script_text.specs.ScriptData.{ScriptData}
+use Rattle.script_text.specs.Lawful.{IsUnfolded}
+use Rattle.script_text.specs.Text.{answer_lines}
+use Rattle.script_text.specs.declared.journal.Answer.{Answer}
 use Rattle.journal_check.specs.TextFlaws.{DepartsFirst}
 use Rattle.journal_check.specs.declared.traces.Stopped.{Stopped}
 use Rattle.journal_check.specs.declared.traces.Stopped.TheVariants.{Departs, NoMemory}

@@ -1,12 +1,12 @@
 -- What is wrong with a text: the first flaw that is found anywhere in it, and its line.
 use Rattle.std.specs.Prelude.{◌≡◌, ◌⊎◌, ℕ, ◌+◌, List, [], ◌∷◌, length, MatchOption, slice_get}
 use Rattle.std.specs.List.{flat_map}
-use Rattle.event_script.specs.ScriptData.{ScriptData}
-use Rattle.event_script.specs.JournalData.{JournalData}
-use Rattle.event_script.specs.Lawful.{IsLawfulJournal, IsUnfolded}
-use Rattle.event_script.specs.Text.{journal_text, answer_lines}
-use Rattle.event_script.specs.declared.journal.Answer.{Answer}
-use Rattle.event_script.specs.declared.journal.Answer.TheVariants.{Unwind}
+use Rattle.script_text.specs.ScriptData.{ScriptData}
+use Rattle.script_text.specs.JournalData.{JournalData}
+use Rattle.script_text.specs.Lawful.{IsLawfulJournal, IsUnfolded}
+use Rattle.script_text.specs.Text.{journal_text, answer_lines}
+use Rattle.script_text.specs.declared.journal.Answer.{Answer}
+use Rattle.script_text.specs.declared.journal.Answer.TheVariants.{Unwind}
 use Rattle.journal_reader.specs.FormFlaw.{TellsJournal, FormFlaw}
 use Rattle.trace_check.specs.Departures.{IsDeparture}
 use Rattle.receipt_check.specs.Flaws.{IsFlawless, CountsFirst}

@@ -1,7 +1,7 @@
 //! The checker of texts.
 
 ghost use Rattle.std.specs.Prelude.{◌≡◌, ◌↔◌, ℕ, List, IfOk};
-ghost use Rattle.event_script.specs.ScriptData.{IsRunnable};
+ghost use Rattle.script_text.specs.ScriptData.{IsRunnable};
 ghost use Rattle.journal_reader.specs.FormFlaw.{TellsJournal};
 ghost use Rattle.journal_check.specs.TextFlaws.{IsLawfulText, IsFirstFlaw, IsVerdictOn};
 ghost use Rattle.journal_check.specs.declared.verdict.Flaw.{Flaw};
@@ -10,9 +10,9 @@ use crate::judging::judge;
 use crate::laws::texts_have_one_verdict;
 use crate::traces::first_departure;
 use crate::verdict::{Flaw, Verdict};
-use event_script::{Journal, Script};
 use journal_reader::read_journal;
 use reg_model::NoMemory;
+use script_text::{Journal, Script};
 use std::alloc::Global;
 
 /// Whether the text is that of a lawful journal of the script, and else the first line that is not,

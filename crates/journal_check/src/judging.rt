@@ -6,9 +6,9 @@ ghost use Rattle.journal_check.specs.Telling.{account_of, tell_rounds};
 
 use crate::teller::{Bounds, Teller};
 use crate::updates::done_with;
-use event_script::{Answer, Journal, Script, members_of};
 use receipt_check::{Account, Departure, first_flaw};
 use reg_model::{NoMemory, Span};
+use script_text::{Answer, Journal, Script, members_of};
 use std::alloc::Global;
 
 /// None where nothing is wrong with the journal but for its backtraces, and else the flaw that

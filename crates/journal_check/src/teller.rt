@@ -2,13 +2,13 @@
 
 ghost use Rattle.std.specs.Prelude.{◌≡◌, [], ◌∷◌, ◌++◌, map, OnOk};
 ghost use Rattle.reg_model.specs.Receipt.{receipts_of_place};
-ghost use Rattle.event_script.specs.Lawful.{image_member};
+ghost use Rattle.script_text.specs.Lawful.{image_member};
 ghost use Rattle.journal_check.specs.Telling.{tell_receipt, next_line, tell_line, tell_answer};
 ghost use Rattle.journal_check.specs.Telling.{tell_thread, told_after, receipt_lines};
 
-use event_script::Answer;
 use receipt_check::{Told, moment_of};
 use reg_model::{Half, Member, NoMemory, Place, Receipt, Span};
+use script_text::Answer;
 use std::alloc::Global;
 use std::marker::Model;
 use unwind_step::Trace;

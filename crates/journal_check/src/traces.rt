@@ -1,13 +1,13 @@
 //! The first backtrace of a journal that leaves the rules of frames.
 
 ghost use Rattle.std.specs.Prelude.{◌≡◌, ◌+◌, [], ◌∷◌, All, IfOk, OnErr, MatchOption, map, Err};
-ghost use Rattle.event_script.specs.Lawful.{IsUnfolded};
+ghost use Rattle.script_text.specs.Lawful.{IsUnfolded};
 ghost use Rattle.journal_check.specs.TextFlaws.{IsTraceFlaw, answers_of, flattened};
 ghost use Rattle.journal_check.specs.Passing.{IsPassed};
 ghost use Rattle.journal_check.specs.declared.traces.Stopped.TheVariants as stopped;
 
-use event_script::{Answer, Journal, Script, line_count};
 use reg_model::NoMemory;
+use script_text::{Answer, Journal, Script, line_count};
 use trace_check::departure;
 
 /// Why answers were not all gone through.

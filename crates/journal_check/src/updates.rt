@@ -3,8 +3,8 @@
 ghost use Rattle.std.specs.Prelude.{◌≡◌, ◌+◌, map, sum_by, count_by, IfOk};
 ghost use Rattle.journal_check.specs.Telling.{is_update};
 
-use event_script::Answer;
 use reg_model::{Inserted, Loading, NoMemory, Removed, Replaced};
+use script_text::Answer;
 
 /// Whether the answer accepts an update.
 fn is_update(answer: &Answer) -> bool

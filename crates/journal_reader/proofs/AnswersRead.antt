@@ -19,16 +19,16 @@ use Rattle.reg_model.specs.declared.answer.Replaced.TheVariants as replaced
 use Rattle.unwind_step.specs.declared.backtrace.End.{End}
 use Rattle.unwind_step.specs.declared.backtrace.End.TheVariants as end
 use Rattle.unwind_step.specs.declared.backtrace.FrameLine.{FrameLine}
-use Rattle.event_script.specs.Digits.{hex}
-use Rattle.event_script.specs.Fields.{decimal_in, hex_in, number_in}
-use Rattle.event_script.specs.Text.{inserted_text, loading_text, removed_text, replaced_text, found_text, loaded_text, place_text, end_text}
-use Rattle.event_script.specs.Lawful.{image_member}
-use Rattle.event_script.proofs.Numbers.{decimal_again, hex_again}
+use Rattle.script_text.specs.Digits.{hex}
+use Rattle.script_text.specs.Fields.{decimal_in, hex_in, number_in}
+use Rattle.script_text.specs.Text.{inserted_text, loading_text, removed_text, replaced_text, found_text, loaded_text, place_text, end_text}
+use Rattle.script_text.specs.Lawful.{image_member}
+use Rattle.script_text.proofs.Numbers.{decimal_again, hex_again}
 use Rattle.journal_reader.specs.FirstNumbers.{decimal_first, hex_first, past_word}
 use Rattle.journal_reader.specs.Told.{IsToldFound, IsToldPlace, IsToldInserted, IsToldLoading, IsToldRemoved, IsToldReplaced, IsToldFrame, IsToldEnd}
 use Rattle.journal_reader.specs.Reading.{◌>?>◌, image_in, overlap_in, inserted_in, as_loading, loading_in, removed_in, as_replaced, replaced_in, found_first, if_last, loaded_in, place_from, told_place, frame_in, plain_end, end_in}
 use Rattle.journal_reader.proofs.Options.{step_parts, going_parts}
-use Rattle.event_script.proofs.Steps.{decimal_is, hex_is}
+use Rattle.script_text.proofs.Numbers.{decimal_is, hex_is}
 use Rattle.journal_reader.proofs.FirstParts.{IsCut, past_is, decimal_first_again, hex_first_again, decimal_first_is, hex_first_is}
 use Rattle.journal_reader.proofs.Members.{image_in_is, image_in_again, overlap_again, overlap_is}
 

@@ -4,8 +4,8 @@ use Rattle.std.specs.List.{count_by}
 use Rattle.std.proofs.lemmas.List.Recursion.{is_count_by}
 use Rattle.std.proofs.lemmas.Bool.{cond-true, cond-false}
 use denote.Ref.{Bor}
-use Rattle.event_script.specs.Fields.{pieces, with_first}
-use Rattle.event_script.proofs.Pieces.{some_pieces}
+use Rattle.script_text.specs.Fields.{pieces, with_first}
+use Rattle.script_text.proofs.Pieces.{some_pieces}
 use Rattle.journal_reader.specs.FirstNumbers.{before_space, from_space, past_word}
 use Rattle.journal_reader.proofs.FirstParts.{past_none, past_some}
 

@@ -9,11 +9,11 @@ use Rattle.reg_model.specs.declared.answer.Removed.TheVariants as removed
 use Rattle.reg_model.specs.declared.answer.Replaced.TheVariants as replaced
 use Rattle.unwind_step.specs.Backtrace.{TraceData}
 use Rattle.unwind_step.specs.declared.backtrace.End.TheVariants as end
-use Rattle.event_script.specs.Text.{answer_line}
-use Rattle.event_script.specs.declared.script.Event.{Event}
-use Rattle.event_script.specs.declared.script.Event.TheVariants as event
-use Rattle.event_script.specs.declared.journal.Answer.{Answer}
-use Rattle.event_script.specs.declared.journal.Answer.TheVariants.{Register, Deregister, Replace, Load, Unload, Find, Unwind}
+use Rattle.script_text.specs.Text.{answer_line}
+use Rattle.script_text.specs.declared.script.Event.{Event}
+use Rattle.script_text.specs.declared.script.Event.TheVariants as event
+use Rattle.script_text.specs.declared.journal.Answer.{Answer}
+use Rattle.script_text.specs.declared.journal.Answer.TheVariants.{Register, Deregister, Replace, Load, Unload, Find, Unwind}
 use Rattle.journal_reader.specs.Told.{IsToldTrace, IsToldAnswer}
 use Rattle.journal_reader.specs.Reading.{IsOneLine, head_of, first_line}
 use Rattle.journal_reader.specs.JournalLines.{line_at, event_lines}

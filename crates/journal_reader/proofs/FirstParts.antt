@@ -4,9 +4,9 @@ use Rattle.std.specs.List.{AllByRecursion}
 use Rattle.std.specs.Option.{option_map}
 use Rattle.std.specs.Fmt.{decimal}
 use Rattle.std.proofs.lemmas.Bool.{cond-true, cond-false}
-use Rattle.event_script.specs.Digits.{hex}
-use Rattle.event_script.specs.Fields.{decimal_in, hex_in}
-use Rattle.event_script.proofs.Numbers.{number_is, decimal_again, hex_again, decimal_visible, hex_visible}
+use Rattle.script_text.specs.Digits.{hex}
+use Rattle.script_text.specs.Fields.{decimal_in, hex_in}
+use Rattle.script_text.proofs.Numbers.{number_is, decimal_again, hex_again, decimal_visible, hex_visible}
 use Rattle.journal_reader.specs.FirstNumbers.{before_space, from_space, decimal_first, hex_first, past_word}
 use Rattle.journal_reader.proofs.Options.{map_parts}
 

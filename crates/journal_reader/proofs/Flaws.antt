@@ -2,13 +2,13 @@
 use Rattle.std.proofs.Common.{◌≡◌, ◌≢◌, ℕ, ◌+◌, ◌^◌, ◌<◌, ◌≤◌, true, false, eqb, List, [], ◌∷◌, ◌++◌, length, None, inl, inr, eqb-true, refl, sym, ap, ap₂, subst, ◌∙◌, append_assoc, append-nil, length-append, arith}
 use Rattle.std.specs.List.{AllByRecursion, count_by}
 use Rattle.std.proofs.lemmas.Grind.{flat_map-append}
-use Rattle.event_script.specs.Fields.{pieces}
-use Rattle.event_script.specs.ScriptData.{ScriptData}
-use Rattle.event_script.specs.JournalData.{JournalData}
-use Rattle.event_script.specs.Refusal.{lines_text}
-use Rattle.event_script.specs.Text.{journal_text}
-use Rattle.event_script.proofs.Pieces.{some_pieces}
-use Rattle.event_script.proofs.Joined.{Without, join, join_pieces, pieces_only}
+use Rattle.script_text.specs.Fields.{pieces}
+use Rattle.script_text.specs.ScriptData.{ScriptData}
+use Rattle.script_text.specs.JournalData.{JournalData}
+use Rattle.script_text.specs.Fields.{lines_text}
+use Rattle.script_text.specs.Text.{journal_text}
+use Rattle.script_text.proofs.Pieces.{some_pieces}
+use Rattle.script_text.proofs.Joined.{Without, join, join_pieces, pieces_only}
 use Rattle.journal_reader.specs.Told.{IsToldJournal}
 use Rattle.journal_reader.specs.JournalLines.{journal_lines}
 use Rattle.journal_reader.specs.ReadLines.{AreBarredBy, IsStuck}

@@ -2,11 +2,11 @@
 use Rattle.std.proofs.Common.{◌≡◌, ℕ, ◌+◌, ◌^◌, ◌<◌, List, [], ◌∷◌, ◌++◌, length, Some, None, refl, sym, ap, ap₂, subst, ◌∙◌, append_assoc, arith}
 use Rattle.std.specs.List.{AllZip}
 use Rattle.reg_model.specs.SpanData.{SpanData}
-use Rattle.event_script.specs.Fields.{pieces}
-use Rattle.event_script.specs.ScriptData.{ScriptData}
-use Rattle.event_script.specs.JournalData.{JournalData}
-use Rattle.event_script.specs.declared.script.Event.{Event}
-use Rattle.event_script.specs.declared.journal.Answer.{Answer}
+use Rattle.script_text.specs.Fields.{pieces}
+use Rattle.script_text.specs.ScriptData.{ScriptData}
+use Rattle.script_text.specs.JournalData.{JournalData}
+use Rattle.script_text.specs.declared.script.Event.{Event}
+use Rattle.script_text.specs.declared.journal.Answer.{Answer}
 use Rattle.journal_reader.specs.Told.{IsToldAnswer, IsToldJournal}
 use Rattle.journal_reader.specs.JournalLines.{event_lines, thread_lines, round_lines, numbered_lines, updates_line, journal_lines}
 use Rattle.journal_reader.specs.ReadLines.{IsStuck}

@@ -29,13 +29,13 @@ use Rattle.trace_check.proofs.Words.{trace_words}
 use Rattle.unwind_step.specs.declared.backtrace.End.{End}
 use Rattle.unwind_step.specs.declared.backtrace.End.TheVariants as ends
 use Rattle.unwind_step.specs.declared.backtrace.FrameLine.{FrameLine}
-use Rattle.event_script.specs.JournalData.{JournalData}
-use Rattle.event_script.specs.Lawful.{image_member, AnswersEvent, AreInRounds, IsLawfulJournal, IsUnfolded, done_after, in_one, receipts_of, receipts_of_trace, thread_receipts}
-use Rattle.event_script.specs.ScriptData.{Counts, IsRound, IsRunnable, IsSectionOf, IsSnapshot, IsThread, ScriptData, SnapshotData, counts_of}
-use Rattle.event_script.specs.declared.journal.Answer.{Answer}
-use Rattle.event_script.specs.declared.journal.Answer.TheVariants.{Register, Deregister, Replace, Load, Unload, Find, Unwind}
-use Rattle.event_script.specs.declared.script.Event.{Event}
-use Rattle.event_script.specs.Text.{journal_text}
+use Rattle.script_text.specs.JournalData.{JournalData}
+use Rattle.script_text.specs.Lawful.{image_member, AnswersEvent, AreInRounds, IsLawfulJournal, IsUnfolded, done_after, in_one, receipts_of, receipts_of_trace, thread_receipts}
+use Rattle.script_text.specs.ScriptData.{Counts, IsRound, IsRunnable, IsSectionOf, IsSnapshot, IsThread, ScriptData, SnapshotData, counts_of}
+use Rattle.script_text.specs.declared.journal.Answer.{Answer}
+use Rattle.script_text.specs.declared.journal.Answer.TheVariants.{Register, Deregister, Replace, Load, Unload, Find, Unwind}
+use Rattle.script_text.specs.declared.script.Event.{Event}
+use Rattle.script_text.specs.Text.{journal_text}
 use Rattle.journal_reader.specs.FormFlaw.{TellsJournal}
 use Rattle.journal_reader.proofs.Sizes.{IsSized, IsSizedAnswer, IsSizedFound, IsSizedFrame, IsSizedPlace}
 use Rattle.journal_reader.specs.Told.{IsToldEnd}

@@ -24,14 +24,14 @@ use Rattle.reg_model.specs.declared.answer.Replaced.TheVariants as replaced
 use Rattle.reg_model.specs.declared.answer.Receipt.{Receipt}
 use Rattle.reg_model.specs.declared.answer.Receipt.TheVariants as receipt
 use Rattle.unwind_step.specs.declared.backtrace.FrameLine.{FrameLine}
-use Rattle.event_script.specs.ScriptData.{ScriptData, IsEvent, IsThread, IsRound, IsRunnable, span_of, counts_of}
-use Rattle.event_script.specs.JournalData.{JournalData}
-use Rattle.event_script.specs.Lawful.{image_member, AnswersEvent, receipts_of, receipts_of_trace, thread_receipts, in_one, done_after, RoundsHold, start_of, IsLawfulJournal}
-use Rattle.event_script.specs.Text.{journal_text}
-use Rattle.event_script.specs.declared.script.Event.{Event}
-use Rattle.event_script.specs.declared.script.Event.TheVariants as event
-use Rattle.event_script.specs.declared.journal.Answer.{Answer}
-use Rattle.event_script.specs.declared.journal.Answer.TheVariants.{Register, Deregister, Replace, Load, Unload, Find, Unwind}
+use Rattle.script_text.specs.ScriptData.{ScriptData, IsEvent, IsThread, IsRound, IsRunnable, span_of, counts_of}
+use Rattle.script_text.specs.JournalData.{JournalData}
+use Rattle.script_text.specs.Lawful.{image_member, AnswersEvent, receipts_of, receipts_of_trace, thread_receipts, in_one, done_after, RoundsHold, start_of, IsLawfulJournal}
+use Rattle.script_text.specs.Text.{journal_text}
+use Rattle.script_text.specs.declared.script.Event.{Event}
+use Rattle.script_text.specs.declared.script.Event.TheVariants as event
+use Rattle.script_text.specs.declared.journal.Answer.{Answer}
+use Rattle.script_text.specs.declared.journal.Answer.TheVariants.{Register, Deregister, Replace, Load, Unload, Find, Unwind}
 use Rattle.journal_reader.specs.Told.{IsImage, IsToldOverlap, IsToldFound, IsToldPlace, IsToldInserted, IsToldLoading, IsToldRemoved, IsToldReplaced, IsToldFrame, IsToldAnswer}
 use Rattle.journal_reader.proofs.Sizes.{IsSizedFound, IsSizedInserted, IsSizedLoading, IsSizedRemoved, IsSizedReplaced, IsSizedFrame, IsSizedAnswer, IsSized}
 use Rattle.journal_reader.specs.FormFlaw.{TellsJournal}

@@ -4,19 +4,19 @@ use Rattle.std.specs.Fmt.{decimal}
 use Rattle.reg_model.specs.SpanData.{SpanData}
 use Rattle.unwind_step.specs.declared.backtrace.End.{End}
 use Rattle.unwind_step.specs.declared.backtrace.FrameLine.{FrameLine}
-use Rattle.event_script.specs.Digits.{hex}
-use Rattle.event_script.specs.Text.{inserted_text, loading_text, removed_text, replaced_text, place_text, frame_line, end_text, end_line, answer_line, event_number}
-use Rattle.event_script.specs.declared.script.Event.{Event}
-use Rattle.event_script.specs.declared.script.Event.TheVariants as event
-use Rattle.event_script.specs.declared.journal.Answer.{Answer}
-use Rattle.event_script.specs.declared.journal.Answer.TheVariants.{Register, Deregister, Replace, Load, Unload, Find, Unwind}
-use Rattle.event_script.proofs.Numbers.{decimal_again}
+use Rattle.script_text.specs.Digits.{hex}
+use Rattle.script_text.specs.Text.{inserted_text, loading_text, removed_text, replaced_text, place_text, frame_line, end_text, end_line, answer_line, event_number}
+use Rattle.script_text.specs.declared.script.Event.{Event}
+use Rattle.script_text.specs.declared.script.Event.TheVariants as event
+use Rattle.script_text.specs.declared.journal.Answer.{Answer}
+use Rattle.script_text.specs.declared.journal.Answer.TheVariants.{Register, Deregister, Replace, Load, Unload, Find, Unwind}
+use Rattle.script_text.proofs.Numbers.{decimal_again}
 use Rattle.journal_reader.specs.FirstNumbers.{past_word}
 use Rattle.journal_reader.specs.Told.{IsToldInserted, IsToldLoading, IsToldRemoved, IsToldReplaced, IsToldPlace, IsToldFrame, IsToldEnd, IsToldAnswer}
 use Rattle.journal_reader.specs.Reading.{◌>?>◌, inserted_in, loading_in, removed_in, replaced_in, told_place, frame_in, end_in, IsOneLine, told_answer, answer_in, head_of, frame_head, end_head, first_line, told_frame, told_end, told_updates}
 use Rattle.journal_reader.specs.JournalLines.{line_at, updates_line}
 use Rattle.journal_reader.proofs.Options.{step_parts}
-use Rattle.event_script.proofs.Steps.{decimal_is}
+use Rattle.script_text.proofs.Numbers.{decimal_is}
 use Rattle.journal_reader.proofs.FirstParts.{past_again, past_is}
 use Rattle.journal_reader.proofs.AnswersRead.{inserted_again, loading_again, removed_again, replaced_again, place_again, frame_again, end_again, inserted_is, loading_is, removed_is, replaced_is, place_is, frame_is, end_is, frame_rest}
 

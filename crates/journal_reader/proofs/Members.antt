@@ -4,16 +4,16 @@ use Rattle.std.specs.Fmt.{decimal}
 use Rattle.std.proofs.lemmas.Bool.{cond-true, and_from}
 use Rattle.reg_model.specs.SpanData.{SpanData}
 use Rattle.reg_model.specs.declared.span.Member.{Member}
-use Rattle.event_script.specs.Digits.{hex}
-use Rattle.event_script.specs.Fields.{decimal_in}
-use Rattle.event_script.specs.ScriptData.{span_of}
-use Rattle.event_script.specs.Lawful.{image_member}
-use Rattle.event_script.proofs.Numbers.{decimal_again}
+use Rattle.script_text.specs.Digits.{hex}
+use Rattle.script_text.specs.Fields.{decimal_in}
+use Rattle.script_text.specs.ScriptData.{span_of}
+use Rattle.script_text.specs.Lawful.{image_member}
+use Rattle.script_text.proofs.Numbers.{decimal_again}
 use Rattle.journal_reader.specs.FirstNumbers.{decimal_first, hex_first, past_word}
 use Rattle.journal_reader.specs.Told.{IsImage, IsToldOverlap, told_member}
 use Rattle.journal_reader.specs.Reading.{image_in, overlapping_in, overlap_in}
 use Rattle.journal_reader.proofs.Options.{step_parts}
-use Rattle.event_script.proofs.Steps.{decimal_is}
+use Rattle.script_text.proofs.Numbers.{decimal_is}
 use Rattle.journal_reader.proofs.FirstParts.{past_is, decimal_first_again, hex_first_again, decimal_first_is, hex_first_is}
 
 pub glue_five : (a b c d e : List ℕ) → (((a ++ b) ++ c) ++ d) ++ e ≡ a ++ (b ++ (c ++ (d ++ e)))

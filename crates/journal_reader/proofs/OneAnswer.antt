@@ -2,11 +2,11 @@
 use Rattle.std.proofs.Common.{◌≡◌, ℕ, ◌^◌, ◌<◌, List, [], ◌∷◌, ◌++◌, length, refl, sym, ap, ap₂, subst, inl, inr, ◌∙◌, append_assoc, append-nil, arith}
 use Rattle.std.proofs.lemmas.Grind.{flat_map-append}
 use Rattle.std.proofs.lemmas.Bool.{cases_lt}
-use Rattle.event_script.specs.Fields.{pieces}
-use Rattle.event_script.specs.ScriptData.{ScriptData, IsRunnable}
-use Rattle.event_script.specs.JournalData.{JournalData}
-use Rattle.event_script.specs.Refusal.{lines_text}
-use Rattle.event_script.proofs.Joined.{join, join_pieces}
+use Rattle.script_text.specs.Fields.{pieces}
+use Rattle.script_text.specs.ScriptData.{ScriptData, IsRunnable}
+use Rattle.script_text.specs.JournalData.{JournalData}
+use Rattle.script_text.specs.Fields.{lines_text}
+use Rattle.script_text.proofs.Joined.{join, join_pieces}
 use Rattle.journal_reader.specs.FormFlaw.{TellsJournal, BeginsJournal, IsBadAfter, FormFlaw}
 use Rattle.journal_reader.proofs.Journals.{told_once}
 

@@ -1,7 +1,7 @@
 -- What is left of a text is one piece at least.
 use Rattle.std.proofs.Common.{◌≡◌, ℕ, List, ◌∷◌, ap, ◌∙◌}
-use Rattle.event_script.specs.Fields.{pieces}
-use Rattle.event_script.proofs.Pieces.{some_pieces}
+use Rattle.script_text.specs.Fields.{pieces}
+use Rattle.script_text.proofs.Pieces.{some_pieces}
 
 pub next_of : (rest : List ℕ) → List ℕ
 next_of rest = (some_pieces 10 rest).0

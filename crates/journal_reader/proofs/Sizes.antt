@@ -13,10 +13,10 @@ use Rattle.reg_model.specs.declared.answer.Removed.TheVariants as removed
 use Rattle.reg_model.specs.declared.answer.Replaced.{Replaced}
 use Rattle.reg_model.specs.declared.answer.Replaced.TheVariants as replaced
 use Rattle.unwind_step.specs.declared.backtrace.FrameLine.{FrameLine}
-use Rattle.event_script.specs.JournalData.{JournalData}
-use Rattle.event_script.specs.declared.journal.Answer.{Answer}
-use Rattle.event_script.specs.declared.journal.Answer.TheVariants.{Register, Deregister, Replace}
-use Rattle.event_script.specs.declared.journal.Answer.TheVariants.{Load, Unload, Find, Unwind}
+use Rattle.script_text.specs.JournalData.{JournalData}
+use Rattle.script_text.specs.declared.journal.Answer.{Answer}
+use Rattle.script_text.specs.declared.journal.Answer.TheVariants.{Register, Deregister, Replace}
+use Rattle.script_text.specs.declared.journal.Answer.TheVariants.{Load, Unload, Find, Unwind}
 use Rattle.journal_reader.specs.Told.{IsToldEnd}
 
 abbrev pub IsSizedFound : Found → Type 0

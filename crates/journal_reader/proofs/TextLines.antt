@@ -20,14 +20,14 @@ use Rattle.reg_model.specs.declared.answer.Replaced.TheVariants as replaced
 use Rattle.unwind_step.specs.declared.backtrace.End.{End}
 use Rattle.unwind_step.specs.declared.backtrace.End.TheVariants as end
 use Rattle.unwind_step.specs.declared.backtrace.FrameLine.{FrameLine}
-use Rattle.event_script.specs.Digits.{hex}
-use Rattle.event_script.specs.JournalData.{JournalData}
-use Rattle.event_script.specs.Refusal.{lines_text}
-use Rattle.event_script.specs.Fields.{pieces, with_first}
-use Rattle.event_script.specs.Text.{overlap_text, inserted_text, loading_text, removed_text, replaced_text, found_text, loaded_text, place_text, frame_line, frame_lines, end_line, answer_line, further_lines, answer_lines, event_number, event_line, answer_text, numbered, thread_text, round_text, updates_text, journal_text}
-use Rattle.event_script.specs.declared.journal.Answer.{Answer}
-use Rattle.event_script.specs.declared.journal.Answer.TheVariants.{Register, Deregister, Replace, Load, Unload, Find, Unwind}
-use Rattle.event_script.proofs.Joined.{Without, pieces_first}
+use Rattle.script_text.specs.Digits.{hex}
+use Rattle.script_text.specs.JournalData.{JournalData}
+use Rattle.script_text.specs.Fields.{lines_text}
+use Rattle.script_text.specs.Fields.{pieces, with_first}
+use Rattle.script_text.specs.Text.{overlap_text, inserted_text, loading_text, removed_text, replaced_text, found_text, loaded_text, place_text, frame_line, frame_lines, end_line, answer_line, further_lines, answer_lines, event_number, event_line, answer_text, numbered, thread_text, round_text, updates_text, journal_text}
+use Rattle.script_text.specs.declared.journal.Answer.{Answer}
+use Rattle.script_text.specs.declared.journal.Answer.TheVariants.{Register, Deregister, Replace, Load, Unload, Find, Unwind}
+use Rattle.script_text.proofs.Joined.{Without, pieces_first}
 use Rattle.journal_reader.specs.JournalLines.{line_at, event_lines, numbered_lines, thread_lines, round_lines, updates_line, journal_lines}
 
 -- ---- the text is the lines

@@ -6,7 +6,7 @@ use Rattle.unwind_step.specs.Backtrace.{TraceData}
 use Rattle.unwind_step.specs.declared.backtrace.End.{End}
 use Rattle.unwind_step.specs.declared.backtrace.End.TheVariants as end
 use Rattle.unwind_step.specs.declared.backtrace.FrameLine.{FrameLine}
-use Rattle.event_script.specs.Text.{frame_line, frame_lines, end_line, trace_lines}
+use Rattle.script_text.specs.Text.{frame_line, frame_lines, end_line, trace_lines}
 use Rattle.journal_reader.specs.Told.{IsToldFrame, IsToldEnd, IsToldTrace}
 use Rattle.journal_reader.specs.Reading.{frame_head, end_head, told_frame, told_end}
 use Rattle.journal_reader.specs.JournalLines.{line_at}

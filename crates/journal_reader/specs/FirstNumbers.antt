@@ -1,6 +1,6 @@
 -- Numbers and words at the front of a text.
 use Rattle.std.specs.Prelude.{ℕ, List, [], ◌∷◌, ◌==◌, Option, Some, None, if◌then◌else◌, option_map}
-use Rattle.event_script.specs.Fields.{decimal_in, hex_in}
+use Rattle.script_text.specs.Fields.{decimal_in, hex_in}
 
 -- what stands before the first space (32)
 abbrev pub before_space : List ℕ → List ℕ

@@ -1,10 +1,10 @@
 -- The first line of a text that is bad.
 use Rattle.std.specs.Prelude.{◌≡◌, ℕ, ◌+◌, List, [], ◌∷◌, ◌++◌, length}
-use Rattle.event_script.specs.ScriptData.{ScriptData}
-use Rattle.event_script.specs.JournalData.{JournalData}
-use Rattle.event_script.specs.Text.{journal_text}
-use Rattle.event_script.specs.Fields.{pieces}
-use Rattle.event_script.specs.Refusal.{lines_text}
+use Rattle.script_text.specs.ScriptData.{ScriptData}
+use Rattle.script_text.specs.JournalData.{JournalData}
+use Rattle.script_text.specs.Text.{journal_text}
+use Rattle.script_text.specs.Fields.{pieces}
+use Rattle.script_text.specs.Fields.{lines_text}
 use Rattle.journal_reader.specs.Told.{IsToldJournal}
 
 -- the text is that of the journal

@@ -1,8 +1,8 @@
 -- The lines of a journal's text, each without its line feed.
 use Rattle.std.specs.Prelude.{ℕ, ◌+◌, List, [], ◌∷◌, ◌++◌, map, codes, decimal}
-use Rattle.event_script.specs.JournalData.{JournalData}
-use Rattle.event_script.specs.Text.{event_number, answer_lines}
-use Rattle.event_script.specs.declared.journal.Answer.{Answer}
+use Rattle.script_text.specs.JournalData.{JournalData}
+use Rattle.script_text.specs.Text.{event_number, answer_lines}
+use Rattle.script_text.specs.declared.journal.Answer.{Answer}
 
 -- a line of an event, after its number
 abbrev pub line_at : ℕ → ℕ → ℕ → List ℕ → List ℕ

@@ -1,7 +1,7 @@
 -- What was read of a whole text.
 use Rattle.std.specs.Prelude.{◌≡◌, ◌≢◌, ◌⊎◌, ℕ, List, [], ◌∷◌, ◌++◌, Option, Some, None}
-use Rattle.event_script.specs.ScriptData.{ScriptData}
-use Rattle.event_script.specs.JournalData.{JournalData}
+use Rattle.script_text.specs.ScriptData.{ScriptData}
+use Rattle.script_text.specs.JournalData.{JournalData}
 use Rattle.journal_reader.specs.Told.{IsToldJournal}
 use Rattle.journal_reader.specs.JournalLines.{journal_lines}
 use Rattle.journal_reader.specs.ReadLines.{IsStuck}

@@ -18,15 +18,15 @@ use Rattle.reg_model.specs.declared.answer.Replaced.TheVariants as replaced
 use Rattle.unwind_step.specs.declared.backtrace.End.{End}
 use Rattle.unwind_step.specs.declared.backtrace.End.TheVariants as end
 use Rattle.unwind_step.specs.declared.backtrace.FrameLine.{FrameLine}
-use Rattle.event_script.specs.Fields.{decimal_in, hex_in}
-use Rattle.event_script.specs.EventLines.{event_spelling}
-use Rattle.event_script.specs.Lawful.{image_member}
-use Rattle.event_script.specs.Text.{event_number}
-use Rattle.event_script.specs.declared.script.Event.{Event}
-use Rattle.event_script.specs.declared.script.Event.TheVariants as event
-use Rattle.event_script.specs.declared.journal.Answer.{Answer}
-use Rattle.event_script.specs.declared.journal.Answer.TheVariants.{Register, Deregister, Replace}
-use Rattle.event_script.specs.declared.journal.Answer.TheVariants.{Load, Unload, Find}
+use Rattle.script_text.specs.Fields.{decimal_in, hex_in}
+use Rattle.script_text.specs.EventLines.{event_spelling}
+use Rattle.script_text.specs.Lawful.{image_member}
+use Rattle.script_text.specs.Text.{event_number}
+use Rattle.script_text.specs.declared.script.Event.{Event}
+use Rattle.script_text.specs.declared.script.Event.TheVariants as event
+use Rattle.script_text.specs.declared.journal.Answer.{Answer}
+use Rattle.script_text.specs.declared.journal.Answer.TheVariants.{Register, Deregister, Replace}
+use Rattle.script_text.specs.declared.journal.Answer.TheVariants.{Load, Unload, Find}
 use Rattle.journal_reader.specs.FirstNumbers.{decimal_first, hex_first, past_word}
 use Rattle.journal_reader.specs.Told.{told_member}
 

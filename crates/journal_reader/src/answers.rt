@@ -8,8 +8,8 @@ ghost use Rattle.journal_reader.specs.Reading.{frame_in, end_in, told_answer, an
 ghost use Rattle.journal_reader.specs.Reading.{first_line, told_frame, told_end, told_updates};
 
 use crate::words::{decimal_first, hex_first, past_word};
-use event_script::{Answer, Event, decimal_in, hex_in};
 use reg_model::{Found, Inserted, Loading, Member, Place, Removed, Replaced, Span};
+use script_text::{Answer, Event, decimal_in, hex_in};
 use unwind_step::{End, FrameLine};
 
 #[tactic(auto, unfolding(crate::specs::Reading::image_in))]

@@ -2,10 +2,10 @@
 
 ghost use Rattle.std.specs.Prelude.{◌≡◌, ◌++◌, codes, decimal, IfOk, OnOk};
 ghost use Rattle.std.specs.String.{string_bytes};
-ghost use Rattle.event_script.specs.Text.{event_number};
+ghost use Rattle.script_text.specs.Text.{event_number};
 ghost use Rattle.journal_reader.specs.Reading.{head_of, frame_head, end_head};
 
-use event_script::{Event, EventNumber, put_event};
+use script_text::{Event, EventNumber, put_event};
 use std::alloc::{AllocError, Global};
 use std::fmt::Write;
 

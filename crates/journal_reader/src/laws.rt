@@ -1,10 +1,10 @@
 //! Laws of the definitions. Each is the contract of a function that does nothing.
 
 ghost use Rattle.std.specs.Prelude.{◌≡◌, ℕ, List};
-ghost use Rattle.event_script.specs.JournalData.{JournalData};
-ghost use Rattle.event_script.specs.ScriptData.{ScriptData, IsRunnable};
-ghost use Rattle.event_script.specs.Lawful.{IsLawfulJournal};
-ghost use Rattle.event_script.specs.Text.{journal_text};
+ghost use Rattle.script_text.specs.JournalData.{JournalData};
+ghost use Rattle.script_text.specs.ScriptData.{ScriptData, IsRunnable};
+ghost use Rattle.script_text.specs.Lawful.{IsLawfulJournal};
+ghost use Rattle.script_text.specs.Text.{journal_text};
 ghost use Rattle.journal_reader.specs.FormFlaw.{TellsJournal, FormFlaw};
 
 /// A text tells one journal at the most: two told ones with the same text are one.

@@ -1,9 +1,9 @@
 //! Lines, as parts of a text.
 
 ghost use Rattle.std.specs.Prelude.{◌≡◌, ◌<◌, [], ◌∷◌, length, ◌==◌, MatchOption, IfSome, count_by};
-ghost use Rattle.event_script.specs.Fields.{pieces};
+ghost use Rattle.script_text.specs.Fields.{pieces};
 
-use event_script::place_of;
+use script_text::place_of;
 
 /// The first line without its line feed, and what follows it. None where no line feed comes.
 pub fn next_line(text: &[u8]) -> Option<(&[u8], &[u8])>

@@ -3,9 +3,9 @@
 ghost use Rattle.std.specs.Prelude.{◌≡◌, ◌+◌, ◌^◌, ◌<◌, ◌≤◌, ◌==◌, [], ◌∷◌, ◌++◌, length};
 ghost use Rattle.std.specs.Prelude.{map, option_map, count_by, OnOk, IfOk, IfErr, All};
 ghost use Rattle.std.specs.List.{AllZip};
-ghost use Rattle.event_script.specs.Fields.{pieces};
-ghost use Rattle.event_script.specs.Text.{trace_lines, IsPrintable};
-ghost use Rattle.event_script.specs.declared.script.Event.TheVariants as event;
+ghost use Rattle.script_text.specs.Fields.{pieces};
+ghost use Rattle.script_text.specs.Text.{trace_lines, IsPrintable};
+ghost use Rattle.script_text.specs.declared.script.Event.TheVariants as event;
 ghost use Rattle.journal_reader.specs.Told.{IsToldAnswer, IsToldTrace};
 ghost use Rattle.journal_reader.specs.JournalLines.{line_at, event_lines, thread_lines};
 ghost use Rattle.journal_reader.specs.JournalLines.{round_lines, numbered_lines, updates_line};
@@ -16,8 +16,8 @@ ghost use Rattle.journal_reader.specs.JournalRead.{ReadsJournal};
 use crate::answers::{first_line, told_end, told_frame, told_updates};
 use crate::heads::{end_head, event_head, frame_head};
 use crate::lines::{count_feeds, next_line};
-use event_script::{Answer, Event, EventNumber, Journal, Round, Script, Thread};
 use reg_model::{NoMemory, Span};
+use script_text::{Answer, Event, EventNumber, Journal, Round, Script, Thread};
 use std::alloc::Global;
 use unwind_step::Trace;
 

@@ -4,7 +4,7 @@ ghost use Rattle.std.specs.Prelude.{◌≡◌, None, Some, MatchOption};
 ghost use Rattle.journal_reader.specs.FirstNumbers.{before_space, from_space, decimal_first};
 ghost use Rattle.journal_reader.specs.FirstNumbers.{hex_first, past_word};
 
-use event_script::{decimal_in, hex_in, place_of};
+use script_text::{decimal_in, hex_in, place_of};
 
 /// The bytes before the first space, and those from it on.
 fn split_at_space(bytes: &[u8]) -> (&[u8], &[u8])

@@ -1,9 +1,9 @@
 -- The lines of a phase, one after another.
 use Rattle.std.proofs.Common.{◌≡◌, ℕ, ◌+◌, ◌<◌, List, [], ◌∷◌, ◌++◌, length, take, get_or, sym, ◌∙◌, ap, arith}
 use Rattle.std.proofs.lemmas.List.{append-nil, take_more, length-take}
-use Rattle.event_script.specs.Text.{numbered}
-use Rattle.event_script.proofs.Numbered.{numbered-append}
-use Rattle.event_script.proofs.Texts.{appended}
+use Rattle.script_text.specs.Text.{numbered}
+use Rattle.script_text.proofs.Numbered.{numbered-append}
+use Rattle.script_text.proofs.Texts.{appended}
 
 -- one more text after those of the first items, which are counted from 0
 pub counted_next : {X : Type 0} (text : ℕ → X → List ℕ) (xs : List X) (i : ℕ) (x : X) → i < length xs → x ≡ get_or xs i x → (old mid new : List ℕ) → mid ≡ old ++ numbered text 0 (take i xs) → new ≡ mid ++ text i x → new ≡ old ++ numbered text 0 (take (i + 1) xs)

@@ -11,8 +11,8 @@ use Rattle.reg_model.specs.declared.answer.NoMemory.{NoMemory}
 use Rattle.reg_model.specs.declared.span.Member.{Member}
 use Rattle.unwind_step.specs.Finders.{AnswersPlainly, GoesThrough, HasPayloadsBelow, IsPlainPlace, PlainFinderData}
 use Rattle.unwind_step.specs.declared.backtrace.FrameLine.{FrameLine}
-use Rattle.event_script.specs.Lawful.{image_member}
-use Rattle.event_script.specs.ScriptData.{AreFixed, ScriptData, SnapshotData}
+use Rattle.script_text.specs.Lawful.{image_member}
+use Rattle.script_text.specs.ScriptData.{AreFixed, ScriptData, SnapshotData}
 use Rattle.raise_phases.specs.Raising.{EndsChanged, FoundAlike, RaisedData, RaiseUnfolds, lines_of}
 use Rattle.raise_run.specs.RaiseOutcome.{IsRaise, fixed_registry}
 use Rattle.raise_run.proofs.Steady.{found_alike}

@@ -4,10 +4,10 @@ use Rattle.std.specs.Prelude.{All, slice_get, codes}
 use Rattle.std.specs.Fmt.{decimal}
 use Rattle.reg_model.specs.PlainRegistryData.{PlainRegistryData}
 use Rattle.unwind_step.specs.Finders.{IsPlainPlace}
-use Rattle.event_script.specs.ScriptData.{ScriptData, SnapshotData}
-use Rattle.event_script.specs.Spelling.{IsScript}
-use Rattle.event_script.specs.FaultText.{IsRefusal}
-use Rattle.event_script.specs.Lawful.{start_of}
+use Rattle.script_text.specs.ScriptData.{ScriptData, SnapshotData}
+use Rattle.script_text.specs.Spelling.{IsScript}
+use Rattle.event_script.specs.RefusalText.{IsRefusal}
+use Rattle.script_text.specs.Lawful.{start_of}
 use Rattle.raise_phases.specs.Raising.{RaisedData, RaiseUnfolds, EndsChanged}
 use Rattle.raise_phases.specs.Raising.{lines_of}
 use Rattle.run_ports.specs.Endings.{Change, EndsWith, too_long_line}

@@ -1,8 +1,8 @@
 -- The text of a raise.
 use Rattle.std.specs.Prelude.{ℕ, List, ◌++◌, Option, Some, None, codes}
 use Rattle.std.specs.Fmt.{decimal}
-use Rattle.event_script.specs.Digits.{hex}
-use Rattle.event_script.specs.Text.{frame_text, end_text, numbered}
+use Rattle.script_text.specs.Digits.{hex}
+use Rattle.script_text.specs.Text.{frame_text, end_text, numbered}
 use Rattle.raise_phases.specs.Raising.{RaisedData}
 use Rattle.raise_phases.specs.declared.fault.LsdaFault.{LsdaFault}
 use Rattle.raise_phases.specs.declared.fault.LsdaFault.TheVariants as fault

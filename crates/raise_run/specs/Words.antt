@@ -1,7 +1,7 @@
 -- The words of the command line: a snapshot's number and a kind of exceptions.
 use Rattle.std.specs.Prelude.{ℕ, List, [], ◌∷◌, Option, None}
 use Rattle.std.specs.Option.{option_map, option_and_then}
-use Rattle.event_script.specs.Fields.{decimal_in, hex_in}
+use Rattle.script_text.specs.Fields.{decimal_in, hex_in}
 use Rattle.raise_run.specs.declared.words.RaiseRequest.{RaiseRequest}
 
 -- what these two words ask for, each spelled as in a script

@@ -4,10 +4,10 @@ use Rattle.std.specs.List.{sum_by}
 use Rattle.std.proofs.lemmas.List.Elements.{All-head, All-tail}
 use Rattle.std.proofs.lemmas.List.Sums.{sum_by-cons}
 use Rattle.frame_parse.specs.Sections.{SectionData}
-use Rattle.event_script.specs.ScriptData.{SnapshotData}
-use Rattle.event_script.specs.Lawful.{IsUnfolded}
-use Rattle.event_script.specs.declared.journal.Answer.{Answer}
-use Rattle.event_script.specs.declared.journal.Answer.TheVariants.{Register, Deregister, Replace, Load, Unload, Find, Unwind}
+use Rattle.script_text.specs.ScriptData.{SnapshotData}
+use Rattle.script_text.specs.Lawful.{IsUnfolded}
+use Rattle.script_text.specs.declared.journal.Answer.{Answer}
+use Rattle.script_text.specs.declared.journal.Answer.TheVariants.{Register, Deregister, Replace, Load, Unload, Find, Unwind}
 use Rattle.script_generator.specs.Summaries.{counted_in, counted_total, thread_total, IsCountable}
 use Rattle.script_generator.specs.declared.counting.Counted.{Counted}
 use Rattle.script_generator.specs.declared.counting.Counted.TheVariants.{Events, Frames}

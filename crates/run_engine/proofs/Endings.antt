@@ -1,11 +1,11 @@
 -- How runs end.
 use Rattle.std.proofs.Common.{◌≡◌, ◌⊎◌, ℕ, ◌≤◌, List, length, Option, Some, None, IfSome, refl, sym, ap, ◌∙◌, subst, inl, inr, arith}
-use Rattle.event_script.specs.JournalData.{JournalData}
-use Rattle.event_script.specs.Lawful.{IsLawfulJournal}
-use Rattle.event_script.specs.ScriptData.{ScriptData}
-use Rattle.event_script.specs.Spelling.{IsScript}
+use Rattle.script_text.specs.JournalData.{JournalData}
+use Rattle.script_text.specs.Lawful.{IsLawfulJournal}
+use Rattle.script_text.specs.ScriptData.{ScriptData}
+use Rattle.script_text.specs.Spelling.{IsScript}
 use Rattle.event_script.specs.Refusal.{HasOneReading}
-use Rattle.event_script.specs.Text.{journal_text}
+use Rattle.script_text.specs.Text.{journal_text}
 use Rattle.command_line.specs.CommandLine.{IsCommandLine}
 use Rattle.command_line.specs.declared.taking.Command.TheVariants.{Run, Generate}
 use Rattle.run_ports.specs.Endings.{Change}

@@ -20,11 +20,11 @@ use Rattle.reg_model.specs.declared.answer.Update.{Update}
 use Rattle.reg_model.specs.declared.answer.Update.TheVariants.{Register, Deregister, Replace, Load, Unload}
 use Rattle.registry_core.specs.Calls.{is_of_update}
 use Rattle.registry_core.proofs.Counting.{count_both}
-use Rattle.event_script.specs.ScriptData.{ScriptData}
-use Rattle.event_script.specs.JournalData.{JournalData}
-use Rattle.event_script.specs.Lawful.{AnswersEvent, RoundsHold, done_after, in_one, receipts_of, start_of, thread_receipts}
-use Rattle.event_script.specs.declared.script.Event.{Event}
-use Rattle.event_script.specs.declared.journal.Answer.{Answer}
+use Rattle.script_text.specs.ScriptData.{ScriptData}
+use Rattle.script_text.specs.JournalData.{JournalData}
+use Rattle.script_text.specs.Lawful.{AnswersEvent, RoundsHold, done_after, in_one, receipts_of, start_of, thread_receipts}
+use Rattle.script_text.specs.declared.script.Event.{Event}
+use Rattle.script_text.specs.declared.journal.Answer.{Answer}
 use Rattle.run_engine.specs.Nodes.{AreEnough, callers_asked, members_asked, updates_asked}
 use Rattle.run_engine.specs.Played.{updates_in, updates_of}
 use Rattle.run_engine.proofs.Lists.{AllZip-length}

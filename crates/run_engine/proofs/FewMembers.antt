@@ -18,7 +18,7 @@ use Rattle.reg_model.specs.declared.answer.Update.TheVariants.{Register, Deregis
 use Rattle.reg_model.proofs.Histories.{AreDisjoint-filter, AreDisjoint-push}
 use Rattle.reg_model.proofs.Replacing.{All-with_payload, AreDisjoint-with_payload}
 use Rattle.reg_model.proofs.Spans.{overlap_from}
-use Rattle.event_script.specs.ScriptData.{span_of}
+use Rattle.script_text.specs.ScriptData.{span_of}
 use Rattle.run_engine.proofs.Opening.{span_is}
 
 -- where images begin

@@ -8,12 +8,12 @@ use Rattle.reg_model.specs.Receipt.{moment, AllHold, AreInOrder, IsAtNumber}
 use Rattle.reg_model.specs.Numbers.{AreNumbered, history_of}
 use Rattle.reg_model.specs.declared.answer.Update.{Update}
 use Rattle.reg_model.specs.declared.answer.Receipt.{Receipt}
-use Rattle.event_script.specs.ScriptData.{ScriptData, SnapshotData}
-use Rattle.event_script.specs.JournalData.{JournalData}
+use Rattle.script_text.specs.ScriptData.{ScriptData, SnapshotData}
+use Rattle.script_text.specs.JournalData.{JournalData}
 use Rattle.frame_parse.specs.Sections.{SectionData}
-use Rattle.event_script.specs.declared.script.Event.{Event}
-use Rattle.event_script.specs.Lawful.{IsLawfulJournal, AnswersEvent, IsUnfolded, thread_receipts, in_one, start_of, RoundsHold, AreInRounds, done_after}
-use Rattle.event_script.specs.declared.journal.Answer.{Answer}
+use Rattle.script_text.specs.declared.script.Event.{Event}
+use Rattle.script_text.specs.Lawful.{IsLawfulJournal, AnswersEvent, IsUnfolded, thread_receipts, in_one, start_of, RoundsHold, AreInRounds, done_after}
+use Rattle.script_text.specs.declared.journal.Answer.{Answer}
 use Rattle.run_engine.specs.Played.{IsRightAnswer}
 use Rattle.run_engine.proofs.Lists.{AllZip-weaker, AllZip-second}
 use Rattle.word_rule.proofs.Each.{all_append}

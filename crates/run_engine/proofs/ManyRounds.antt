@@ -14,7 +14,7 @@ use Rattle.word_rule.specs.declared.log.Terms.{Terms}
 use Rattle.registry_core.specs.Rounds.{IsAfterRound, IsBetweenRounds, joined_lists, lists_since}
 use Rattle.registry_core.proofs.Counting.{count_both}
 use Rattle.registry_core.proofs.Rounding.{both_lists}
-use Rattle.event_script.specs.Lawful.{AreInRounds, RoundsHold, in_one}
+use Rattle.script_text.specs.Lawful.{AreInRounds, RoundsHold, in_one}
 use Rattle.run_engine.specs.Shared.{IsAfterRounds}
 
 -- all threads' records, of all rounds

@@ -18,13 +18,13 @@ use Rattle.reg_model.specs.declared.answer.Replaced.TheVariants as replaced
 use Rattle.reg_model.specs.declared.answer.Update.{Update}
 use Rattle.unwind_step.specs.declared.backtrace.FrameLine.{FrameLine}
 use Rattle.word_rule.proofs.Each.{all_append}
-use Rattle.event_script.specs.ScriptData.{IsEvent, IsRound, IsRunnable, IsThread, ScriptData, counts_of}
-use Rattle.event_script.specs.JournalData.{JournalData}
-use Rattle.event_script.specs.Lawful.{AnswersEvent, image_member, in_one, receipts_of, receipts_of_trace, start_of, thread_receipts}
-use Rattle.event_script.specs.declared.script.Event.{Event}
-use Rattle.event_script.specs.declared.script.Event.TheVariants as event
-use Rattle.event_script.specs.declared.journal.Answer.{Answer}
-use Rattle.event_script.specs.declared.journal.Answer.TheVariants.{Register, Deregister, Replace, Load, Unload, Find, Unwind}
+use Rattle.script_text.specs.ScriptData.{IsEvent, IsRound, IsRunnable, IsThread, ScriptData, counts_of}
+use Rattle.script_text.specs.JournalData.{JournalData}
+use Rattle.script_text.specs.Lawful.{AnswersEvent, image_member, in_one, receipts_of, receipts_of_trace, start_of, thread_receipts}
+use Rattle.script_text.specs.declared.script.Event.{Event}
+use Rattle.script_text.specs.declared.script.Event.TheVariants as event
+use Rattle.script_text.specs.declared.journal.Answer.{Answer}
+use Rattle.script_text.specs.declared.journal.Answer.TheVariants.{Register, Deregister, Replace, Load, Unload, Find, Unwind}
 use Rattle.run_engine.proofs.EnoughNodes.{joined_map, of_round, of_thread}
 use Rattle.run_engine.proofs.FewMembers.{IsOfImage, Names, members_few}
 

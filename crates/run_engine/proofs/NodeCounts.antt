@@ -4,8 +4,8 @@ use Rattle.std.proofs.lemmas.Bool.{cases_lt}
 use Rattle.std.proofs.lemmas.List.Elements.{All-weaker}
 use Rattle.std.proofs.lemmas.List.Sums.{sum_by-le, sum_by_more, sum_by_more_le}
 use Rattle.std.specs.List.{sum_by}
-use Rattle.event_script.specs.ScriptData.{Counts, IsRound, IsThread}
-use Rattle.event_script.specs.declared.script.Event.{Event}
+use Rattle.script_text.specs.ScriptData.{Counts, IsRound, IsThread}
+use Rattle.script_text.specs.declared.script.Event.{Event}
 use Rattle.run_engine.specs.Nodes.{IsFew, callers_asked, updates_asked}
 use Rattle.run_engine.specs.Played.{updates_in}
 use Rattle.run_engine.proofs.Teams.{few_updates}

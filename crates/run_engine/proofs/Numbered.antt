@@ -2,8 +2,8 @@
 use Rattle.std.proofs.Common.{◌≡◌, ℕ, ◌+◌, ◌<◌, ◌≤◌, List, ◌++◌, length, take, drop, get_or, Option, sym, subst, arith}
 use Rattle.std.specs.List.{AllZip}
 use Rattle.std.proofs.lemmas.List.{take_all}
-use Rattle.event_script.specs.Text.{numbered}
-use Rattle.event_script.proofs.Numbered.{numbered-take_more, numbered-parts}
+use Rattle.script_text.specs.Text.{numbered}
+use Rattle.script_text.proofs.Numbered.{numbered-take_more, numbered-parts}
 use Rattle.run_ports.specs.Ports.{Gains, GainsPart}
 use Rattle.run_ports.proofs.Pieces.{Gains-more, GainsPart-more, GainsPart-wider}
 use Rattle.run_engine.specs.Kept.{zip_with}

@@ -6,8 +6,8 @@ use Rattle.std.proofs.lemmas.Option.{unwrap_or-slice_get}
 use Rattle.reg_model.specs.SpanData.{SpanData, IsSpan}
 use Rattle.reg_model.specs.declared.span.Member.{Member}
 use Rattle.segment_array.specs.Ascending.{AscendFrom}
-use Rattle.event_script.specs.ScriptData.{AreFixed, Rise, span_of}
-use Rattle.event_script.specs.Lawful.{image_member}
+use Rattle.script_text.specs.ScriptData.{AreFixed, Rise, span_of}
+use Rattle.script_text.specs.Lawful.{image_member}
 
 module _ (images : List SpanData) (spans : All IsSpan images) where
   abbrev IsNamed : ℕ → Type 0

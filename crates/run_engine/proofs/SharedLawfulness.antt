@@ -13,10 +13,10 @@ use Rattle.word_rule.specs.Logs.{first_log}
 use Rattle.word_rule.specs.declared.log.Log.{Log}
 use Rattle.word_rule.specs.declared.log.Terms.{Terms}
 use Rattle.registry_core.specs.Rounds.{all_receipts, joined_lists}
-use Rattle.event_script.specs.ScriptData.{IsRunnable, ScriptData}
-use Rattle.event_script.specs.JournalData.{JournalData}
-use Rattle.event_script.specs.Lawful.{IsLawfulJournal, in_one, receipts_of, start_of, thread_receipts}
-use Rattle.event_script.specs.declared.journal.Answer.{Answer}
+use Rattle.script_text.specs.ScriptData.{IsRunnable, ScriptData}
+use Rattle.script_text.specs.JournalData.{JournalData}
+use Rattle.script_text.specs.Lawful.{IsLawfulJournal, in_one, receipts_of, start_of, thread_receipts}
+use Rattle.script_text.specs.declared.journal.Answer.{Answer}
 use Rattle.run_engine.specs.Played.{IsRightAnswer}
 use Rattle.run_engine.specs.Nodes.{AreEnough}
 use Rattle.run_engine.specs.Shared.{IsAfterRounds, terms_with}

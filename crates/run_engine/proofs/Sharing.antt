@@ -11,11 +11,11 @@ use Rattle.unwind_step.specs.declared.backtrace.FrameLine.{FrameLine}
 use Rattle.word_rule.specs.CallerData.{CallerData, WordsData}
 use Rattle.registry_core.specs.Calls.{Answered, Receives, is_of_update}
 use Rattle.registry_core.proofs.Counting.{count_both}
-use Rattle.event_script.specs.Lawful.{AnswersEvent, receipts_of, receipts_of_trace}
-use Rattle.event_script.specs.declared.script.Event.{Event}
-use Rattle.event_script.specs.declared.script.Event.TheVariants as event
-use Rattle.event_script.specs.declared.journal.Answer.{Answer}
-use Rattle.event_script.specs.declared.journal.Answer.TheVariants.{Register, Deregister, Replace, Load, Unload, Find, Unwind}
+use Rattle.script_text.specs.Lawful.{AnswersEvent, receipts_of, receipts_of_trace}
+use Rattle.script_text.specs.declared.script.Event.{Event}
+use Rattle.script_text.specs.declared.script.Event.TheVariants as event
+use Rattle.script_text.specs.declared.journal.Answer.{Answer}
+use Rattle.script_text.specs.declared.journal.Answer.TheVariants.{Register, Deregister, Replace, Load, Unload, Find, Unwind}
 use Rattle.run_engine.specs.Played.{updates_of}
 use Rattle.run_engine.specs.Shared.{SharedPlayerData, AnswersPlaying, IsReady}
 use Rattle.run_engine.proofs.Chains.{Chain-append}

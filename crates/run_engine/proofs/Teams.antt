@@ -8,9 +8,9 @@ use Rattle.reg_model.specs.declared.answer.Receipt.{Receipt}
 use Rattle.word_rule.specs.CallerData.{CallerData, WordsData}
 use Rattle.registry_core.specs.Calls.{Answered}
 use Rattle.registry_core.specs.Rounds.{AreAnswered, IsAfterRound, IsSplitOff, after_joins, after_one_join, after_one_split, after_splits, all_split_off}
-use Rattle.event_script.specs.ScriptData.{Counts, IsRound, IsThread}
-use Rattle.event_script.specs.declared.script.Event.{Event}
-use Rattle.event_script.specs.declared.script.Event.TheVariants.{Register, Deregister, Replace, Load, Unload, Find, Unwind}
+use Rattle.script_text.specs.ScriptData.{Counts, IsRound, IsThread}
+use Rattle.script_text.specs.declared.script.Event.{Event}
+use Rattle.script_text.specs.declared.script.Event.TheVariants.{Register, Deregister, Replace, Load, Unload, Find, Unwind}
 use Rattle.run_engine.specs.Played.{updates_in, updates_of}
 use Rattle.run_engine.specs.Shared.{AreManned, IsReady}
 

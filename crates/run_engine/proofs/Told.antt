@@ -8,14 +8,14 @@ use Rattle.std.proofs.lemmas.List.{get_or_at, length-append}
 use Rattle.std.proofs.lemmas.List.Elements.{All-cons, All-from_recursion, All-head, All-tail}
 use Rattle.reg_model.specs.SpanData.{SpanData}
 use Rattle.frame_parse.specs.Sections.{SectionData}
-use Rattle.event_script.specs.ScriptData.{Counts, IsRound, IsThread, SnapshotData}
-use Rattle.event_script.specs.declared.limits.TheConstants.{MOST_ROUNDS}
-use Rattle.event_script.specs.Lawful.{AnswersEvent}
-use Rattle.event_script.specs.Text.{IsPrintable}
-use Rattle.event_script.specs.declared.script.Event.{Event}
-use Rattle.event_script.specs.declared.script.Event.TheVariants as event
-use Rattle.event_script.specs.declared.journal.Answer.{Answer}
-use Rattle.event_script.specs.declared.journal.Answer.TheVariants.{Register, Deregister, Replace, Load, Unload, Find, Unwind}
+use Rattle.script_text.specs.ScriptData.{Counts, IsRound, IsThread, SnapshotData}
+use Rattle.script_text.specs.declared.limits.TheConstants.{MOST_ROUNDS}
+use Rattle.script_text.specs.Lawful.{AnswersEvent}
+use Rattle.script_text.specs.Text.{IsPrintable}
+use Rattle.script_text.specs.declared.script.Event.{Event}
+use Rattle.script_text.specs.declared.script.Event.TheVariants as event
+use Rattle.script_text.specs.declared.journal.Answer.{Answer}
+use Rattle.script_text.specs.declared.journal.Answer.TheVariants.{Register, Deregister, Replace, Load, Unload, Find, Unwind}
 use Rattle.run_engine.specs.Kept.{IsKeptPrintable, IsKeptRight, event_of, round_told, rounds_told, short_told, thread_told, told, zip_with}
 use Rattle.run_engine.specs.Played.{IsPlayed, IsPlayedRound, IsPlayedThread, IsRightAnswer}
 use Rattle.run_engine.specs.declared.kept.KeptAnswer.{KeptAnswer}

@@ -13,15 +13,15 @@ use Rattle.reg_model.specs.declared.answer.Removed.TheVariants as removed
 use Rattle.reg_model.specs.declared.answer.Replaced.{Replaced}
 use Rattle.reg_model.specs.declared.answer.Replaced.TheVariants as replaced
 use Rattle.frame_parse.specs.Sections.{SectionData}
-use Rattle.event_script.specs.ScriptData.{ScriptData, SnapshotData}
-use Rattle.event_script.specs.JournalData.{JournalData}
-use Rattle.event_script.specs.Lawful.{IsLawfulJournal, image_member}
-use Rattle.event_script.specs.Text.{IsPrintable}
-use Rattle.event_script.specs.declared.script.Event.{Event}
-use Rattle.event_script.specs.declared.script.Event.TheVariants.{Register, Deregister, Replace}
-use Rattle.event_script.specs.declared.script.Event.TheVariants.{Load, Unload, Find, Unwind}
-use Rattle.event_script.specs.declared.journal.Answer.{Answer}
-use Rattle.event_script.specs.declared.journal.Answer.TheVariants as answer
+use Rattle.script_text.specs.ScriptData.{ScriptData, SnapshotData}
+use Rattle.script_text.specs.JournalData.{JournalData}
+use Rattle.script_text.specs.Lawful.{IsLawfulJournal, image_member}
+use Rattle.script_text.specs.Text.{IsPrintable}
+use Rattle.script_text.specs.declared.script.Event.{Event}
+use Rattle.script_text.specs.declared.script.Event.TheVariants.{Register, Deregister, Replace}
+use Rattle.script_text.specs.declared.script.Event.TheVariants.{Load, Unload, Find, Unwind}
+use Rattle.script_text.specs.declared.journal.Answer.{Answer}
+use Rattle.script_text.specs.declared.journal.Answer.TheVariants as answer
 use Rattle.run_engine.specs.Played.{IsPlayed, IsRightAnswer}
 use Rattle.run_engine.specs.declared.kept.KeptAnswer.{KeptAnswer}
 use Rattle.run_engine.specs.declared.kept.KeptAnswer.TheVariants.{Done, DoneWith, Overlap}

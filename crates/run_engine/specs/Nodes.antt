@@ -1,9 +1,9 @@
 -- How many nodes the registry of a script takes.
 use Rattle.std.specs.Prelude.{◌≡◌, ◌⊎◌, ℕ, ◌+◌, ◌*◌, ◌-◌, ◌<◌, ◌≤◌, List, length, All, min}
 use Rattle.std.specs.List.{sum_by}
-use Rattle.event_script.specs.ScriptData.{ScriptData}
-use Rattle.event_script.specs.declared.script.Event.{Event}
-use Rattle.event_script.specs.declared.limits.TheConstants.{MOST_EVENTS, MOST_THREADS}
+use Rattle.script_text.specs.ScriptData.{ScriptData}
+use Rattle.script_text.specs.declared.script.Event.{Event}
+use Rattle.script_text.specs.declared.limits.TheConstants.{MOST_EVENTS, MOST_THREADS}
 use Rattle.run_engine.specs.Played.{updates_in}
 
 -- a round has few threads, of few events each

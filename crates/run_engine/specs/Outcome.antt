@@ -1,11 +1,11 @@
 -- What a run writes, and when it ends how.
 use Rattle.std.specs.Prelude.{◌≡◌, ◌⊎◌, ℕ, ◌<◌, ◌≤◌, List, length, Option, IfSome, codes}
-use Rattle.event_script.specs.ScriptData.{ScriptData}
-use Rattle.event_script.specs.Spelling.{IsScript}
-use Rattle.event_script.specs.FaultText.{IsRefusal}
-use Rattle.event_script.specs.JournalData.{JournalData}
-use Rattle.event_script.specs.Lawful.{IsLawfulJournal}
-use Rattle.event_script.specs.Text.{journal_text}
+use Rattle.script_text.specs.ScriptData.{ScriptData}
+use Rattle.script_text.specs.Spelling.{IsScript}
+use Rattle.event_script.specs.RefusalText.{IsRefusal}
+use Rattle.script_text.specs.JournalData.{JournalData}
+use Rattle.script_text.specs.Lawful.{IsLawfulJournal}
+use Rattle.script_text.specs.Text.{journal_text}
 use Rattle.script_generator.specs.Generator.{IsGenerated}
 use Rattle.script_generator.specs.Summaries.{summary_of, summary_text}
 use Rattle.command_line.specs.CommandLine.{IsCommandLine, AreTaken}

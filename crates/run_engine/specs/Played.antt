@@ -2,14 +2,14 @@
 use Rattle.std.specs.Prelude.{ℕ, ◌*◌, ◌≤◌, List, length, All}
 use Rattle.std.specs.List.{sum_by}
 use Rattle.frame_parse.specs.Sections.{SectionData}
-use Rattle.event_script.specs.ScriptData.{SnapshotData}
-use Rattle.event_script.specs.declared.limits.TheConstants.{MOST_EVENTS, MOST_ROUNDS}
-use Rattle.event_script.specs.declared.limits.TheConstants.{MOST_THREADS}
-use Rattle.event_script.specs.Lawful.{AnswersEvent, IsUnfolded}
-use Rattle.event_script.specs.Text.{IsPrintable}
-use Rattle.event_script.specs.declared.script.Event.{Event}
-use Rattle.event_script.specs.declared.script.Event.TheVariants.{Find, Unwind}
-use Rattle.event_script.specs.declared.journal.Answer.{Answer}
+use Rattle.script_text.specs.ScriptData.{SnapshotData}
+use Rattle.script_text.specs.declared.limits.TheConstants.{MOST_EVENTS, MOST_ROUNDS}
+use Rattle.script_text.specs.declared.limits.TheConstants.{MOST_THREADS}
+use Rattle.script_text.specs.Lawful.{AnswersEvent, IsUnfolded}
+use Rattle.script_text.specs.Text.{IsPrintable}
+use Rattle.script_text.specs.declared.script.Event.{Event}
+use Rattle.script_text.specs.declared.script.Event.TheVariants.{Find, Unwind}
+use Rattle.script_text.specs.declared.journal.Answer.{Answer}
 
 -- the answers of a thread, of a round's threads, and of all rounds
 abbrev pub IsPlayedThread : List Answer → Type 0

@@ -2,8 +2,8 @@
 use Rattle.std.specs.Prelude.{◌≡◌, ℕ, ◌≤◌, List, length}
 use Rattle.reg_model.specs.SpanData.{SpanData}
 use Rattle.frame_parse.specs.Sections.{SectionData}
-use Rattle.event_script.specs.ScriptData.{Counts, SnapshotData}
-use Rattle.event_script.specs.declared.limits.TheConstants.{MOST_IMAGES}
+use Rattle.script_text.specs.ScriptData.{Counts, SnapshotData}
+use Rattle.script_text.specs.declared.limits.TheConstants.{MOST_IMAGES}
 
 -- few images, each with a section
 abbrev pub AreImages : List SpanData → List SectionData → Type 0

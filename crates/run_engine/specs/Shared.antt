@@ -14,9 +14,9 @@ use Rattle.word_rule.specs.Callers.{IsIdle, start}
 use Rattle.word_rule.specs.Logs.{first_log}
 use Rattle.word_rule.specs.Places.{ALLOWANCE}
 use Rattle.word_rule.specs.declared.log.Terms.{Terms}
-use Rattle.event_script.specs.Lawful.{AreInRounds, RoundsHold, fixed_members, in_one}
-use Rattle.event_script.specs.ScriptData.{ScriptData}
-use Rattle.event_script.specs.declared.script.Event.{Event}
+use Rattle.script_text.specs.Lawful.{AreInRounds, RoundsHold, fixed_members, in_one}
+use Rattle.script_text.specs.ScriptData.{ScriptData}
+use Rattle.script_text.specs.declared.script.Event.{Event}
 use Rattle.run_engine.specs.Played.{updates_in}
 
 -- A query was answered. The caller's own receipts grow by exactly those of the place, and nothing

@@ -6,9 +6,9 @@
 ghost use Rattle.std.specs.Prelude.{◌≡◌, ℕ, List, Some, IfOk, IfSome};
 ghost use Rattle.reg_model.specs.SpanData.{SpanData};
 ghost use Rattle.reg_model.specs.declared.answer.Found.TheVariants.{Hit, Miss};
-ghost use Rattle.event_script.specs.Lawful.{image_member};
-ghost use Rattle.event_script.specs.declared.script.Event.TheVariants as event;
-ghost use Rattle.event_script.specs.declared.journal.Answer.TheVariants as given;
+ghost use Rattle.script_text.specs.Lawful.{image_member};
+ghost use Rattle.script_text.specs.declared.script.Event.TheVariants as event;
+ghost use Rattle.script_text.specs.declared.journal.Answer.TheVariants as given;
 ghost use Rattle.run_engine.specs.Kept.{event_of, told, short_told, inserted_kept, loading_kept};
 ghost use Rattle.run_engine.specs.Kept.{removed_kept, replaced_kept, place_kept};
 

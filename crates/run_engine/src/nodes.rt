@@ -3,8 +3,8 @@
 
 ghost use Rattle.std.specs.Prelude.{◌≡◌, ◌⊎◌, ◌+◌, ◌-◌, ◌*◌, ◌<◌, ◌≤◌, length, All};
 ghost use Rattle.std.specs.List.{sum_by};
-ghost use Rattle.event_script.specs.declared.limits.TheConstants.{LEAST_NODES, MOST_NODES};
-ghost use Rattle.event_script.specs.declared.limits.TheConstants.{MOST_ROUNDS};
+ghost use Rattle.script_text.specs.declared.limits.TheConstants.{LEAST_NODES, MOST_NODES};
+ghost use Rattle.script_text.specs.declared.limits.TheConstants.{MOST_ROUNDS};
 ghost use Rattle.run_engine.specs.Nodes.{IsFew, callers_asked, members_asked};
 ghost use Rattle.run_engine.specs.Played.{updates_in};
 

@@ -2,9 +2,9 @@
 
 ghost use Rattle.std.specs.Prelude.{◌≡◌, ◌+◌, ◌*◌, ◌≤◌, All, IfOk, flat_map, length, map};
 ghost use Rattle.std.specs.List.{AllZip};
-ghost use Rattle.event_script.specs.Lawful.{receipts_of};
-ghost use Rattle.event_script.specs.ScriptData.{IsRound};
-ghost use Rattle.event_script.specs.declared.limits.TheConstants.{MOST_EVENTS, MOST_ROUNDS};
+ghost use Rattle.script_text.specs.Lawful.{receipts_of};
+ghost use Rattle.script_text.specs.ScriptData.{IsRound};
+ghost use Rattle.script_text.specs.declared.limits.TheConstants.{MOST_EVENTS, MOST_ROUNDS};
 ghost use Rattle.registry_core.specs.Rounds.{IsAfterRound, IsBetweenRounds};
 ghost use Rattle.run_engine.specs.Kept.{IsKeptRight, round_told, rounds_told};
 ghost use Rattle.run_engine.specs.Played.{round_updates, updates_in, updates_of};

@@ -1,8 +1,8 @@
 //! From the words of the command line to a status.
 
 ghost use Rattle.std.specs.Prelude.{◌≡◌, ◌≢◌, ◌⊎◌, ◌+◌, ℕ, ◌≤◌, length, map, IfSome, List};
-ghost use Rattle.event_script.specs.ScriptData.{ScriptData};
-ghost use Rattle.event_script.specs.Spelling.{IsScript};
+ghost use Rattle.script_text.specs.ScriptData.{ScriptData};
+ghost use Rattle.script_text.specs.Spelling.{IsScript};
 ghost use Rattle.std.specs.String.{string_bytes};
 ghost use Rattle.command_line.specs.CommandLine.{IsCommandLine};
 ghost use Rattle.script_generator.specs.Generator.{IsImageCount};

@@ -1,7 +1,7 @@
 //! Plays a script against a registry that its threads share.
 
 ghost use Rattle.std.specs.Prelude.{◌≡◌, IfOk, OnOk, flat_map};
-ghost use Rattle.event_script.specs.Lawful.{IsLawfulJournal, thread_receipts};
+ghost use Rattle.script_text.specs.Lawful.{IsLawfulJournal, thread_receipts};
 ghost use Rattle.registry_core.specs.Rounds.{IsBetweenRounds, joined_lists};
 ghost use Rattle.run_engine.specs.Kept.{IsKeptJournal, journal_told};
 ghost use Rattle.run_engine.specs.Played.{IsPlayed};

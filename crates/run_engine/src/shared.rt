@@ -1,10 +1,10 @@
 //! The registry over the shared words unwinds stacks and plays events.
 
 ghost use Rattle.std.specs.Prelude.{◌≡◌, ◌<◌, ◌≤◌, All, IfOk, length};
-ghost use Rattle.event_script.specs.Lawful.{IsUnfolded, receipts_of, receipts_of_trace};
-ghost use Rattle.event_script.specs.ScriptData.{IsEvent};
-ghost use Rattle.event_script.specs.Text.{IsPrintable};
-ghost use Rattle.event_script.specs.declared.journal.Answer.TheVariants as answer;
+ghost use Rattle.script_text.specs.Lawful.{IsUnfolded, receipts_of, receipts_of_trace};
+ghost use Rattle.script_text.specs.ScriptData.{IsEvent};
+ghost use Rattle.script_text.specs.Text.{IsPrintable};
+ghost use Rattle.script_text.specs.declared.journal.Answer.TheVariants as answer;
 ghost use Rattle.reg_model.specs.Chain.{Chain};
 ghost use Rattle.reg_model.specs.Receipt.{IsPlace};
 ghost use Rattle.registry_core.specs.Calls.{Receives};

@@ -4,8 +4,8 @@ ghost use Rattle.std.specs.Prelude.{◌≡◌, ◌+◌, ◌≤◌, IfOk, flat_ma
 ghost use Rattle.std.specs.List.{AllZip};
 ghost use Rattle.std.specs.Thread.{IsSync};
 ghost use Rattle.reg_model.specs.Chain.{Chain};
-ghost use Rattle.event_script.specs.Lawful.{receipts_of};
-ghost use Rattle.event_script.specs.ScriptData.{IsEvent, IsRound, IsThread};
+ghost use Rattle.script_text.specs.Lawful.{receipts_of};
+ghost use Rattle.script_text.specs.ScriptData.{IsEvent, IsRound, IsThread};
 ghost use Rattle.registry_core.specs.Calls.{Answered, Receives};
 ghost use Rattle.registry_core.specs.Rounds.{AreAnswered};
 ghost use Rattle.run_engine.specs.Kept.{IsKeptRight, round_told, thread_told, told};

@@ -2,9 +2,9 @@
 
 ghost use Rattle.std.specs.Prelude.{◌≡◌, ◌≢◌, ◌<◌, [], length, map, slice_index_or};
 ghost use Rattle.std.specs.Prelude.{IsTrue, OnOk, OnErr, Err};
-ghost use Rattle.event_script.specs.Text.{IsPrintable, numbered, answer_text, thread_text};
-ghost use Rattle.event_script.specs.Text.{round_text};
-ghost use Rattle.event_script.specs.Text.{journal_text, answer_lines, event_line};
+ghost use Rattle.script_text.specs.Text.{IsPrintable, numbered, answer_text, thread_text};
+ghost use Rattle.script_text.specs.Text.{round_text};
+ghost use Rattle.script_text.specs.Text.{journal_text, answer_lines, event_line};
 ghost use Rattle.std.specs.List.{AllZip, flat_map};
 ghost use Rattle.script_generator.specs.Summaries.{summary_of, summary_text, IsCountable};
 ghost use Rattle.run_ports.specs.Ports.{Rose, Gains, GainsPart};

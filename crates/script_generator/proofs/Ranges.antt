@@ -10,8 +10,8 @@ use Rattle.script_generator.specs.SectionBytes.{generated_section_bytes}
 use Rattle.script_generator.specs.Generator.{AreGeneratedSections}
 use Rattle.std.proofs.lemmas.List.Concat.{flat_map-append}
 use Rattle.std.proofs.lemmas.List.FromFn.{map-range_with_len_more}
-use Rattle.event_script.specs.declared.script.Event.{Event}
-use Rattle.event_script.specs.declared.script.Event.TheVariants.{Unwind}
+use Rattle.script_text.specs.declared.script.Event.{Event}
+use Rattle.script_text.specs.declared.script.Event.TheVariants.{Unwind}
 use Rattle.script_generator.specs.Generator.{image_order, phase_events, phase_of, generated_events}
 use Rattle.script_generator.specs.declared.events.Phase.{Phase}
 use Rattle.script_generator.specs.declared.events.Phase.TheVariants.{Adding, FindingEnds, RemovingEven, FindingBases}

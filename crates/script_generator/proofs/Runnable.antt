@@ -14,9 +14,9 @@ use Rattle.byteorder.specs.Endian.{little_bytes}
 use Rattle.byteorder.specs.Numbers.{length-bytes_low_first}
 use Rattle.hex.specs.Hex.{IsBytes}
 use Rattle.reg_model.specs.SpanData.{IsSpan}
-use Rattle.event_script.specs.ScriptData.{ScriptData, Counts, IsEvent, IsThread, IsRound, IsSnapshot, IsSectionOf, IsRunnable, is_unwind, count_unwinds, counts_of}
-use Rattle.event_script.specs.declared.script.Event.{Event}
-use Rattle.event_script.specs.declared.script.Event.TheVariants.{Register, Deregister, Load, Unload, Find, Unwind}
+use Rattle.script_text.specs.ScriptData.{ScriptData, Counts, IsEvent, IsThread, IsRound, IsSnapshot, IsSectionOf, IsRunnable, is_unwind, count_unwinds, counts_of}
+use Rattle.script_text.specs.declared.script.Event.{Event}
+use Rattle.script_text.specs.declared.script.Event.TheVariants.{Register, Deregister, Load, Unload, Find, Unwind}
 use Rattle.script_generator.specs.Generator.{IsGenerated, IsImageCount, generated_base, generated_span, generated_images, images_up, generator_threads, generated_columns, generated_memory, generated_stack, image_order, phase_events, phase_of, generated_events, removing}
 use Rattle.script_generator.specs.declared.events.Phase.{Phase}
 use Rattle.script_generator.specs.declared.events.Phase.TheVariants.{Adding, FindingEnds, RemovingEven, FindingBases}

@@ -5,11 +5,11 @@ use Rattle.std.specs.List.{range_with_len, flat_map}
 use Rattle.byteorder.specs.Endian.{little_bytes}
 use Rattle.reg_model.specs.SpanData.{SpanData}
 use Rattle.frame_parse.specs.Sections.{SectionData}
-use Rattle.event_script.specs.ScriptData.{ScriptData, SnapshotData}
-use Rattle.event_script.specs.declared.script.Event.{Event}
-use Rattle.event_script.specs.declared.script.Event.TheVariants.{Register, Deregister, Load, Unload}
-use Rattle.event_script.specs.declared.script.Event.TheVariants.{Find, Unwind}
-use Rattle.event_script.specs.declared.limits.TheConstants.{FIRST_VERSION, MOST_LOADS}
+use Rattle.script_text.specs.ScriptData.{ScriptData, SnapshotData}
+use Rattle.script_text.specs.declared.script.Event.{Event}
+use Rattle.script_text.specs.declared.script.Event.TheVariants.{Register, Deregister, Load, Unload}
+use Rattle.script_text.specs.declared.script.Event.TheVariants.{Find, Unwind}
+use Rattle.script_text.specs.declared.limits.TheConstants.{FIRST_VERSION, MOST_LOADS}
 use Rattle.script_generator.specs.declared.generating.TheConstants.{NODES}
 use Rattle.script_generator.specs.declared.images.TheConstants.{MOST_COUNT, THREADS}
 use Rattle.script_generator.specs.declared.events.Phase.{Phase}

@@ -3,9 +3,9 @@ use Rattle.std.specs.Prelude.{ℕ, ◌^◌, ◌<◌, List, [], ◌∷◌, ◌++�
 use Rattle.std.specs.Prelude.{if◌then◌else◌}
 use Rattle.std.specs.List.{sum_by, flat_map}
 use Rattle.unwind_step.specs.Backtrace.{hit_of}
-use Rattle.event_script.specs.JournalData.{JournalData}
-use Rattle.event_script.specs.declared.journal.Answer.{Answer}
-use Rattle.event_script.specs.declared.journal.Answer.TheVariants.{Find, Unwind}
+use Rattle.script_text.specs.JournalData.{JournalData}
+use Rattle.script_text.specs.declared.journal.Answer.{Answer}
+use Rattle.script_text.specs.declared.journal.Answer.TheVariants.{Find, Unwind}
 use Rattle.script_generator.specs.declared.summing.Summary.{Summary}
 use Rattle.script_generator.specs.declared.counting.Counted.{Counted}
 use Rattle.script_generator.specs.declared.counting.Counted.TheVariants.{Events, Hits, Misses}

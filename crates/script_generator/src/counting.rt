@@ -6,8 +6,8 @@ ghost use Rattle.unwind_step.specs.Backtrace.{hit_of};
 ghost use Rattle.script_generator.specs.Summaries.{counted_in, summary_of, IsCountable};
 
 use crate::summing::Summary;
-use event_script::{Answer, Journal};
 use reg_model::{Found, Place};
+use script_text::{Answer, Journal};
 
 /// What is counted of a journal.
 #[derive(Clone, Copy, Debug, PartialEq, Eq)]

@@ -9,8 +9,8 @@ ghost use Rattle.script_generator.specs.Generator.{removing};
 ghost use Rattle.script_generator.specs.declared.images.TheConstants.{MOST_COUNT, THREADS};
 
 use crate::images::base_of;
-use event_script::{Event, Thread};
 use reg_model::{Half, NoMemory};
+use script_text::{Event, Thread};
 use std::alloc::Global;
 
 /// What a thread does with each of its images in turn, before it goes on to the next such thing.

@@ -7,8 +7,9 @@ ghost use Rattle.script_generator.specs.Generator.{generator_threads};
 use crate::events::{thread_of, upwards};
 use crate::images::{THREADS, images_of, sections_of};
 use crate::stacks::stacks_of;
-use event_script::{FIRST_VERSION, MOST_LOADS, Round, Script};
 use reg_model::NoMemory;
+use script_text::limits::{FIRST_VERSION, MOST_LOADS};
+use script_text::{Round, Script};
 use std::alloc::Global;
 
 /// The nodes of the tree of registered ranges.

@@ -1,7 +1,7 @@
 //! The images of a generated script, and their sections.
 
 ghost use Rattle.std.specs.Prelude.{◌≡◌, ◌+◌, ◌<◌, ◌++◌, IfOk, map, All};
-ghost use Rattle.event_script.specs.ScriptData.{IsSectionOf};
+ghost use Rattle.script_text.specs.ScriptData.{IsSectionOf};
 ghost use Rattle.script_generator.specs.SectionBytes.{generated_section_bytes};
 ghost use Rattle.script_generator.specs.Generator.{generated_base, generated_span};
 ghost use Rattle.script_generator.specs.Generator.{generated_images, AreGeneratedSections, IsLow};

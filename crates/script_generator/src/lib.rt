@@ -1,6 +1,6 @@
 //! Scripts that are generated, and the summary of a journal.
 //!
-//! Above scripts and journals (`event_script`), below the engine; neither threads nor a registry
+//! Above scripts and journals (`script_text`), below the engine; neither threads nor a registry
 //! stand here. `generate` makes a script of four threads side by side, for any number of images up
 //! to 500 a thread: two register and two load, each at addresses of its own, look up, unwind and
 //! remove again. What it says stands in `specs/Generator`. Of a journal, `summary` keeps six

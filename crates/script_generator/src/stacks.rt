@@ -5,9 +5,9 @@ ghost use Rattle.script_generator.specs.Generator.{generated_stack, generator_th
 ghost use Rattle.script_generator.specs.declared.images.TheConstants.{THREADS};
 
 use crate::images::{THREADS, base_of};
-use event_script::Snapshot;
 use frame_expr::{Memory, RegionFault, Regs};
 use reg_model::NoMemory;
+use script_text::Snapshot;
 use std::alloc::Global;
 
 /// The stack of each thread.

@@ -5,37 +5,38 @@ ghost use Rattle.std.specs.Prelude.{IfOk, IfErr};
 ghost use Rattle.event_script.specs.Reading.{◌>=>◌, IsOfBytes};
 ghost use Rattle.event_script.specs.Draft.{with_image};
 ghost use Rattle.frame_parse.specs.Reading.{section_of};
-ghost use Rattle.event_script.specs.ScriptData.{counts_of};
-ghost use Rattle.event_script.specs.Fields.{fields_after, is_printable, pieces};
-ghost use Rattle.event_script.specs.declared.limits.TheConstants.{MOST_SECTION_BYTES};
+ghost use Rattle.script_text.specs.ScriptData.{counts_of};
+ghost use Rattle.script_text.specs.Fields.{fields_after, is_printable, pieces};
+ghost use Rattle.script_text.specs.declared.limits.TheConstants.{MOST_SECTION_BYTES};
 ghost use Rattle.event_script.specs.declared.reader.kinds.Stage.TheVariants as stage;
-ghost use Rattle.event_script.specs.declared.reader.statement.Statement.TheVariants as statement;
+ghost use Rattle.script_text.specs.declared.statement.Statement.TheVariants as statement;
 ghost use Rattle.event_script.specs.Draft.{no_snapshot, nothing_known, threads_so_far};
 ghost use Rattle.event_script.specs.Draft.{after_snapshot, after_round};
 ghost use Rattle.event_script.specs.Reading.{GivesLine, LeavesDraft, spoken_added, section_or};
 ghost use Rattle.event_script.specs.Reading.{image_added, last_fixed, is_above, fixed_added};
 ghost use Rattle.event_script.specs.Reading.{snapshot_added, memory_added, is_named, added};
 ghost use Rattle.event_script.specs.Reading.{after_line, at_end, by_word};
-ghost use Rattle.event_script.specs.declared.reader.fault.Reason.TheVariants as reason;
+ghost use Rattle.script_text.specs.declared.reason.Reason.TheVariants as reason;
 
-use crate::limits::{
-    FIRST_VERSION, LAST_VERSION, LEAST_LOADS, LEAST_NODES, MOST_EVENTS, MOST_IMAGES, MOST_LOADS,
-    MOST_NODES, MOST_ROUNDS, MOST_SECTION_BYTES, MOST_SNAPSHOTS, MOST_THREADS,
-};
 use crate::reader::events::event_of;
-use crate::reader::fault::{LineFault, Reason};
+use crate::reader::fault::LineFault;
 use crate::reader::fields::{first_field, is_printable};
 use crate::reader::images::image_of;
-use crate::reader::kinds::{Kind, Stage, kind_of, may_come};
+use crate::reader::kinds::{Stage, kind_of, may_come};
 use crate::reader::snapshot_draft::SnapshotDraft;
-use crate::reader::statement::{
-    ImageFields, MemoryFields, SnapshotFields, Statement, statement_of,
-};
+use crate::reader::statement::statement_of;
 use crate::reader::totals::Totals;
-use crate::script::{Event, Round, Snapshot, Thread};
 use frame_expr::Regs;
 use frame_parse::{FrameFault, Section};
 use reg_model::Span;
+use script_text::limits::{
+    FIRST_VERSION, LAST_VERSION, LEAST_LOADS, LEAST_NODES, MOST_EVENTS, MOST_IMAGES, MOST_LOADS,
+    MOST_NODES, MOST_ROUNDS, MOST_SECTION_BYTES, MOST_SNAPSHOTS, MOST_THREADS,
+};
+use script_text::{
+    Event, ImageFields, Kind, MemoryFields, Reason, Round, Snapshot, SnapshotFields, Statement,
+    Thread,
+};
 use std::alloc::Global;
 use std::marker::Model;
 use std::mem::replace;

@@ -1,15 +1,14 @@
 //! Lines of events, as nearly all are: read at once, where nothing is wrong with them.
 
 ghost use Rattle.std.specs.Prelude.{◌≡◌, ◌^◌, ◌<◌, ◌++◌, true, IfSome, decimal};
-ghost use Rattle.event_script.specs.Digits.{hex};
+ghost use Rattle.script_text.specs.Digits.{hex};
 ghost use Rattle.event_script.specs.Draft.{may_come};
-ghost use Rattle.event_script.specs.Statements.{HasEventForm, kind_of_event};
+ghost use Rattle.script_text.specs.Statements.{HasEventForm, kind_of_event};
 ghost use Rattle.event_script.specs.declared.reader.kinds.Stage.TheVariants as stage;
-ghost use Rattle.event_script.specs.EventLines.{event_spelling};
+ghost use Rattle.script_text.specs.EventLines.{event_spelling};
 
-use crate::limits::REPLACE_VERSION;
-use crate::reader::numbers::{decimal_in, hex_in};
-use crate::script::Event;
+use script_text::limits::REPLACE_VERSION;
+use script_text::{Event, decimal_in, hex_in};
 
 /// What follows the word, where the line begins with it.
 #[inline(always)]
@@ -31,7 +30,7 @@ pub fn after_word<'a>(line: &'a [u8], word: &[u8]) -> Option<&'a [u8]>
 
 /// The decimal number that follows the word to the line's end.
 #[inline(always)]
-#[tactic(auto, using(crate::proofs::Steps::decimal_is))]
+#[tactic(auto, using(script_text::proofs::Numbers::decimal_is))]
 fn decimal_after(line: &[u8], word: &[u8]) -> Option<u32>
     ensures { IfSome result (λ number. line.now ≡ word.now ++ decimal number) }
 {
@@ -40,7 +39,7 @@ fn decimal_after(line: &[u8], word: &[u8]) -> Option<u32>
 
 /// The hexadecimal number that follows the word to the line's end.
 #[inline(always)]
-#[tactic(auto, using(crate::proofs::Steps::hex_is))]
+#[tactic(auto, using(script_text::proofs::Numbers::hex_is))]
 fn hex_after(line: &[u8], word: &[u8]) -> Option<u64>
     ensures { IfSome result (λ number. line.now ≡ word.now ++ hex number) }
 {

@@ -1,21 +1,10 @@
 //! Lines and fields, as parts of the bytes.
 
-ghost use Rattle.std.specs.Prelude.{◌≡◌, ◌==◌, ℕ, ◌<◌, ◌≤◌, ◌≢◌, [], ◌∷◌, Some, None, length};
-ghost use Rattle.std.specs.Prelude.{slice_index, MatchOption};
-ghost use Rattle.event_script.specs.Fields.{pieces, fields_after, is_printable};
+ghost use Rattle.std.specs.Prelude.{◌≡◌, ◌==◌, [], ◌∷◌, Some, None, length, MatchOption};
+ghost use Rattle.script_text.specs.Fields.{pieces, fields_after, is_printable};
 ghost use Rattle.event_script.specs.Reading.{has_any, only, two, five};
 
-/// Where the byte stands first, or the length of the bytes where it doesn't stand in them.
-pub fn place_of(bytes: &[u8], byte: u8) -> usize
-    ensures within { result ≤ length bytes.now }
-    ensures before { (k : ℕ) → k < result → slice_index bytes.now k ≢ byte }
-    ensures found { result < length bytes.now → slice_index bytes.now result ≡ byte }
-{
-    match memchr::memchr(byte, bytes) {
-        Some(place) => place,
-        None => bytes.len(),
-    }
-}
+use script_text::place_of;
 
 /// Whether no byte stands in the line but those from the space to the tilde. No byte ends the loop,
 /// so that many are tested at a time.

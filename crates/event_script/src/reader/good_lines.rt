@@ -1,17 +1,17 @@
 //! The lines of a script whose bytes come in pieces.
 
 ghost use Rattle.std.specs.Prelude.{◌≡◌, List, ℕ, [], ◌++◌, Result, Ok, OnOk, IfOk};
-ghost use Rattle.event_script.specs.ScriptData.{IsRunnable};
+ghost use Rattle.script_text.specs.ScriptData.{IsRunnable};
 ghost use Rattle.event_script.specs.Draft.{DraftData};
 ghost use Rattle.event_script.specs.Fault.{GivesDraft, LeavesLine};
 ghost use Rattle.event_script.specs.Reading.{LeavesDraft, after_line, at_line, outcome};
 ghost use Rattle.event_script.specs.Taken.{AreLinesOf, HasTaken};
-ghost use Rattle.event_script.specs.declared.reader.fault.Reason.{Reason};
+ghost use Rattle.script_text.specs.declared.reason.Reason.{Reason};
 
 use crate::reader::ScriptFault;
 use crate::reader::draft::Draft;
 use crate::reader::fault::LineFault;
-use crate::reader::fields::place_of;
+use script_text::place_of;
 use std::alloc::Global;
 use std::marker::Model;
 

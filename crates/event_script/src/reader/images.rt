@@ -1,16 +1,16 @@
 //! Lines of images: read at once, where nothing is wrong with them.
 
 ghost use Rattle.std.specs.Prelude.{◌≡◌, ◌^◌, ◌<◌, ◌∷◌, IfOk, IfSome, codes, decimal};
-ghost use Rattle.event_script.specs.Digits.{hex};
-ghost use Rattle.event_script.specs.Fields.{fields_after, pieces};
-ghost use Rattle.event_script.specs.Statements.{HasForm, statement_line};
-ghost use Rattle.event_script.specs.declared.reader.statement.Statement.TheVariants as statement;
+ghost use Rattle.script_text.specs.Digits.{hex};
+ghost use Rattle.script_text.specs.Fields.{fields_after, pieces};
+ghost use Rattle.script_text.specs.Statements.{HasForm, statement_line};
+ghost use Rattle.script_text.specs.declared.statement.Statement.TheVariants as statement;
 
+use crate::reader::bytes::section_bytes;
 use crate::reader::events::after_word;
 use crate::reader::fields::{first_field, next_field};
-use crate::reader::numbers::{decimal_in, hex_in, section_bytes};
-use crate::reader::statement::ImageFields;
 use reg_model::NoMemory;
+use script_text::{ImageFields, decimal_in, hex_in};
 use std::alloc::Global;
 
 /// The numbers of an image's line, and what stands behind the space after them.

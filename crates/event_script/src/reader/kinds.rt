@@ -6,10 +6,11 @@ ghost use Rattle.std.specs.Str.{bytes_eq};
 ghost use Rattle.std.specs.Prelude.{drop};
 ghost use Rattle.event_script.specs.Draft.{may_come};
 ghost use Rattle.event_script.specs.Reading.{kind_of, kinds};
-ghost use Rattle.event_script.specs.Statements.{word_of};
+ghost use Rattle.script_text.specs.Statements.{word_of};
 ghost use Rattle.event_script.specs.declared.reader.kinds.Stage.TheVariants as stage;
 
-use crate::limits::REPLACE_VERSION;
+use script_text::Kind;
+use script_text::limits::REPLACE_VERSION;
 
 /// How far a script has come: which lines may come next.
 #[derive(Clone, Copy, Debug, PartialEq, Eq)]
@@ -30,28 +31,6 @@ pub enum Stage {
     Thread,
     /// After the `end` line.
     Ended,
-}
-
-/// What a line says, by its first word.
-#[derive(Clone, Copy, Debug, PartialEq, Eq)]
-pub enum Kind {
-    Version,
-    Nodes,
-    Loads,
-    Image,
-    Fixed,
-    Snapshot,
-    Memory,
-    Round,
-    Thread,
-    Register,
-    Deregister,
-    Replace,
-    Load,
-    Unload,
-    Find,
-    Unwind,
-    End,
 }
 
 /// The kind of line that the word begins.

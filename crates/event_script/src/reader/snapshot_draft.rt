@@ -3,11 +3,10 @@
 ghost use Rattle.std.specs.Prelude.{◌≡◌, []};
 ghost use Rattle.event_script.specs.Reading.{LeavesDraft, region_added};
 
-use crate::limits::MOST_MEMORY_BYTES;
-use crate::reader::fault::{LineFault, Reason};
-use crate::reader::statement::MemoryFields;
-use crate::script::Snapshot;
+use crate::reader::fault::LineFault;
 use frame_expr::{Memory, RegionFault, Regs};
+use script_text::limits::MOST_MEMORY_BYTES;
+use script_text::{MemoryFields, Reason, Snapshot};
 use std::alloc::Global;
 use std::marker::Model;
 
@@ -22,8 +21,8 @@ pub struct SnapshotDraft {
 
 impl Model for SnapshotDraft {
     ghost use Rattle.std.specs.Prelude.{◌≡◌, ◌≤◌};
-    ghost use Rattle.event_script.specs.declared.limits.TheConstants.{MOST_MEMORY_BYTES};
-    ghost use Rattle.event_script.specs.ScriptData.{SnapshotData, recorded_bytes};
+    ghost use Rattle.script_text.specs.declared.limits.TheConstants.{MOST_MEMORY_BYTES};
+    ghost use Rattle.script_text.specs.ScriptData.{SnapshotData, recorded_bytes};
 
     ghost Value = { SnapshotData };
 

@@ -1,88 +1,20 @@
 //! What a line says, whatever stands before it.
 
 ghost use Rattle.std.specs.Prelude.{◌≡◌, length, MatchOption, None, Some};
-ghost use Rattle.event_script.specs.Fields.{fields_after};
+ghost use Rattle.script_text.specs.Fields.{fields_after};
 ghost use Rattle.event_script.specs.Reading.{GivesLine, one_decimal, one_hex, image_fields};
 ghost use Rattle.event_script.specs.Reading.{snapshot_fields, memory_fields, fieldless};
 ghost use Rattle.event_script.specs.Reading.{statement_of};
-ghost use Rattle.event_script.specs.Fields.{all_hex_in};
+ghost use Rattle.script_text.specs.Fields.{all_hex_in};
 
-use crate::reader::fault::{LineFault, Reason};
+use crate::reader::bytes::{hex_bytes_in, section_bytes};
+use crate::reader::fault::LineFault;
 use crate::reader::fields::{five_fields, has_any, has_count, next_field, only_field, two_fields};
-use crate::reader::kinds::Kind;
-use crate::reader::numbers::{decimal_in, hex_bytes_in, hex_in, section_bytes};
-use crate::script::Event;
 use frame_expr::Regs;
+use script_text::{
+    Event, ImageFields, Kind, MemoryFields, Reason, SnapshotFields, Statement, decimal_in, hex_in,
+};
 use std::alloc::Global;
-use std::marker::Model;
-
-/// What the line of an image says.
-#[derive(Drop)]
-pub struct ImageFields {
-    pub number: u32,
-    pub base: u64,
-    pub size: u64,
-    /// The address of the section.
-    pub section: u64,
-    pub bytes: Vec<u8>,
-}
-
-impl Model for ImageFields {
-    ghost use Rattle.event_script.specs.ScriptData.{ImageData};
-
-    ghost Value = { ImageData };
-
-    ghost view = { λ i. record {
-      number = i.number;
-      base = i.base;
-      size = i.size;
-      section = i.section;
-      bytes = i.bytes.items;
-    } };
-}
-
-/// What the line of a snapshot says.
-#[derive(Clone, Copy, Debug, PartialEq, Eq)]
-pub struct SnapshotFields {
-    pub number: u32,
-    pub regs: Regs,
-}
-
-/// What a line of recorded memory says.
-#[derive(Drop)]
-pub struct MemoryFields {
-    pub address: u64,
-    pub bytes: Vec<u8>,
-}
-
-impl Model for MemoryFields {
-    ghost use Rattle.frame_expr.specs.Regions.{RegionData};
-
-    ghost Value = { RegionData };
-
-    ghost view = { λ m. record { address = m.address; bytes = m.bytes.items } };
-}
-
-/// What a line says.
-#[derive(Drop)]
-pub enum Statement {
-    Version(u32),
-    Nodes(u32),
-    Loads(u32),
-    Image(ImageFields),
-    /// An image is fixed.
-    Fixed(u32),
-    /// A snapshot begins.
-    Snapshot(SnapshotFields),
-    /// Memory of the snapshot that goes on.
-    Memory(MemoryFields),
-    /// A round begins.
-    Round,
-    /// A thread begins.
-    Thread,
-    Event(Event),
-    End,
-}
 
 /// What a line of the kind says with the fields that follow its word.
 #[tactic(auto, unfolding(crate::specs::Reading::statement_of))]

@@ -4,8 +4,8 @@ ghost use Rattle.std.specs.Prelude.{◌≡◌, true};
 ghost use Rattle.event_script.specs.Draft.{no_totals, with_event};
 ghost use Rattle.event_script.specs.Reading.{has_room};
 
-use crate::limits::MOST_UNWINDS;
-use crate::script::Event;
+use script_text::Event;
+use script_text::limits::MOST_UNWINDS;
 
 /// What the limits want to know of all events so far.
 #[derive(Clone, Copy)]

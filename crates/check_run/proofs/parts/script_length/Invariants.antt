@@ -1,5 +1,5 @@
 use Rattle.std.proofs.Common.{◌≡◌, ◌+◌, ◌≤◌, length}
-use Rattle.event_script.specs.Fields.{pieces}
+use Rattle.script_text.specs.Fields.{pieces}
 use Rattle.check_run.specs.Parts.{script_length}
 use Rattle.check_run.proofs.parts.script_length.Given as goal
 

@@ -1,5 +1,5 @@
 use Rattle.std.proofs.Common.{sym, subst, ap}
-use Rattle.event_script.specs.JournalData.{JournalData}
+use Rattle.script_text.specs.JournalData.{JournalData}
 use Rattle.journal_check.specs.TextFlaws.{IsLawfulText}
 use Rattle.journal_check.proofs.TextVerdicts.{found_lawful}
 use Rattle.journal_check.proofs.checking.verdict_on.Goals as goal

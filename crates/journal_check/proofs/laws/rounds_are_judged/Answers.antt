@@ -1,6 +1,6 @@
 use Rattle.std.proofs.Common.{[]}
 use Rattle.std.proofs.lemmas.List.Elements.{All-nil}
-use Rattle.event_script.specs.Lawful.{thread_receipts}
+use Rattle.script_text.specs.Lawful.{thread_receipts}
 use Rattle.receipt_check.specs.Flaws.{ComesInRound}
 use Rattle.journal_check.proofs.Each.{rounds_each}
 use Rattle.journal_check.proofs.Sides.{InRound, rounds_between}

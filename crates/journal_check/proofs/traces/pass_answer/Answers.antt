@@ -1,5 +1,5 @@
 use Rattle.std.proofs.Common.{◌≡◌, ◌<◌, List, length, get_or, inl, refl, ◌∙◌, ap, subst, arith}
-use Rattle.event_script.specs.ScriptData.{ScriptData, SnapshotData}
+use Rattle.script_text.specs.ScriptData.{ScriptData, SnapshotData}
 use Rattle.trace_check.specs.Departures.{IsDeparture}
 use Rattle.unwind_step.specs.Backtrace.{Unfolds}
 use Rattle.journal_check.proofs.Passing.{departs_here, no_trace, one_passed, unfolds_here}

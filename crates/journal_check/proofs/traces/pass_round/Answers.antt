@@ -1,5 +1,5 @@
 use Rattle.std.proofs.Common.{List, Ok, Err, arith, subst}
-use Rattle.event_script.specs.declared.journal.Answer.{Answer}
+use Rattle.script_text.specs.declared.journal.Answer.{Answer}
 use Rattle.journal_check.specs.Passing.{IsPassed}
 use Rattle.journal_check.proofs.Passing.{part_on, part_stop, parts_end, stop_handed}
 use Rattle.journal_check.proofs.traces.pass_round.Goals as goal

@@ -1,5 +1,5 @@
 use Rattle.std.proofs.Common.{◌<◌, ℕ, List, ◌∷◌, length, sym, ap₂, ◌∙◌, arith}
-use Rattle.event_script.specs.Fields.{pieces}
+use Rattle.script_text.specs.Fields.{pieces}
 use Rattle.journal_reader.proofs.Cuts.{line_cut, no_line_cut}
 use Rattle.journal_reader.proofs.lines.next_line.Goals as goal
 

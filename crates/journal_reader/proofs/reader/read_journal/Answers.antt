@@ -1,5 +1,5 @@
 use Rattle.std.proofs.Common.{◌^◌, ◌<◌, length, subst, arith}
-use Rattle.event_script.specs.ScriptData.{ScriptData}
+use Rattle.script_text.specs.ScriptData.{ScriptData}
 use Rattle.journal_reader.proofs.Flaws.{left_fewer, flaw_of, whole_tells}
 use Rattle.journal_reader.proofs.ToldAnswers.{told_prints}
 use Rattle.journal_reader.proofs.reader.read_journal.Goals as goal

@@ -4,7 +4,7 @@ use Rattle.reg_model.specs.SpanData.{SpanData}
 use Rattle.reg_model.specs.State.{AreDisjoint, opening}
 use Rattle.reg_model.specs.declared.span.Member.{Member}
 use Rattle.unwind_step.specs.Finders.{HasPayloadsBelow, PlainFinderData}
-use Rattle.event_script.specs.Lawful.{image_member}
+use Rattle.script_text.specs.Lawful.{image_member}
 use Rattle.raise_run.specs.RaiseOutcome.{fixed_registry}
 use Rattle.raise_run.proofs.Opened.{fixed_below, raise_is}
 use Rattle.raise_run.proofs.raising.raise_in.Goals as goal

@@ -1,7 +1,7 @@
 use Rattle.std.proofs.Common.{◌<◌, ◌≤◌, List, ℕ, length, vec_len, refl, arith}
-use Rattle.event_script.specs.FaultText.{fault_text}
+use Rattle.script_text.specs.FaultText.{fault_text}
 use Rattle.event_script.specs.Refusal.{IsFirstBad}
-use Rattle.event_script.specs.Spelling.{IsScript}
+use Rattle.script_text.specs.Spelling.{IsScript}
 use Rattle.run_ports.proofs.Endings.{ends_concluded}
 use Rattle.run_ports.proofs.Pieces.{Hands-longer, IfSome-same}
 use Rattle.run_ports.specs.declared.reading.TheConstants.{SCRIPT_LIMIT}

@@ -2,9 +2,9 @@ use Rattle.std.proofs.Common.{◌≡◌, ◌+◌, ◌++◌, ◌∷◌, [], List,
 use Rattle.std.specs.List.{AllZip, flat_map}
 use Rattle.std.proofs.lemmas.List.{length-take-le, map-append, take_more}
 use Rattle.reg_model.specs.declared.answer.Receipt.{Receipt}
-use Rattle.event_script.specs.Lawful.{receipts_of}
-use Rattle.event_script.specs.declared.journal.Answer.{Answer}
-use Rattle.event_script.specs.declared.script.Event.{Event}
+use Rattle.script_text.specs.Lawful.{receipts_of}
+use Rattle.script_text.specs.declared.journal.Answer.{Answer}
+use Rattle.script_text.specs.declared.script.Event.{Event}
 use Rattle.run_engine.specs.Kept.{IsKeptRight, round_told, rounds_told}
 use Rattle.run_engine.specs.Shared.{IsAfterRounds}
 use Rattle.run_engine.specs.declared.kept.KeptAnswer.{KeptAnswer}

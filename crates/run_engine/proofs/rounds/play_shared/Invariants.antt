@@ -1,6 +1,6 @@
 use Rattle.std.proofs.Common.{◌+◌, ◌*◌, ◌≤◌, length, map, take}
 use Rattle.std.specs.List.{AllZip, flat_map}
-use Rattle.event_script.specs.Lawful.{receipts_of}
+use Rattle.script_text.specs.Lawful.{receipts_of}
 use Rattle.run_engine.specs.Kept.{IsKeptRight, rounds_told}
 use Rattle.run_engine.specs.Played.{round_updates}
 use Rattle.run_engine.specs.Shared.{IsAfterRounds, IsReady}

@@ -1,7 +1,7 @@
 use Rattle.std.proofs.Common.{◌<◌, ◌≤◌, List, ℕ, length, refl, inr, arith}
-use Rattle.event_script.specs.FaultText.{fault_text}
+use Rattle.script_text.specs.FaultText.{fault_text}
 use Rattle.event_script.specs.Refusal.{IsFirstBad}
-use Rattle.event_script.specs.Text.{journal_text}
+use Rattle.script_text.specs.Text.{journal_text}
 use Rattle.run_ports.specs.declared.reading.TheConstants.{SCRIPT_LIMIT}
 use Rattle.run_ports.specs.declared.reading.Taken.TheVariants.{Whole, TooLong}
 use Rattle.run_ports.specs.Takers.{Came}

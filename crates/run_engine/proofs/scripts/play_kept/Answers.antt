@@ -4,8 +4,8 @@ use Rattle.reg_model.specs.SpanData.{SpanData, IsSpan}
 use Rattle.reg_model.specs.declared.span.Member.{Member}
 use Rattle.segment_array.specs.Ascending.{AscendFrom}
 use Rattle.word_rule.specs.declared.log.Terms.{Terms}
-use Rattle.event_script.specs.Lawful.{image_member}
-use Rattle.event_script.specs.declared.script.Event.{Event}
+use Rattle.script_text.specs.Lawful.{image_member}
+use Rattle.script_text.specs.declared.script.Event.{Event}
 use Rattle.run_engine.specs.Nodes.{callers_asked, members_asked}
 use Rattle.run_engine.proofs.NodeCounts.{rounds_are_few}
 use Rattle.run_engine.proofs.Opening.{fixed_ascend, fixed_known}

@@ -1,5 +1,5 @@
-use Rattle.event_script.specs.JournalData.{JournalData}
-use Rattle.event_script.specs.Lawful.{IsLawfulJournal}
+use Rattle.script_text.specs.JournalData.{JournalData}
+use Rattle.script_text.specs.Lawful.{IsLawfulJournal}
 use Rattle.run_engine.specs.Played.{IsPlayed}
 use Rattle.run_engine.proofs.Sharing.{ok_is}
 use Rattle.run_engine.proofs.scripts.play_script.Goals as goal

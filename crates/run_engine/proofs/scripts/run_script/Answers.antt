@@ -1,7 +1,7 @@
 use Rattle.std.proofs.Common.{◌≡◌}
 use Rattle.std.specs.List.{flat_map}
-use Rattle.event_script.specs.JournalData.{JournalData}
-use Rattle.event_script.specs.Lawful.{IsLawfulJournal, thread_receipts}
+use Rattle.script_text.specs.JournalData.{JournalData}
+use Rattle.script_text.specs.Lawful.{IsLawfulJournal, thread_receipts}
 use Rattle.registry_core.specs.Rounds.{joined_lists}
 use Rattle.run_engine.specs.Played.{IsPlayed}
 use Rattle.run_engine.proofs.Sharing.{ok_is}

@@ -1,7 +1,7 @@
 use Rattle.std.proofs.Common.{◌≡◌, List, length, map, ap, sym, ◌∙◌, subst, arith}
 use Rattle.std.specs.List.{AllZip}
 use Rattle.std.proofs.lemmas.List.{length-map, map-append}
-use Rattle.event_script.specs.declared.script.Event.{Event}
+use Rattle.script_text.specs.declared.script.Event.{Event}
 use Rattle.run_engine.specs.Kept.{IsKeptPrintable, thread_told}
 use Rattle.run_engine.proofs.Told.{told_holds, told_next, told_within}
 use Rattle.run_engine.proofs.telling.tell_round.Goals as goal

@@ -1,6 +1,6 @@
 use Rattle.std.proofs.Common.{◌≡◌, ◌∙◌, length, get_or, arith}
 use Rattle.std.proofs.lemmas.List.{get_or_default}
-use Rattle.event_script.specs.declared.script.Event.TheVariants.{Register}
+use Rattle.script_text.specs.declared.script.Event.TheVariants.{Register}
 use Rattle.run_engine.specs.Kept.{IsKeptPrintable, told}
 use Rattle.run_engine.proofs.Told.{told_next, told_within}
 use Rattle.run_engine.proofs.telling.tell_thread.Goals as goal

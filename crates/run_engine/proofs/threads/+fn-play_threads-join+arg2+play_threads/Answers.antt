@@ -3,8 +3,8 @@ use Rattle.std.specs.List.{AllZip, flat_map}
 use Rattle.std.proofs.lemmas.List.{length-take-le, map-append}
 use Rattle.registry_core.specs.Calls.{Answered}
 use Rattle.registry_core.specs.Rounds.{AreAnswered}
-use Rattle.event_script.specs.Lawful.{receipts_of}
-use Rattle.event_script.specs.declared.script.Event.{Event}
+use Rattle.script_text.specs.Lawful.{receipts_of}
+use Rattle.script_text.specs.declared.script.Event.{Event}
 use Rattle.run_engine.specs.Kept.{IsKeptRight, round_told, thread_told}
 use Rattle.run_engine.proofs.Lists.{AllZip-length, AllZip-more}
 use Rattle.run_engine.proofs.Teams.{AreAnswered-more, last_parts}

@@ -2,9 +2,9 @@ use Rattle.std.proofs.Common.{refl, sym, subst}
 use Rattle.std.proofs.lemmas.Result.{IfOk-weaker}
 use Rattle.reg_model.specs.Chain.{Chain}
 use Rattle.registry_core.specs.Calls.{Receives}
-use Rattle.event_script.specs.Lawful.{receipts_of}
-use Rattle.event_script.specs.declared.journal.Answer.{Answer}
-use Rattle.event_script.specs.declared.journal.Answer.TheVariants.{Find}
+use Rattle.script_text.specs.Lawful.{receipts_of}
+use Rattle.script_text.specs.declared.journal.Answer.{Answer}
+use Rattle.script_text.specs.declared.journal.Answer.TheVariants.{Find}
 use Rattle.run_engine.specs.Played.{IsRightAnswer}
 use Rattle.run_engine.proofs.Sharing.{event_left, still_ready}
 use Rattle.run_engine.proofs.Told.{kept_right, told_is}

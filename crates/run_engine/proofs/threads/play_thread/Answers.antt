@@ -1,8 +1,8 @@
 use Rattle.std.proofs.Common.{◌≡◌, ◌++◌, ◌∷◌, [], length, take, get_or, arith}
 use Rattle.std.proofs.lemmas.List.{length-take-le, take_more}
 use Rattle.registry_core.specs.Calls.{Receives}
-use Rattle.event_script.specs.Lawful.{receipts_of}
-use Rattle.event_script.specs.declared.script.Event.TheVariants.{Register}
+use Rattle.script_text.specs.Lawful.{receipts_of}
+use Rattle.script_text.specs.declared.script.Event.TheVariants.{Register}
 use Rattle.run_engine.specs.Kept.{IsKeptRight, thread_told, told}
 use Rattle.run_engine.proofs.Lists.{AllZip-length, AllZip-more}
 use Rattle.run_engine.proofs.Chains.{Chain-push}

@@ -2,7 +2,7 @@ use Rattle.std.proofs.Common.{◌+◌, ◌≤◌, length, take}
 use Rattle.std.specs.List.{AllZip, flat_map}
 use Rattle.reg_model.specs.Chain.{Chain}
 use Rattle.registry_core.specs.Calls.{Receives}
-use Rattle.event_script.specs.Lawful.{receipts_of}
+use Rattle.script_text.specs.Lawful.{receipts_of}
 use Rattle.run_engine.specs.Kept.{IsKeptRight, thread_told}
 use Rattle.run_engine.specs.Played.{updates_in}
 use Rattle.run_engine.specs.Shared.{IsReady}

@@ -1,8 +1,8 @@
 use Rattle.std.proofs.Common.{◌≡◌, ℕ, List, [], ◌++◌, append-nil, ap, refl, sym, ◌∙◌}
-use Rattle.event_script.specs.ScriptData.{span_of}
-use Rattle.event_script.specs.Text.{answer_line, answer_text, event_line}
-use Rattle.event_script.specs.declared.journal.Answer.{Answer}
-use Rattle.event_script.specs.declared.script.Event.TheVariants.{Deregister, Find}
+use Rattle.script_text.specs.ScriptData.{span_of}
+use Rattle.script_text.specs.Text.{answer_line, answer_text, event_line}
+use Rattle.script_text.specs.declared.journal.Answer.{Answer}
+use Rattle.script_text.specs.declared.script.Event.TheVariants.{Deregister, Find}
 use Rattle.run_engine.specs.Kept.{told}
 use Rattle.run_engine.specs.declared.kept.KeptAnswer.TheVariants.{DoneWith, Registered}
 use Rattle.run_engine.proofs.writing.spell_usual.Goals as goal

@@ -1,5 +1,5 @@
 use Rattle.std.proofs.Common.{◌∙◌, arith}
-use Rattle.event_script.specs.Text.{answer_lines, event_line}
+use Rattle.script_text.specs.Text.{answer_lines, event_line}
 use Rattle.run_ports.proofs.Lines.{line_gains, line_gains_part}
 use Rattle.run_engine.proofs.writing.write_answer.Goals as goal
 

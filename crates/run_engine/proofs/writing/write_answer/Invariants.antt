@@ -1,6 +1,6 @@
 use Rattle.std.proofs.Common.{◌≡◌, take}
 use Rattle.std.specs.List.{flat_map}
-use Rattle.event_script.specs.Text.{answer_lines, event_line}
+use Rattle.script_text.specs.Text.{answer_lines, event_line}
 use Rattle.run_ports.specs.Ports.{Gains}
 use Rattle.run_engine.proofs.writing.write_answer.Given as goal
 

@@ -1,6 +1,6 @@
 use Rattle.std.proofs.Common.{◌≡◌, ℕ, List, OnErr, OnOk, ap, refl, subst, sym, ◌∙◌}
-use Rattle.event_script.specs.Text.{answer_text}
-use Rattle.event_script.specs.declared.journal.Answer.{Answer}
+use Rattle.script_text.specs.Text.{answer_text}
+use Rattle.script_text.specs.declared.journal.Answer.{Answer}
 use Rattle.run_ports.specs.Ports.{Gains, GainsPart}
 use Rattle.run_engine.specs.Kept.{told}
 use Rattle.run_engine.proofs.Told.{short_is}

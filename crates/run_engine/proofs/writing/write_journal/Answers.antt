@@ -1,6 +1,6 @@
 use Rattle.std.proofs.Common.{◌≡◌, ◌∙◌}
 use Rattle.std.proofs.lemmas.Result.{on_ok_weaker, on_err_weaker}
-use Rattle.event_script.specs.Text.{updates_text}
+use Rattle.script_text.specs.Text.{updates_text}
 use Rattle.run_ports.proofs.Pieces.{Gains-more, GainsPart-more, GainsPart-wider, GainsPart-all}
 use Rattle.run_engine.proofs.writing.write_journal.Goals as goal
 

@@ -1,6 +1,6 @@
 use Rattle.std.proofs.Common.{◌≡◌, ℕ, List, [], OnErr, OnOk, subst, ◌∙◌}
 use Rattle.std.specs.Prelude.{slice_index_or}
-use Rattle.event_script.specs.Text.{answer_lines, event_line}
+use Rattle.script_text.specs.Text.{answer_lines, event_line}
 use Rattle.run_ports.specs.Ports.{Gains, GainsPart}
 use Rattle.run_engine.proofs.writing.write_line.Goals as goal
 

@@ -2,7 +2,7 @@ use Rattle.std.proofs.Common.{◌∙◌, get_or}
 use Rattle.std.specs.List.{AllZip}
 use Rattle.std.proofs.lemmas.List.{get_or_default}
 use Rattle.std.proofs.lemmas.Result.{err_from_is_err_and}
-use Rattle.event_script.specs.Text.{thread_text}
+use Rattle.script_text.specs.Text.{thread_text}
 use Rattle.run_engine.specs.Kept.{IsKeptPrintable, thread_told}
 use Rattle.run_engine.proofs.Numbered.{zip_gains_all, zip_gains_more, zip_gains_part, zip_within}
 use Rattle.run_engine.proofs.Told.{AllZip-at}

@@ -1,7 +1,7 @@
 use Rattle.std.proofs.Common.{◌∙◌}
 use Rattle.std.specs.List.{AllZip}
 use Rattle.std.proofs.lemmas.Result.{err_from_is_err_and}
-use Rattle.event_script.specs.Text.{round_text}
+use Rattle.script_text.specs.Text.{round_text}
 use Rattle.run_engine.specs.Kept.{IsKeptPrintable, round_told}
 use Rattle.run_engine.proofs.Numbered.{zip_gains_all, zip_gains_more, zip_gains_part, zip_within}
 use Rattle.run_engine.proofs.Told.{AllZip-at}

@@ -1,11 +1,11 @@
 use Rattle.std.proofs.Common.{◌∙◌, get_or}
 use Rattle.std.proofs.lemmas.List.{get_or_default}
 use Rattle.std.proofs.lemmas.Result.{err_from_is_err_and}
-use Rattle.event_script.specs.Text.{answer_text}
+use Rattle.script_text.specs.Text.{answer_text}
 use Rattle.run_engine.specs.Kept.{IsKeptPrintable, told}
 use Rattle.run_engine.proofs.Numbered.{zip_gains_all, zip_gains_more, zip_gains_part, zip_within}
 use Rattle.run_engine.proofs.Told.{AllZip-at}
-use Rattle.event_script.specs.declared.script.Event.TheVariants.{Register}
+use Rattle.script_text.specs.declared.script.Event.TheVariants.{Register}
 use Rattle.run_engine.proofs.writing.write_thread.Goals as goal
 
 pub bounds-part-index : goal.bounds-part-index

@@ -1,5 +1,5 @@
 use Rattle.std.proofs.Common.{◌≡◌, take}
-use Rattle.event_script.specs.Text.{thread_text}
+use Rattle.script_text.specs.Text.{thread_text}
 use Rattle.run_ports.specs.Ports.{Gains}
 use Rattle.run_engine.specs.Kept.{thread_told}
 use Rattle.run_engine.proofs.writing.write_thread.Given as goal

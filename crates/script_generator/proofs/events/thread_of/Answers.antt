@@ -1,5 +1,5 @@
 use Rattle.std.proofs.Common.{◌∙◌, ◌++◌, List, ap}
-use Rattle.event_script.specs.declared.script.Event.{Event}
+use Rattle.script_text.specs.declared.script.Event.{Event}
 use Rattle.script_generator.specs.declared.events.Phase.TheVariants.{Adding, FindingEnds, RemovingEven, FindingBases}
 use Rattle.script_generator.proofs.Ranges.{is_order, phase_added, all_phases}
 use Rattle.script_generator.proofs.events.thread_of.Goals as goal

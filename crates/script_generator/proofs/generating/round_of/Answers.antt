@@ -1,6 +1,6 @@
 use Rattle.std.proofs.Common.{◌∙◌, ◌++◌, ◌∷◌, [], List, map, sym, ap}
 use Rattle.std.specs.List.{range_with_len}
-use Rattle.event_script.specs.declared.script.Event.{Event}
+use Rattle.script_text.specs.declared.script.Event.{Event}
 use Rattle.script_generator.specs.Generator.{generated_events}
 use Rattle.script_generator.proofs.Ranges.{map_range_more}
 use Rattle.script_generator.proofs.generating.round_of.Goals as goal

@@ -1,6 +1,6 @@
 use Rattle.std.proofs.Common.{◌∙◌, ◌+◌, ap}
 use Rattle.std.proofs.lemmas.List.Elements.{All-push}
-use Rattle.event_script.specs.ScriptData.{IsSectionOf}
+use Rattle.script_text.specs.ScriptData.{IsSectionOf}
 use Rattle.script_generator.proofs.Ranges.{sections_more}
 use Rattle.script_generator.proofs.images.sections_of.Goals as goal
 

@@ -1,5 +1,5 @@
 use Rattle.std.proofs.Common.{take, All}
-use Rattle.event_script.specs.ScriptData.{IsSectionOf}
+use Rattle.script_text.specs.ScriptData.{IsSectionOf}
 use Rattle.script_generator.specs.Generator.{AreGeneratedSections}
 use Rattle.script_generator.proofs.images.sections_of.Given as goal
 

@@ -1,6 +1,6 @@
 use Rattle.std.proofs.Common.{◌∙◌, ◌++◌, ◌∷◌, [], List, map, sym, ap}
 use Rattle.std.specs.List.{range_with_len}
-use Rattle.event_script.specs.ScriptData.{SnapshotData}
+use Rattle.script_text.specs.ScriptData.{SnapshotData}
 use Rattle.script_generator.specs.Generator.{generated_stack}
 use Rattle.script_generator.proofs.Ranges.{map_range_more}
 use Rattle.script_generator.proofs.stacks.stacks_of.Goals as goal

@@ -1,7 +1,7 @@
 use Rattle.std.proofs.Common.{List, ℕ, [], Result, sym, subst, ◌∙◌, append-nil}
 use Rattle.std.proofs.lemmas.Result.{err_from_is_err_and}
-use Rattle.event_script.specs.ScriptData.{IsRunnable}
-use Rattle.event_script.specs.Spelling.{IsScript}
+use Rattle.script_text.specs.ScriptData.{IsRunnable}
+use Rattle.script_text.specs.Spelling.{IsScript}
 use Rattle.event_script.specs.Draft.{DraftData}
 use Rattle.event_script.specs.Fault.{Tells}
 use Rattle.event_script.specs.Taken.{LinesData, HasTaken}

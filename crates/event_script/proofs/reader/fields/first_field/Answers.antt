@@ -1,6 +1,6 @@
 use Rattle.std.proofs.Common.{ℕ, List, ◌∷◌, sym, ◌∙◌, ap₂}
-use Rattle.event_script.specs.Fields.{pieces_after}
-use Rattle.event_script.proofs.Pieces.{pieces_cut}
+use Rattle.script_text.specs.Fields.{pieces_after}
+use Rattle.script_text.proofs.Pieces.{pieces_cut}
 use Rattle.event_script.proofs.reader.fields.first_field.Goals as goal
 
 pub returns : goal.returns

@@ -1,4 +1,4 @@
-use Rattle.event_script.proofs.Pieces.{five_some, five_none}
+use Rattle.event_script.proofs.Following.{five_some, five_none}
 use Rattle.event_script.proofs.reader.fields.five_fields.Goals as goal
 
 pub returns-in_err-fifth : goal.returns-in_err-fifth

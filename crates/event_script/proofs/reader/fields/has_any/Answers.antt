@@ -1,5 +1,5 @@
 use Rattle.std.proofs.Common.{not, ap, ◌∙◌}
-use Rattle.event_script.proofs.Pieces.{has_any_is}
+use Rattle.event_script.proofs.Following.{has_any_is}
 use Rattle.event_script.proofs.reader.fields.has_any.Goals as goal
 
 pub returns : goal.returns

@@ -1,5 +1,5 @@
 use Rattle.std.proofs.Common.{◌≡◌, ◌+◌, ◌≤◌, length}
-use Rattle.event_script.specs.Fields.{fields_after}
+use Rattle.script_text.specs.Fields.{fields_after}
 use Rattle.event_script.proofs.reader.fields.has_count.Given as goal
 
 -- so many fields were passed by as are not missing any more

@@ -1,5 +1,5 @@
 use Rattle.std.proofs.Common.{◌≡◌, take}
-use Rattle.event_script.specs.Fields.{is_printable}
+use Rattle.script_text.specs.Fields.{is_printable}
 use Rattle.event_script.proofs.reader.fields.is_printable.Given as goal
 
 -- what was seen is printable, or not

@@ -1,6 +1,6 @@
 use Rattle.std.proofs.Common.{sym, ◌∙◌}
 use Rattle.std.proofs.lemmas.Bool.{eqb-false}
-use Rattle.event_script.proofs.Pieces.{only_none}
+use Rattle.event_script.proofs.Following.{only_none}
 use Rattle.event_script.proofs.reader.fields.only_field.Goals as goal
 
 pub returns-else-is_empty : goal.returns-else-is_empty

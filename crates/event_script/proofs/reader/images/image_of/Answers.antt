@@ -1,5 +1,5 @@
 use Rattle.std.proofs.Common.{◌≡◌, ◌∙◌, ℕ, Some, Vec, Global, ap, option_map, sym}
-use Rattle.event_script.specs.Fields.{section_bytes}
+use Rattle.script_text.specs.Fields.{section_bytes}
 use Rattle.event_script.proofs.SaidLines.{whole_image}
 use Rattle.event_script.proofs.reader.images.image_of.Goals as goal
 

@@ -1,6 +1,6 @@
 use Rattle.std.proofs.Common.{◌≡◌, ◌+◌, ◌++◌, length, take}
 use Rattle.std.specs.Option.{option_map}
-use Rattle.event_script.specs.Fields.{fields_after, all_hex_in}
+use Rattle.script_text.specs.Fields.{fields_after, all_hex_in}
 use Rattle.event_script.proofs.reader.statement.columns_of.Given as goal
 
 -- so many columns were read, and what is left is read as all of it is

@@ -1,5 +1,5 @@
 use Rattle.std.proofs.Common.{List, ℕ, ap, sym, ◌∙◌}
-use Rattle.event_script.specs.Fields.{pieces}
+use Rattle.script_text.specs.Fields.{pieces}
 use Rattle.journal_reader.specs.Reading.{first_line}
 use Rattle.journal_reader.proofs.Pieced.{next_of, others_of, some_next}
 use Rattle.journal_reader.proofs.Events.{is_one_line, event_ends, event_unread, event_read}

@@ -1,9 +1,9 @@
 use Rattle.std.proofs.Common.{◌+◌, List, ◌++◌, take, map, ap, sym, subst, ◌∙◌}
 use Rattle.std.specs.List.{AllZip}
-use Rattle.event_script.specs.Fields.{pieces}
-use Rattle.event_script.specs.declared.journal.Answer.{Answer}
+use Rattle.script_text.specs.Fields.{pieces}
+use Rattle.script_text.specs.declared.journal.Answer.{Answer}
 use Rattle.journal_reader.specs.JournalLines.{thread_lines, numbered_lines}
-use Rattle.event_script.proofs.LineLists.{map_push}
+use Rattle.script_text.proofs.StatementLists.{map_push}
 use Rattle.journal_reader.proofs.Loops.{loop_stuck, loop_more}
 use Rattle.journal_reader.proofs.Journals.{ToldThread, thread_unique, some_thread}
 use Rattle.journal_reader.proofs.reader.Reader.read_round.Goals as goal

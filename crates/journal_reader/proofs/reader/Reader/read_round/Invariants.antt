@@ -1,6 +1,6 @@
 use Rattle.std.proofs.Common.{◌≡◌, ◌++◌, take, map}
 use Rattle.std.specs.List.{AllZip}
-use Rattle.event_script.specs.Fields.{pieces}
+use Rattle.script_text.specs.Fields.{pieces}
 use Rattle.journal_reader.specs.Told.{IsToldAnswer}
 use Rattle.journal_reader.specs.JournalLines.{thread_lines, numbered_lines}
 use Rattle.journal_reader.proofs.reader.Reader.read_round.Given as goal

@@ -1,8 +1,8 @@
 use Rattle.std.proofs.Common.{◌+◌, List, ◌++◌, get_or, take, ap, sym, subst, ◌∙◌}
 use Rattle.std.specs.List.{AllZip}
-use Rattle.event_script.specs.Fields.{pieces}
-use Rattle.event_script.specs.declared.script.Event.TheVariants as event
-use Rattle.event_script.specs.declared.journal.Answer.{Answer}
+use Rattle.script_text.specs.Fields.{pieces}
+use Rattle.script_text.specs.declared.script.Event.TheVariants as event
+use Rattle.script_text.specs.declared.journal.Answer.{Answer}
 use Rattle.journal_reader.specs.Told.{IsToldAnswer}
 use Rattle.journal_reader.specs.JournalLines.{event_lines, numbered_lines}
 use Rattle.journal_reader.proofs.Loops.{get_same, loop_stuck, loop_more}

@@ -1,8 +1,8 @@
 use Rattle.std.proofs.Common.{◌≡◌, ℕ, List, [], ◌∷◌, ◌++◌, length, map, ap, sym, subst, ◌∙◌, arith}
 use Rattle.std.specs.List.{AllByRecursion}
 use Rattle.unwind_step.specs.declared.backtrace.FrameLine.{FrameLine}
-use Rattle.event_script.specs.Fields.{pieces}
-use Rattle.event_script.specs.Text.{frame_lines}
+use Rattle.script_text.specs.Fields.{pieces}
+use Rattle.script_text.specs.Text.{frame_lines}
 use Rattle.journal_reader.specs.Told.{IsToldFrame}
 use Rattle.journal_reader.specs.Reading.{frame_head, told_frame, told_end}
 use Rattle.journal_reader.specs.JournalLines.{line_at}

@@ -1,7 +1,7 @@
 use Rattle.std.proofs.Common.{◌≡◌, ◌++◌, length, map}
 use Rattle.std.specs.List.{AllByRecursion}
-use Rattle.event_script.specs.Fields.{pieces}
-use Rattle.event_script.specs.Text.{frame_lines}
+use Rattle.script_text.specs.Fields.{pieces}
+use Rattle.script_text.specs.Text.{frame_lines}
 use Rattle.journal_reader.specs.Told.{IsToldFrame}
 use Rattle.journal_reader.specs.JournalLines.{line_at}
 use Rattle.journal_reader.proofs.reader.Reader.read_trace.Given as goal

@@ -1,8 +1,8 @@
 use Rattle.std.proofs.Common.{◌≡◌, ℕ, List, Bool, true, false, not, sym, subst, ◌∙◌}
 use Rattle.std.specs.Str.{bytes_eq}
 use Rattle.std.proofs.lemmas.Slice.Eq.{bytes_eq-Decides}
-use Rattle.event_script.specs.Fields.{pieces}
-use Rattle.event_script.specs.declared.script.Event.TheVariants as event
+use Rattle.script_text.specs.Fields.{pieces}
+use Rattle.script_text.specs.declared.script.Event.TheVariants as event
 use Rattle.journal_reader.specs.Told.{IsToldAnswer}
 use Rattle.journal_reader.specs.ReadLines.{IsStuck}
 use Rattle.journal_reader.specs.JournalLines.{event_lines}

@@ -1,7 +1,7 @@
 use Rattle.std.proofs.Common.{ℕ, ◌^◌, ◌<◌, List, ◌++◌, length, map, inl, inr, ap, sym, subst, ◌∙◌}
 use Rattle.reg_model.specs.SpanData.{SpanData}
-use Rattle.event_script.specs.Fields.{pieces}
-use Rattle.event_script.specs.ScriptData.{ScriptData}
+use Rattle.script_text.specs.Fields.{pieces}
+use Rattle.script_text.specs.ScriptData.{ScriptData}
 use Rattle.journal_reader.specs.JournalLines.{journal_lines}
 use Rattle.journal_reader.proofs.Flaws.{nothing_left, something_left}
 use Rattle.journal_reader.proofs.Journals.{rounds_left, last_stuck, journal_read}

@@ -2,7 +2,7 @@ use Rattle.std.proofs.Common.{◌≡◌, ap}
 use Rattle.std.proofs.lemmas.Result.{IfOk-weaker}
 use Rattle.reg_model.specs.Chain.{Chain}
 use Rattle.registry_core.specs.Calls.{Receives}
-use Rattle.event_script.specs.Lawful.{receipts_of_trace}
+use Rattle.script_text.specs.Lawful.{receipts_of_trace}
 use Rattle.run_engine.specs.Shared.{SharedPlayerData}
 use Rattle.run_engine.proofs.Sharing.{either_way, goes_calls, goes_registry}
 use Rattle.run_engine.proofs.shared.SharedPlayer.unwind.Goals as goal

@@ -1,12 +1,12 @@
 use Rattle.std.proofs.Common.{◌≡◌, ℕ, List, true, ap, subst}
 use Rattle.std.proofs.lemmas.Result.{err_from_is_err_and}
 use Rattle.event_script.specs.Draft.{DraftData, is_ended, may_come}
-use Rattle.event_script.specs.EventLines.{event_spelling}
+use Rattle.script_text.specs.EventLines.{event_spelling}
 use Rattle.event_script.specs.Reading.{added, after_line}
-use Rattle.event_script.specs.Statements.{kind_of_event, HasEventForm}
+use Rattle.script_text.specs.Statements.{kind_of_event, HasEventForm}
 use Rattle.event_script.specs.declared.reader.kinds.Stage.TheVariants as stage
-use Rattle.event_script.specs.declared.reader.statement.Statement.TheVariants as statement
-use Rattle.event_script.specs.declared.script.Event.{Event}
+use Rattle.script_text.specs.declared.statement.Statement.TheVariants as statement
+use Rattle.script_text.specs.declared.script.Event.{Event}
 use Rattle.event_script.proofs.SaidLines.{event_said, read_in_fields}
 use Rattle.event_script.proofs.reader.draft.Draft.read_event.Goals as goal
 

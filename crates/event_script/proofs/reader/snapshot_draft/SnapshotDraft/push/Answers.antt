@@ -1,5 +1,5 @@
 use Rattle.std.proofs.Common.{◌≡◌, ◌+◌, length, ap, ◌∙◌, arith}
-use Rattle.event_script.specs.ScriptData.{recorded_bytes}
+use Rattle.script_text.specs.ScriptData.{recorded_bytes}
 use Rattle.event_script.proofs.Recorded.{recorded_push}
 use Rattle.event_script.proofs.reader.snapshot_draft.SnapshotDraft.push.Goals as goal
 

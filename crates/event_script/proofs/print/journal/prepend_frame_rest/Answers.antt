@@ -1,8 +1,0 @@
-use Rattle.std.specs.Fmt.{decimal}
-use Rattle.event_script.specs.Text.{addresses_text, place_text}
-use Rattle.event_script.proofs.LineEnds.{three_before}
-use Rattle.event_script.proofs.print.journal.prepend_frame_rest.Goals as goal
-
-pub returns-clause-text : goal.returns-clause-text
-returns-clause-text c =
-    three_before (decimal c.args.number) (addresses_text c.args.line.now) (place_text c.args.line.now.place) _ _ _ _ c.prepend_place.ensures.text c.prepend_addresses.ensures.text c.prepend_decimal.ensures.text

@@ -1,8 +1,0 @@
-use Rattle.std.proofs.Common.{◌≡◌, ◌++◌, take}
-use Rattle.std.specs.String.{string_bytes}
-use Rattle.event_script.specs.Spelling.{statements_text, image_statements}
-use Rattle.event_script.proofs.print.script.put_images.Given as goal
-
--- the text so far
-abbrev pub invariant-loop-number : goal.invariant-loop-number
-invariant-loop-number l = string_bytes l.text ≡ string_bytes l.fn.text ++ statements_text (image_statements 0 (take l.number l.images) (take l.number l.sections))

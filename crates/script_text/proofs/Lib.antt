@@ -1,0 +1,12 @@
+pub mod Texts
+pub mod Numbered
+pub mod TraceLines
+pub mod Answered
+pub mod Pieces
+pub mod Numbers
+pub mod HexDigits
+pub mod DigitTable
+pub mod Joined
+pub mod StatementLists
+pub mod LineEnds
+pub mod Spelled

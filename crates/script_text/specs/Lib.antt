@@ -1,0 +1,11 @@
+pub mod ScriptData
+pub mod Digits
+pub mod Statements
+pub mod Spelling
+pub mod EventLines
+pub mod Fields
+pub mod Lower
+pub mod FaultText
+pub mod JournalData
+pub mod Lawful
+pub mod Text
