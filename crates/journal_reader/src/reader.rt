@@ -29,7 +29,7 @@ pub struct FormFault {
 
 /// A text that is read line by line. Where what comes isn't told, `rest` begins with the bad line.
 #[derive(Drop)]
-struct Reader<'a> {
+struct JournalReader<'a> {
     images: &'a [Span],
     rest: &'a [u8],
 }
@@ -50,7 +50,7 @@ fn add<T: Drop>(items: &mut Vec<T>, item: T) -> Result<(), NoMemory>
     Ok(())
 }
 
-impl<'a> Reader<'a> {
+impl<'a> JournalReader<'a> {
     /// The lines of a backtrace after the first one.
     fn read_trace(&mut self, alloc: Global, number: EventNumber) -> Result<Option<Trace>, NoMemory>
         requires few { length self.old.images.now < 2 ^ 32 }
@@ -282,7 +282,7 @@ pub fn read_journal(
     ensures bad { IfOk result (λ read. IfErr read (λ fault.
         FormFlaw script.now text.now fault.line)) }
 {
-    let mut reader = Reader {
+    let mut reader = JournalReader {
         images: &script.images,
         rest: text,
     };

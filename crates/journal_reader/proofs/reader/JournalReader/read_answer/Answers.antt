@@ -3,7 +3,7 @@ use Rattle.script_text.specs.Fields.{pieces}
 use Rattle.journal_reader.specs.Reading.{first_line}
 use Rattle.journal_reader.proofs.Pieced.{next_of, others_of, some_next}
 use Rattle.journal_reader.proofs.Events.{is_one_line, event_ends, event_unread, event_read}
-use Rattle.journal_reader.proofs.reader.Reader.read_answer.Goals as goal
+use Rattle.journal_reader.proofs.reader.JournalReader.read_answer.Goals as goal
 
 pub returns-in_default-next_line-clause-lines : goal.returns-in_default-next_line-clause-lines
 returns-in_default-next_line-clause-lines c =

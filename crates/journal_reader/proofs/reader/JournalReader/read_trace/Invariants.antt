@@ -4,7 +4,7 @@ use Rattle.script_text.specs.Fields.{pieces}
 use Rattle.script_text.specs.Text.{frame_lines}
 use Rattle.journal_reader.specs.Told.{IsToldFrame}
 use Rattle.journal_reader.specs.JournalLines.{line_at}
-use Rattle.journal_reader.proofs.reader.Reader.read_trace.Given as goal
+use Rattle.journal_reader.proofs.reader.JournalReader.read_trace.Given as goal
 
 abbrev pub invariant-loop-line : goal.invariant-loop-line
 invariant-loop-line l = record {

@@ -6,7 +6,7 @@ use Rattle.journal_reader.specs.JournalLines.{thread_lines, numbered_lines}
 use Rattle.script_text.proofs.StatementLists.{map_push}
 use Rattle.journal_reader.proofs.Loops.{loop_stuck, loop_more}
 use Rattle.journal_reader.proofs.Journals.{ToldThread, thread_unique, some_thread}
-use Rattle.journal_reader.proofs.reader.Reader.read_round.Goals as goal
+use Rattle.journal_reader.proofs.reader.JournalReader.read_round.Goals as goal
 
 pub returns-in-None-clause-lines : goal.returns-in-None-clause-lines
 returns-in-None-clause-lines c =

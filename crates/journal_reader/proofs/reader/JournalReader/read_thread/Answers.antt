@@ -7,7 +7,7 @@ use Rattle.journal_reader.specs.Told.{IsToldAnswer}
 use Rattle.journal_reader.specs.JournalLines.{event_lines, numbered_lines}
 use Rattle.journal_reader.proofs.Loops.{get_same, loop_stuck, loop_more}
 use Rattle.journal_reader.proofs.Events.{unique_answer, some_answer}
-use Rattle.journal_reader.proofs.reader.Reader.read_thread.Goals as goal
+use Rattle.journal_reader.proofs.reader.JournalReader.read_thread.Goals as goal
 
 pub returns-in-None-clause-lines : goal.returns-in-None-clause-lines
 returns-in-None-clause-lines c =

@@ -8,7 +8,7 @@ use Rattle.journal_reader.specs.ReadLines.{IsStuck}
 use Rattle.journal_reader.specs.JournalLines.{event_lines}
 use Rattle.journal_reader.proofs.Pieced.{next_of, others_of, some_next}
 use Rattle.journal_reader.proofs.Events.{event_ends, event_stuck, unwind_none, trace_stuck}
-use Rattle.journal_reader.proofs.reader.Reader.read_unwind.Goals as goal
+use Rattle.journal_reader.proofs.reader.JournalReader.read_unwind.Goals as goal
 
 differs : (t result : Bool) → result ≡ not t → result ≡ true → t ≡ true → ⊥
 differs t result is yes_it_is same = absurd cc

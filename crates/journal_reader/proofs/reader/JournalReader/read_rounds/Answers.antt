@@ -6,7 +6,7 @@ use Rattle.journal_reader.specs.JournalLines.{round_lines, numbered_lines}
 use Rattle.script_text.proofs.StatementLists.{map_push}
 use Rattle.journal_reader.proofs.Loops.{loop_stuck, loop_more}
 use Rattle.journal_reader.proofs.Journals.{ToldRound, round_unique, some_round}
-use Rattle.journal_reader.proofs.reader.Reader.read_rounds.Goals as goal
+use Rattle.journal_reader.proofs.reader.JournalReader.read_rounds.Goals as goal
 
 pub returns-in-None-clause-lines : goal.returns-in-None-clause-lines
 returns-in-None-clause-lines c =

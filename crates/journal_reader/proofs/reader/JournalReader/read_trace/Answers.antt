@@ -8,7 +8,7 @@ use Rattle.journal_reader.specs.Reading.{frame_head, told_frame, told_end}
 use Rattle.journal_reader.specs.JournalLines.{line_at}
 use Rattle.journal_reader.proofs.Pieced.{next_of, others_of, some_next}
 use Rattle.journal_reader.proofs.Traces.{frame_more, trace_ended, stuck_at_end, stuck_at_line}
-use Rattle.journal_reader.proofs.reader.Reader.read_trace.Goals as goal
+use Rattle.journal_reader.proofs.reader.JournalReader.read_trace.Goals as goal
 
 pub returns-in-Some-told_end-clause-lines : goal.returns-in-Some-told_end-clause-lines
 returns-in-Some-told_end-clause-lines c =

@@ -5,7 +5,7 @@ use Rattle.script_text.specs.ScriptData.{ScriptData}
 use Rattle.journal_reader.specs.JournalLines.{journal_lines}
 use Rattle.journal_reader.proofs.Flaws.{nothing_left, something_left}
 use Rattle.journal_reader.proofs.Journals.{rounds_left, last_stuck, journal_read}
-use Rattle.journal_reader.proofs.reader.Reader.read_whole.Goals as goal
+use Rattle.journal_reader.proofs.reader.JournalReader.read_whole.Goals as goal
 
 pub returns-in-None : goal.returns-in-None
 returns-in-None c =

@@ -3,7 +3,7 @@ use Rattle.std.specs.List.{AllZip}
 use Rattle.script_text.specs.Fields.{pieces}
 use Rattle.journal_reader.specs.Told.{IsToldAnswer}
 use Rattle.journal_reader.specs.JournalLines.{event_lines, numbered_lines}
-use Rattle.journal_reader.proofs.reader.Reader.read_thread.Given as goal
+use Rattle.journal_reader.proofs.reader.JournalReader.read_thread.Given as goal
 
 abbrev pub invariant-loop-index : goal.invariant-loop-index
 invariant-loop-index l = record {

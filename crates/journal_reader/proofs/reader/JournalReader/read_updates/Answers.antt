@@ -3,7 +3,7 @@ use Rattle.script_text.specs.Fields.{pieces}
 use Rattle.journal_reader.proofs.Pieced.{next_of, others_of, some_next}
 use Rattle.journal_reader.proofs.LinesOfEvents.{updates_is}
 use Rattle.journal_reader.proofs.Journals.{updates_ends, updates_unread}
-use Rattle.journal_reader.proofs.reader.Reader.read_updates.Goals as goal
+use Rattle.journal_reader.proofs.reader.JournalReader.read_updates.Goals as goal
 
 pub returns-in_default : goal.returns-in_default
 returns-in_default c = updates_ends (pieces 10 c.args.self.now.rest.now) c.args.self.now.rest.now c.in_default.ensures.lines
