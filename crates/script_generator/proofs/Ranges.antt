@@ -12,9 +12,9 @@ use Rattle.std.proofs.lemmas.List.Concat.{flat_map-append}
 use Rattle.std.proofs.lemmas.List.FromFn.{map-range_with_len_more}
 use Rattle.script_text.specs.declared.script.Event.{Event}
 use Rattle.script_text.specs.declared.script.Event.TheVariants.{Unwind}
-use Rattle.script_generator.specs.Generator.{image_order, phase_events, phase_of, generated_events}
-use Rattle.script_generator.specs.declared.events.Phase.{Phase}
-use Rattle.script_generator.specs.declared.events.Phase.TheVariants.{Adding, FindingEnds, RemovingEven, FindingBases}
+use Rattle.script_generator.specs.Generator.{image_order, activity_events, activity_of, generated_events}
+use Rattle.script_generator.specs.declared.events.Activity.{Activity}
+use Rattle.script_generator.specs.declared.events.Activity.TheVariants.{Adding, FindingEnds, RemovingEven, FindingBases}
 use Rattle.script_generator.proofs.Runnable.{order_below, order_length}
 
 pub range_more : (n : ℕ) → range_with_len 0 (n + 1) ≡ range_with_len 0 n ++ n ∷ []
@@ -36,17 +36,17 @@ is_order count thread order few is =
     let long : length order ≡ count = ap length is ∙ order_length count thread in
     (omega (arith, long, few), subst (λ (n : ℕ). All (λ image. image < n) order) (sym long) (subst (All (λ image. image < count)) (sym is) (order_below count thread)))
 
--- what a phase adds is what the definition says
-pub phase_added : (count thread : ℕ) (order : List ℕ) (phase : Phase) → order ≡ image_order count thread → flat_map (phase_events (length order) thread phase) order ≡ phase_of count thread phase
-phase_added count thread order phase is = rw (is, order_length count thread) refl
+-- what a activity adds is what the definition says
+pub activity_added : (count thread : ℕ) (order : List ℕ) (activity : Activity) → order ≡ image_order count thread → flat_map (activity_events (length order) thread activity) order ≡ activity_of count thread activity
+activity_added count thread order activity is = rw (is, order_length count thread) refl
 
-pub all_phases : (count thread : ℕ) (e0 e1 e2 e3 e4 e5 : List Event) → e0 ≡ [] → e1 ≡ e0 ++ phase_of count thread Adding → e2 ≡ e1 ++ phase_of count thread FindingEnds → e3 ≡ e2 ++ Unwind thread ∷ [] → e4 ≡ e3 ++ phase_of count thread RemovingEven
-    → e5 ≡ e4 ++ phase_of count thread FindingBases → e5 ≡ generated_events count thread
-all_phases count thread e0 e1 e2 e3 e4 e5 none a b u c d =
-    let A = phase_of count thread Adding in
-    let B = phase_of count thread FindingEnds in
-    let C = phase_of count thread RemovingEven in
-    let D = phase_of count thread FindingBases in
+pub all_activities : (count thread : ℕ) (e0 e1 e2 e3 e4 e5 : List Event) → e0 ≡ [] → e1 ≡ e0 ++ activity_of count thread Adding → e2 ≡ e1 ++ activity_of count thread FindingEnds → e3 ≡ e2 ++ Unwind thread ∷ [] → e4 ≡ e3 ++ activity_of count thread RemovingEven
+    → e5 ≡ e4 ++ activity_of count thread FindingBases → e5 ≡ generated_events count thread
+all_activities count thread e0 e1 e2 e3 e4 e5 none a b u c d =
+    let A = activity_of count thread Adding in
+    let B = activity_of count thread FindingEnds in
+    let C = activity_of count thread RemovingEven in
+    let D = activity_of count thread FindingBases in
     let first : e1 ≡ A = a ∙ ap (λ (xs : List Event). xs ++ A) none in
     let third : e3 ≡ (A ++ B) ++ Unwind thread ∷ [] = u ∙ ap (λ (xs : List Event). xs ++ Unwind thread ∷ []) (b ∙ ap (λ (xs : List Event). xs ++ B) first) in
     let fifth : e5 ≡ (((A ++ B) ++ Unwind thread ∷ []) ++ C) ++ D = d ∙ ap (λ (xs : List Event). xs ++ D) (c ∙ ap (λ (xs : List Event). xs ++ C) third) in

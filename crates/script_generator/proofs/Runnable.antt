@@ -17,9 +17,9 @@ use Rattle.reg_model.specs.SpanData.{IsSpan}
 use Rattle.script_text.specs.ScriptData.{ScriptData, Counts, IsEvent, IsThread, IsRound, IsSnapshot, IsSectionOf, IsRunnable, is_unwind, count_unwinds, counts_of}
 use Rattle.script_text.specs.declared.script.Event.{Event}
 use Rattle.script_text.specs.declared.script.Event.TheVariants.{Register, Deregister, Load, Unload, Find, Unwind}
-use Rattle.script_generator.specs.Generator.{IsGenerated, IsImageCount, generated_base, generated_span, generated_images, images_up, generator_threads, generated_columns, generated_memory, generated_stack, image_order, phase_events, phase_of, generated_events, removing}
-use Rattle.script_generator.specs.declared.events.Phase.{Phase}
-use Rattle.script_generator.specs.declared.events.Phase.TheVariants.{Adding, FindingEnds, RemovingEven, FindingBases}
+use Rattle.script_generator.specs.Generator.{IsGenerated, IsImageCount, generated_base, generated_span, generated_images, images_up, generator_threads, generated_columns, generated_memory, generated_stack, image_order, activity_events, activity_of, generated_events, removing}
+use Rattle.script_generator.specs.declared.events.Activity.{Activity}
+use Rattle.script_generator.specs.declared.events.Activity.TheVariants.{Adding, FindingEnds, RemovingEven, FindingBases}
 
 -- ---- lists
 
@@ -129,23 +129,23 @@ order_length count thread = go (thread % 2 == 0)
     go true = length-range_with_len 0 count
     go false = length-reverse (images_up count) ∙ length-range_with_len 0 count
 
-phase_short : (count thread : ℕ) (phase : Phase) (image : ℕ) → length (phase_events count thread phase image) ≤ 2
-phase_short count thread Adding image = omega arith
-phase_short count thread FindingEnds image = omega arith
-phase_short count thread RemovingEven image = go (image % 2 == 0)
+activity_short : (count thread : ℕ) (activity : Activity) (image : ℕ) → length (activity_events count thread activity image) ≤ 2
+activity_short count thread Adding image = omega arith
+activity_short count thread FindingEnds image = omega arith
+activity_short count thread RemovingEven image = go (image % 2 == 0)
   where
     go : (b : Bool) → length (if b then removing thread image ∷ [] else []) ≤ 2
     go true = omega arith
     go false = omega arith
-phase_short count thread FindingBases image = omega arith
+activity_short count thread FindingBases image = omega arith
 
 pub events_few : (count thread : ℕ) → count ≤ 500 → length (generated_events count thread) ≤ 4001
 events_few count thread few =
-    let short : (phase : Phase) → length (phase_of count thread phase) ≤ 2 * count = λ phase. (let all = flat_short (phase_events count thread phase) (image_order count thread) (phase_short count thread phase) in omega (arith, all, order_length count thread)) in
-    let A = phase_of count thread Adding in
-    let B = phase_of count thread FindingEnds in
-    let C = phase_of count thread RemovingEven in
-    let D = phase_of count thread FindingBases in
+    let short : (activity : Activity) → length (activity_of count thread activity) ≤ 2 * count = λ activity. (let all = flat_short (activity_events count thread activity) (image_order count thread) (activity_short count thread activity) in omega (arith, all, order_length count thread)) in
+    let A = activity_of count thread Adding in
+    let B = activity_of count thread FindingEnds in
+    let C = activity_of count thread RemovingEven in
+    let D = activity_of count thread FindingBases in
     let one : length (Unwind thread ∷ []) ≡ 1 = refl in
     let a = length-append A B in
     let b = length-append (A ++ B) (Unwind thread ∷ []) in
@@ -168,7 +168,7 @@ module _ (c : Counts) (count thread : ℕ) (few : count ≤ 500) (one_of : threa
   removes true image below = (let small = base_below image below in omega (arith, small))
   removes false image below = (let small = base_below image below in omega (arith, small))
 
-  each_event : (phase : Phase) (image : ℕ) → image < count → All (IsEvent c) (phase_events count thread phase image)
+  each_event : (activity : Activity) (image : ℕ) → image < count → All (IsEvent c) (activity_events count thread activity image)
   each_event Adding image below = All-cons (IsEvent c) _ [] (adds (nat_lt thread 2) image below) (All-nil (IsEvent c))
   each_event FindingEnds image below =
       let small = base_below image below in
@@ -181,20 +181,20 @@ module _ (c : Counts) (count thread : ℕ) (few : count ≤ 500) (one_of : threa
       go false = All-nil (IsEvent c)
   each_event FindingBases image below = (let small = base_below image below in All-cons (IsEvent c) _ [] (omega (arith, small)) (All-nil (IsEvent c)))
 
-  phase_is : (phase : Phase) → All (IsEvent c) (phase_of count thread phase)
-  phase_is phase = all_flat (IsEvent c) (λ i. i < count) (phase_events count thread phase) (image_order count thread) (order_below count thread) (each_event phase)
+  activity_is : (activity : Activity) → All (IsEvent c) (activity_of count thread activity)
+  activity_is activity = all_flat (IsEvent c) (λ i. i < count) (activity_events count thread activity) (image_order count thread) (order_below count thread) (each_event activity)
 
   thread_is : IsThread c (generated_events count thread)
   thread_is =
       let P = IsEvent c in
-      let A = phase_of count thread Adding in
-      let B = phase_of count thread FindingEnds in
-      let C = phase_of count thread RemovingEven in
-      let D = phase_of count thread FindingBases in
+      let A = activity_of count thread Adding in
+      let B = activity_of count thread FindingEnds in
+      let C = activity_of count thread RemovingEven in
+      let D = activity_of count thread FindingBases in
       let U : List Event = Unwind thread ∷ [] in
       let unwinds : All P U = All-cons P (Unwind thread) [] (omega (arith, one_of, stacks)) (All-nil P) in
-      let three = All-append P (A ++ B) U (All-append P A B (phase_is Adding) (phase_is FindingEnds)) unwinds in
-      let all = All-append P (((A ++ B) ++ U) ++ C) D (All-append P ((A ++ B) ++ U) C three (phase_is RemovingEven)) (phase_is FindingBases) in
+      let three = All-append P (A ++ B) U (All-append P A B (activity_is Adding) (activity_is FindingEnds)) unwinds in
+      let all = All-append P (((A ++ B) ++ U) ++ C) D (All-append P ((A ++ B) ++ U) C three (activity_is RemovingEven)) (activity_is FindingBases) in
       (omega (arith, events_few count thread few), all)
 
 round_is : (c : Counts) (count : ℕ) → count ≤ 500 → 4 * count ≤ c.images → 4 ≤ c.snapshots → IsRound c (map (generated_events count) generator_threads)

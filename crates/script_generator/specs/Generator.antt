@@ -12,9 +12,9 @@ use Rattle.script_text.specs.declared.script.Event.TheVariants.{Find, Unwind}
 use Rattle.script_text.specs.declared.limits.TheConstants.{FIRST_VERSION, MOST_LOADS}
 use Rattle.script_generator.specs.declared.generating.TheConstants.{NODES}
 use Rattle.script_generator.specs.declared.images.TheConstants.{MOST_COUNT, THREADS}
-use Rattle.script_generator.specs.declared.events.Phase.{Phase}
-use Rattle.script_generator.specs.declared.events.Phase.TheVariants.{Adding, FindingEnds}
-use Rattle.script_generator.specs.declared.events.Phase.TheVariants.{RemovingEven, FindingBases}
+use Rattle.script_generator.specs.declared.events.Activity.{Activity}
+use Rattle.script_generator.specs.declared.events.Activity.TheVariants.{Adding, FindingEnds}
+use Rattle.script_generator.specs.declared.events.Activity.TheVariants.{RemovingEven, FindingBases}
 use Rattle.script_generator.specs.SectionBytes.{generated_section_bytes}
 
 -- ---- images
@@ -84,24 +84,25 @@ removing thread image =
     if nat_lt thread 2 then Deregister (generated_base thread image)
     else Unload (generated_base thread image)
 
--- what a thread does with one of its images in a phase
-abbrev pub phase_events : ℕ → ℕ → Phase → ℕ → List Event
-phase_events count thread Adding image = adding count thread image ∷ []
-phase_events count thread FindingEnds image =
+-- what a thread does with one of its images in an activity
+abbrev pub activity_events : ℕ → ℕ → Activity → ℕ → List Event
+activity_events count thread Adding image = adding count thread image ∷ []
+activity_events count thread FindingEnds image =
     Find (generated_base thread image + 47) ∷ Find (generated_base thread image + 48) ∷ []
-phase_events count thread RemovingEven image =
+activity_events count thread RemovingEven image =
     if image % 2 == 0 then removing thread image ∷ [] else []
-phase_events count thread FindingBases image = Find (generated_base thread image) ∷ []
+activity_events count thread FindingBases image = Find (generated_base thread image) ∷ []
 
 -- and with all of them, one after another
-abbrev pub phase_of : ℕ → ℕ → Phase → List Event
-phase_of count thread phase = flat_map (phase_events count thread phase) (image_order count thread)
+abbrev pub activity_of : ℕ → ℕ → Activity → List Event
+activity_of count thread activity =
+    flat_map (activity_events count thread activity) (image_order count thread)
 
 -- the events of a thread
 abbrev pub generated_events : ℕ → ℕ → List Event
 generated_events count thread =
-    phase_of count thread Adding ++ phase_of count thread FindingEnds ++ Unwind thread ∷ []
-    ++ phase_of count thread RemovingEven ++ phase_of count thread FindingBases
+    activity_of count thread Adding ++ activity_of count thread FindingEnds ++ Unwind thread ∷ []
+    ++ activity_of count thread RemovingEven ++ activity_of count thread FindingBases
 
 -- ---- the script
 

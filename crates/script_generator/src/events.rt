@@ -4,7 +4,7 @@ ghost use Rattle.std.specs.Prelude.{◌≡◌, ◌*◌, ◌+◌, ◌<◌, ◌≤
 ghost use Rattle.std.specs.Prelude.{if◌then◌else◌};
 ghost use Rattle.std.specs.List.{flat_map};
 ghost use Rattle.script_generator.specs.Generator.{IsImageCount, images_up, image_order};
-ghost use Rattle.script_generator.specs.Generator.{phase_events, generated_events, adding};
+ghost use Rattle.script_generator.specs.Generator.{activity_events, generated_events, adding};
 ghost use Rattle.script_generator.specs.Generator.{removing};
 ghost use Rattle.script_generator.specs.declared.images.TheConstants.{MOST_COUNT, THREADS};
 
@@ -15,7 +15,7 @@ use std::alloc::Global;
 
 /// What a thread does with each of its images in turn, before it goes on to the next such thing.
 #[derive(Clone, Copy, Debug, PartialEq, Eq)]
-pub enum Phase {
+pub enum Activity {
     /// The image is added: registered, or loaded.
     Adding,
     /// Its last address is looked up, and the one after it.
@@ -56,18 +56,18 @@ pub fn thread_of(alloc: Global, thread: u32, count: u32) -> Result<Thread, NoMem
 {
     let order = order_of(alloc, thread, count)?;
     let mut events = Vec::with_capacity(alloc, 5 * count as usize + 1)?;
-    events = with_phase(events, Phase::Adding, thread, &order)?;
-    events = with_phase(events, Phase::FindingEnds, thread, &order)?;
+    events = with_activity(events, Activity::Adding, thread, &order)?;
+    events = with_activity(events, Activity::FindingEnds, thread, &order)?;
     events.push(Event::Unwind { snapshot: thread })?;
-    events = with_phase(events, Phase::RemovingEven, thread, &order)?;
-    events = with_phase(events, Phase::FindingBases, thread, &order)?;
+    events = with_activity(events, Activity::RemovingEven, thread, &order)?;
+    events = with_activity(events, Activity::FindingBases, thread, &order)?;
     Ok(Thread { events })
 }
 
-/// With what a thread does in a phase, for its images in this order.
-fn with_phase(
+/// With what a thread does in an activity, for its images in this order.
+fn with_activity(
     events: Vec<Event>,
-    phase: Phase,
+    activity: Activity,
     thread: u32,
     order: &[u32],
 ) -> Result<Vec<Event>, NoMemory>
@@ -75,41 +75,42 @@ fn with_phase(
     requires images { (length order.now ≤ MOST_COUNT)
         × All (λ image. image < length order.now) order.now }
     ensures { IfOk result (λ r. r.items
-        ≡ events.items ++ flat_map (phase_events (length order.now) thread phase) order.now) }
+        ≡ events.items ++ flat_map (activity_events (length order.now) thread activity) order.now) }
 {
     let mut events = events;
     for image in order {
-        events = with_image(events, phase, thread, order.len() as u32, *image)?;
+        events = with_image(events, activity, thread, order.len() as u32, *image)?;
     }
     Ok(events)
 }
 
-/// With what a thread does with one of its images in a phase.
+/// With what a thread does with one of its images in an activity.
 fn with_image(
     events: Vec<Event>,
-    phase: Phase,
+    activity: Activity,
     thread: u32,
     count: u32,
     image: u32,
 ) -> Result<Vec<Event>, NoMemory>
     requires thread { thread < THREADS }
     requires image { (count ≤ MOST_COUNT) × (image < count) }
-    ensures { IfOk result (λ r. r.items ≡ events.items ++ phase_events count thread phase image) }
+    ensures { IfOk result (λ r. r.items
+        ≡ events.items ++ activity_events count thread activity image) }
 {
     let base = base_of(thread, image);
     let mut events = events;
-    match phase {
-        Phase::Adding => events.push(added(thread, count, image))?,
-        Phase::FindingEnds => {
+    match activity {
+        Activity::Adding => events.push(added(thread, count, image))?,
+        Activity::FindingEnds => {
             events.push(Event::Find { pc: base + 47 })?;
             events.push(Event::Find { pc: base + 48 })?;
         }
-        Phase::RemovingEven => {
+        Activity::RemovingEven => {
             if image % 2 == 0 {
                 events.push(removed(thread, image))?;
             }
         }
-        Phase::FindingBases => events.push(Event::Find { pc: base })?,
+        Activity::FindingBases => events.push(Event::Find { pc: base })?,
     }
     Ok(events)
 }
