@@ -7,7 +7,7 @@ use script_text::Reason;
 use std::alloc::AllocFailed;
 
 /// Why reading ends before the bytes do.
-#[derive(Clone, Copy, Debug, PartialEq, Eq)]
+#[derive(Clone, Copy)]
 pub enum LineFault {
     Bad { reason: Reason },
     NoMemory,

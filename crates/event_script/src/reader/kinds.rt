@@ -13,7 +13,7 @@ use script_text::Kind;
 use script_text::limits::REPLACE_VERSION;
 
 /// How far a script has come: which lines may come next.
-#[derive(Clone, Copy, Debug, PartialEq, Eq)]
+#[derive(Clone, Copy)]
 pub enum Stage {
     /// The first line.
     Version,
