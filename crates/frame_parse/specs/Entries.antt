@@ -39,7 +39,13 @@ no_cie = record {
   code_alignment = 0;
   data_alignment = pos 0;
   has_data = false;
-  augmentation = record { pointers = 0; lsda = 0; personality = None; signal = false };
+  augmentation = record {
+    pointers = 0;
+    lsda = 0;
+    personality = None;
+    personality_encoding = 0;
+    signal = false;
+  };
   offset = false;
   initial = record { at = 0; end = 0 };
 }

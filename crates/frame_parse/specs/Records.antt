@@ -67,6 +67,7 @@ plain = record {
   pointers = DW_EH_PE_absptr;
   lsda = DW_EH_PE_omit;
   personality = None;
+  personality_encoding = DW_EH_PE_omit;
   signal = false;
 }
 
@@ -77,7 +78,7 @@ letter section l a =
     when (l == lsda_letter) (encoding is_data_encoding >>= λ e. give (record a { lsda = e }))
     (when (l == personality_letter) (encoding is_data_encoding >>=
     λ e. when (e == DW_EH_PE_omit) (give None) (optional_pointer section e) >>=
-    λ q. give (record a { personality = q }))
+    λ q. give (record a { personality = q; personality_encoding = e }))
     (when (l == code_letter) (encoding is_code_encoding >>= λ e. give (record a { pointers = e }))
     (give (record a { signal = true }))))
 

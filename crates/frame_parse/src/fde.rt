@@ -42,12 +42,8 @@ impl<'a> Model for Fde<'a> {
 }
 
 impl<'a> Fde<'a> {
-    pub(crate) fn new(
-        section: u64,
-        bytes: &'a [u8],
-        cie: &'a CieRecord,
-        entry: &'a FdeEntry,
-    ) -> Fde<'a>
+    /// The FDE of these records, whose programs stand in the bytes of the section at an address.
+    pub fn new(section: u64, bytes: &'a [u8], cie: &'a CieRecord, entry: &'a FdeEntry) -> Fde<'a>
         requires { HasPrograms section bytes.now (with_cie cie.now entry.now) }
         ensures section { result.section ≡ section }
         ensures bytes { result.bytes ≡ bytes.now }

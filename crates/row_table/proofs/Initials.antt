@@ -47,20 +47,22 @@ same_option (Some m) None is = absurd (let no : false ≡ true = is in cc)
 same_option (Some m) (Some n) is = ap (λ (k : ℕ). Some k) (eqb-true m n is)
 
 abbrev same_augmentation_test : Augmentation → Augmentation → Bool
-same_augmentation_test a b = nat_eq a.pointers b.pointers && (nat_eq a.lsda b.lsda && (option_eq nat_eq a.personality b.personality && beq a.signal b.signal))
+same_augmentation_test a b = nat_eq a.pointers b.pointers && (nat_eq a.lsda b.lsda && (option_eq nat_eq a.personality b.personality && (nat_eq a.personality_encoding b.personality_encoding && beq a.signal b.signal)))
 
-abbrev augmentation : ℕ → ℕ → Option ℕ → Bool → Augmentation
-augmentation p l r s = record { pointers = p; lsda = l; personality = r; signal = s }
+abbrev augmentation : ℕ → ℕ → Option ℕ → ℕ → Bool → Augmentation
+augmentation p l r e s = record { pointers = p; lsda = l; personality = r; personality_encoding = e; signal = s }
 
 same_augmentation : (a b : Augmentation) → same_augmentation_test a b ≡ true → a ≡ b
 same_augmentation a b is =
     let one = and_parts _ _ is in
     let two = and_parts _ _ one.1 in
     let three = and_parts _ _ two.1 in
-    ap (λ (k : ℕ). augmentation k a.lsda a.personality a.signal) (eqb-true _ _ one.0)
-    ∙ ap (λ (k : ℕ). augmentation b.pointers k a.personality a.signal) (eqb-true _ _ two.0)
-    ∙ ap (λ (k : Option ℕ). augmentation b.pointers b.lsda k a.signal) (same_option a.personality b.personality three.0)
-    ∙ ap (λ (k : Bool). augmentation b.pointers b.lsda b.personality k) (same_bool a.signal b.signal three.1)
+    let four = and_parts _ _ three.1 in
+    ap (λ (k : ℕ). augmentation k a.lsda a.personality a.personality_encoding a.signal) (eqb-true _ _ one.0)
+    ∙ ap (λ (k : ℕ). augmentation b.pointers k a.personality a.personality_encoding a.signal) (eqb-true _ _ two.0)
+    ∙ ap (λ (k : Option ℕ). augmentation b.pointers b.lsda k a.personality_encoding a.signal) (same_option a.personality b.personality three.0)
+    ∙ ap (λ (k : ℕ). augmentation b.pointers b.lsda b.personality k a.signal) (eqb-true _ _ four.0)
+    ∙ ap (λ (k : Bool). augmentation b.pointers b.lsda b.personality b.personality_encoding k) (same_bool a.signal b.signal four.1)
 
 abbrev same_extent_test : Extent → Extent → Bool
 same_extent_test a b = nat_eq a.at b.at && nat_eq a.end b.end

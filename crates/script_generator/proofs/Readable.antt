@@ -26,7 +26,7 @@ the_cie = record {
   code_alignment = 1;
   data_alignment = negsuc 7;
   has_data = true;
-  augmentation = record { pointers = 27; lsda = 255; personality = None; signal = false };
+  augmentation = record { pointers = 27; lsda = 255; personality = None; personality_encoding = 255; signal = false };
   offset = true;
   initial = record { at = 17; end = 24 };
 }

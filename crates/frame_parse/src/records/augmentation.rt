@@ -17,6 +17,8 @@ pub struct Augmentation {
     /// The encoding of an FDE's LSDA pointer, or `DW_EH_PE_omit`.
     pub lsda: u8,
     pub personality: Option<u64>,
+    /// The encoding of the personality's pointer, or `DW_EH_PE_omit`.
+    pub personality_encoding: u8,
     pub signal: bool,
 }
 
@@ -26,6 +28,7 @@ impl Augmentation {
         pointers: DW_EH_PE_absptr,
         lsda: DW_EH_PE_omit,
         personality: None,
+        personality_encoding: DW_EH_PE_omit,
         signal: false,
     };
 }
@@ -77,6 +80,7 @@ fn letter(
             } else {
                 optional_pointer(cursor, section, encoding)?
             };
+            so_far.personality_encoding = encoding;
         }
         b'R' => so_far.pointers = code_encoding(cursor)?,
         _ => so_far.signal = true,
