@@ -38,7 +38,7 @@ short_at : (section : ℕ) (cs : List CieRecord) (at : ℕ) → (whole_record se
 unfolding whole_record record_at record_length
 short_at section cs at = refl
 
-short_from : (section : ℕ) (cs : List CieRecord) (bytes : List ℕ) (at : ℕ) → length bytes < at → (whole_record section cs).read (from_place bytes at) ≡ Err (Short at at)
+pub short_from : (section : ℕ) (cs : List CieRecord) (bytes : List ℕ) (at : ℕ) → length bytes < at → (whole_record section cs).read (from_place bytes at) ≡ Err (Short at at)
 short_from section cs bytes at lt = ap (λ (l : List ℕ). (whole_record section cs).read (record { bytes = l; at = at })) (none_left at bytes (omega (arith, lt))) ∙ short_at section cs at
 
 -- ---- the two answers

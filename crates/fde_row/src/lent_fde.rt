@@ -40,8 +40,8 @@ impl<'a> Model for LentFde<'a> {
 }
 
 impl<'a> LentFde<'a> {
-    /// Reads the CIE and the FDE that begin at two places of bytes at an address. These are a
-    /// section's, or a part of one that begins with that CIE. No other record is looked at.
+    /// Reads the CIE and the FDE that begin at two places of a section's bytes, which are lent up
+    /// to the end of the FDE at least. No other record is looked at.
     #[tactic(auto, unfolding(crate::specs::Reading::lone_fde))]
     pub fn read(
         section: u64,

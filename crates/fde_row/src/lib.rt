@@ -9,6 +9,6 @@ mod lent_fde;
 mod pointed;
 mod reading;
 
-pub use laws::fdes_of_sections_are_read;
+pub use laws::{bytes_behind_change_nothing, fdes_of_sections_are_read};
 pub use lent_fde::LentFde;
 pub use pointed::Pointed;
