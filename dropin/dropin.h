@@ -48,9 +48,11 @@ struct leaving {
 /* locking: updates, one at a time, which no handler or fork comes between */
 void begin_update(void);
 void end_update(void);
+uint32_t ended_updates(void);
+void await_update(uint32_t ended);
 void say(const char *what, const void *where);
 
-/* leases: a slot is one lookup's alone */
+/* leases: a slot is one lookup's alone, from 0 to SLOTS, of which the last is within an update */
 enum { SLOTS = 128, LINE = 64 };
 unsigned lease(void);
 void give_back(unsigned slot);
@@ -60,9 +62,13 @@ void renew_slots(void);
 
 /* registry: what the libraries and the list of plain sections tell */
 extern _Atomic uint64_t takes; /* how many sections were begun to be taken out of a list */
-void widen_bounds(uint64_t lowest, uint64_t end);
+void widen_bounds(uint64_t lowest, uint64_t last);
 
-/* libraries: sections that the proved library keeps */
+/* handing_on: to an unwinder that doesn't ask this registry */
+bool hand_on(const char *name, const void *begin, void *ob, void *text, void *data, void **answer);
+
+/* libraries: sections that the proved library keeps. Who puts isn't within an update, who takes is;
+ * the same is true of plain ones. */
 bool put_section(const struct section *section);
 bool take_section(const void *begin, void **ob);
 const void *find_in_libraries(unsigned slot, uint64_t pc, struct dwarf_eh_bases *bases);
@@ -73,7 +79,7 @@ bool renew_readers(unsigned slot);
 const uint8_t *read_pointer(uint8_t encoding, const uint8_t *at, const struct section *of,
                             uint64_t *value);
 bool next_record(const struct record **at, const struct section *of, unwind_range *fde);
-size_t read_fdes(const struct section *section, unwind_range *into);
+size_t read_fdes(const struct section *section, unwind_range *into, size_t room);
 
 /* plain_sections: what the proved library refuses */
 bool put_plain(const struct section *section);
@@ -83,7 +89,8 @@ const void *find_plain(uint64_t pc, struct dwarf_eh_bases *bases);
 /* loaded_objects: by the C library's list and each object's own table */
 const void *find_loaded(uint64_t pc, struct dwarf_eh_bases *bases);
 
-/* memory: by mmap, within an update alone */
+/* memory: by mmap, within an update; LARGE bytes and more at any time */
+enum { LARGE = 4096 };
 void *take_memory(size_t size);
 void give_memory(void *block);
 

@@ -1,7 +1,9 @@
 /* Memory by mmap alone, also for the proved library: a program's malloc may itself throw, or be
- * what a handler interrupted. It is taken and given back within updates, one at a time. */
+ * what a handler interrupted. It is taken and given back within updates, one at a time, but for
+ * what is mapped by itself. */
 #define _GNU_SOURCE
 #include "dropin.h"
+#include <assert.h>
 #include <string.h>
 #include <sys/mman.h>
 
@@ -11,7 +13,7 @@ struct head {
   size_t size;
   struct head *next; /* of a block that was given back */
 };
-enum { UNIT = sizeof(struct head), LARGE = 4096, CHUNK = 16 * LARGE };
+enum { UNIT = sizeof(struct head), CHUNK = 16 * LARGE };
 static struct head *given_back[LARGE / UNIT];
 static uint8_t *chunk;
 static size_t chunk_left;
@@ -64,13 +66,13 @@ struct tried {
 };
 
 struct tried rattle_alloc(size_t size, size_t alignment) {
-  (void)alignment;
+  assert(alignment <= UNIT);
   void *at = take_memory(size);
   return at != NULL ? (struct tried){true, at} : (struct tried){false, &chunk};
 }
 
 struct tried rattle_realloc(void *block, size_t kept, size_t size, size_t alignment) {
-  if (size + UNIT <= ((struct head *)block - 1)->size) return (struct tried){true, block};
+  if (size <= ((struct head *)block - 1)->size - UNIT) return (struct tried){true, block};
   const struct tried tried = rattle_alloc(size, alignment);
   if (tried.ok) {
     memcpy(tried.at, block, kept);

@@ -8,15 +8,18 @@
 /* Pointer encodings after the LSB: a format, to what the number is relative, and indirect. */
 enum {
   ABSPTR = 0x00, ULEB128 = 0x01, UDATA2 = 0x02, UDATA4 = 0x03, UDATA8 = 0x04, SIGNED = 0x08,
-  PCREL = 0x10, TEXTREL = 0x20, DATAREL = 0x30, RELATIVE = 0x70, INDIRECT = 0x80, OMIT = 0xff
+  PCREL = 0x10, TEXTREL = 0x20, DATAREL = 0x30, ALIGNED = 0x50, RELATIVE = 0x70, INDIRECT = 0x80,
+  OMIT = 0xff
 };
 
-/* The byte after a number; NULL where its format isn't known. */
+/* The byte after a number; NULL where its format isn't known. An aligned one stands at the next
+ * multiple of its size. */
 static const uint8_t *read_number(uint8_t encoding, const uint8_t *at, uint64_t *value) {
   static const uint8_t sizes[] = {[ABSPTR] = 8, [UDATA2] = 2, [UDATA4] = 4, [UDATA8] = 8};
   const unsigned format = encoding % SIGNED;
   unsigned bits = 0;
   *value = 0;
+  if ((encoding & ~INDIRECT) == ALIGNED) at += -(uintptr_t)at % sizeof *value;
   if (format == ULEB128) {
     do {
       if (bits < 64) *value |= (uint64_t)(*at & 0x7f) << bits;
@@ -39,7 +42,7 @@ const uint8_t *read_pointer(uint8_t encoding, const uint8_t *at, const struct se
   const uint8_t *end = read_number(encoding, at, value);
   if (end == NULL || *value == 0) return end;
   switch (encoding & RELATIVE) {
-    case ABSPTR: break;
+    case ABSPTR: case ALIGNED: break;
     case PCREL: *value += (uintptr_t)at; break;
     case TEXTREL: *value += (uintptr_t)of->text; break;
     case DATAREL: *value += (uintptr_t)of->data; break;
@@ -97,8 +100,8 @@ bool next_record(const struct record **at, const struct section *of, unwind_rang
   return true;
 }
 
-/* How many FDEs with addresses a section has. They are written into a list, where there is one. */
-size_t read_fdes(const struct section *section, unwind_range *into) {
+/* How many FDEs with addresses a section has. As many as there is room for are written. */
+size_t read_fdes(const struct section *section, unwind_range *into, size_t room) {
   const void *const one[] = {section->begin, NULL};
   const void *const *list = section->is_array ? section->begin : one;
   size_t count = 0;
@@ -106,7 +109,7 @@ size_t read_fdes(const struct section *section, unwind_range *into) {
     const struct record *at = *list;
     for (unwind_range fde; next_record(&at, section, &fde);) {
       if (fde.size == 0) continue;
-      if (into != NULL) into[count] = fde;
+      if (count < room) into[count] = fde;
       count++;
     }
   }

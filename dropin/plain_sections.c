@@ -10,21 +10,35 @@ struct plain {
 };
 static _Atomic(struct plain *) first;
 
-bool put_plain(const struct section *section) {
-  const size_t count = read_fdes(section, NULL);
-  struct plain *plain = take_memory(sizeof *plain + count * sizeof(unwind_range));
-  if (plain == NULL) return false;
+/* NULL: there is no memory. What is read and put in order here keeps no update from beginning. */
+static struct plain *read_plain(const struct section *section) {
+  const size_t room = read_fdes(section, NULL, 0);
+  begin_update();
+  struct plain *plain = take_memory(sizeof *plain + room * sizeof(unwind_range));
+  end_update();
+  if (plain == NULL) return NULL;
+  const size_t count = read_fdes(section, plain->fdes, room);
   plain->section = *section;
-  plain->count = read_fdes(section, plain->fdes);
-  unwind_c_order(plain->fdes, count);
+  plain->count = count < room ? count : room;
+  unwind_c_order(plain->fdes, plain->count);
   uint64_t reach = 0;
-  for (size_t at = 0; at < count; at++) {
-    const uint64_t end = plain->fdes[at].first + plain->fdes[at].size;
-    plain->fdes[at].reach = reach = end > reach ? end : reach;
+  for (size_t at = 0; at < plain->count; at++) {
+    unwind_range *fde = &plain->fdes[at];
+    /* the address after the last one of all isn't one */
+    const uint64_t end = fde->size < -fde->first ? fde->first + fde->size : UINT64_MAX;
+    fde->reach = reach = end > reach ? end : reach;
   }
-  if (count > 0) widen_bounds(plain->fdes[0].first, reach);
+  return plain;
+}
+
+bool put_plain(const struct section *section) {
+  struct plain *plain = read_plain(section);
+  if (plain == NULL) return false;
+  begin_update();
+  if (plain->count > 0) widen_bounds(plain->fdes[0].first, plain->fdes[plain->count - 1].reach);
   atomic_init(&plain->next, atomic_load(&first));
   atomic_store(&first, plain);
+  end_update();
   return true;
 }
 

@@ -3,24 +3,25 @@
  * isn't found. A registered section stands in a library, or else it is plainly read. */
 #include "dropin.h"
 #include <stdalign.h>
+#include <stdlib.h>
 
-/* All addresses that were ever registered are from the one on and before the other: a lookup of
+/* All addresses that were ever registered are from the one on and up to the other: a lookup of
  * another address, as most frames of a throw have, asks nobody. */
 static struct {
-  alignas(LINE) _Atomic uint64_t lowest, end;
+  alignas(LINE) _Atomic uint64_t lowest, last;
 } bounds = {.lowest = UINT64_MAX};
 alignas(LINE) _Atomic uint64_t takes;
 
-/* By all addresses from one to that before the other. */
-void widen_bounds(uint64_t lowest, uint64_t end) {
+/* By all addresses from one up to another. */
+void widen_bounds(uint64_t lowest, uint64_t last) {
   if (lowest < bounds.lowest) atomic_store(&bounds.lowest, lowest);
-  if (end > bounds.end) atomic_store(&bounds.end, end);
+  if (last > bounds.last) atomic_store(&bounds.last, last);
 }
 
 /* A miss is believed where nothing was begun to be taken out meanwhile: so who stands all the time
  * is found, and an address is found that some section has at each moment. */
 static const void *find_registered(uint64_t pc, struct dwarf_eh_bases *bases) {
-  if (pc < atomic_load(&bounds.lowest) || pc >= atomic_load(&bounds.end)) return NULL;
+  if (pc < atomic_load(&bounds.lowest) || pc > atomic_load(&bounds.last)) return NULL;
   const unsigned slot = lease();
   const void *fde;
   uint64_t before;
@@ -39,43 +40,59 @@ const void *_Unwind_Find_FDE(void *pc, struct dwarf_eh_bases *bases) {
 }
 
 /* As in libgcc, what begins with a length of 0 isn't registered, and is given up without a word. */
-static bool is_empty(const struct record *begin) { return begin == NULL || begin->length == 0; }
+static bool is_empty(const struct record *begin) { return begin->length == 0; }
 
-static void register_section(struct section section) {
-  if (is_empty(section.begin)) return;
-  const bool is_plain = section.is_array || section.text != NULL || section.data != NULL;
-  begin_update();
-  const bool is_put = (!is_plain && put_section(&section)) || put_plain(&section);
-  end_update();
-  if (!is_put) say("there is no memory to register", section.begin);
+static void register_section(const char *name, const struct section *section) {
+  const bool is_plain = section->is_array || section->text != NULL || section->data != NULL;
+  void *none;
+  if (section->begin == NULL ||
+      hand_on(name, section->begin, section->ob, section->text, section->data, &none))
+    return;
+  if (!section->is_array && is_empty(section->begin)) return;
+  if ((is_plain || !put_section(section)) && !put_plain(section))
+    say("there is no memory to register", section->begin);
 }
 
-void *__deregister_frame_info_bases(const void *begin) {
+/* What begins with four bytes of 0 may be an array, too. */
+static void *give_up(const void *begin) {
   void *ob = NULL;
-  if (is_empty(begin)) return NULL;
   begin_update();
   const bool is_taken = take_section(begin, &ob) || take_plain(begin, &ob);
   end_update();
-  if (!is_taken) say("nothing is registered at", begin);
+  if (!is_taken && !is_empty(begin)) say("nothing is registered at", begin);
   return ob;
 }
-void *__deregister_frame_info(const void *begin) { return __deregister_frame_info_bases(begin); }
-void __deregister_frame(void *begin) { __deregister_frame_info_bases(begin); }
+
+static void *give_up_info(const char *name, const void *begin) {
+  void *ob = NULL;
+  if (begin == NULL || hand_on(name, begin, NULL, NULL, NULL, &ob)) return ob;
+  return give_up(begin);
+}
+void *__deregister_frame_info_bases(const void *begin) { return give_up_info(__func__, begin); }
+void *__deregister_frame_info(const void *begin) { return give_up_info(__func__, begin); }
+
+/* As in libgcc: what the program gave for libgcc's use goes by the program's free. */
+void __deregister_frame(void *begin) {
+  void *none;
+  if (begin != NULL && !hand_on(__func__, begin, NULL, NULL, NULL, &none)) free(give_up(begin));
+}
 
 void __register_frame_info_bases(const void *begin, void *ob, void *text, void *data) {
-  register_section((struct section){begin, false, ob, text, data});
+  register_section(__func__, &(struct section){begin, false, ob, text, data});
 }
 void __register_frame_info(const void *begin, void *ob) {
-  __register_frame_info_bases(begin, ob, NULL, NULL);
+  register_section(__func__, &(struct section){begin, false, ob, NULL, NULL});
 }
-void __register_frame(void *begin) { __register_frame_info_bases(begin, NULL, NULL, NULL); }
+void __register_frame(void *begin) {
+  register_section(__func__, &(struct section){begin, false, NULL, NULL, NULL});
+}
 
 void __register_frame_info_table_bases(void *begin, void *ob, void *text, void *data) {
-  register_section((struct section){begin, true, ob, text, data});
+  register_section(__func__, &(struct section){begin, true, ob, text, data});
 }
 void __register_frame_info_table(void *begin, void *ob) {
-  __register_frame_info_table_bases(begin, ob, NULL, NULL);
+  register_section(__func__, &(struct section){begin, true, ob, NULL, NULL});
 }
 void __register_frame_table(void *begin) {
-  __register_frame_info_table_bases(begin, NULL, NULL, NULL);
+  register_section(__func__, &(struct section){begin, true, NULL, NULL, NULL});
 }

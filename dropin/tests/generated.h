@@ -102,6 +102,8 @@ class Section {
     std::memcpy(record, &length, sizeof length);
   }
   void put_address(uint64_t value) {
+    if (form_.encoding == 0x50)
+      while (reinterpret_cast<uint64_t>(at_) % 8) put<uint8_t>(0);
     if ((form_.encoding & 0x70) == 0x10) value -= reinterpret_cast<uint64_t>(at_);
     if ((form_.encoding & 0x70) == 0x20) value -= form_.text;
     if ((form_.encoding & 0x70) == 0x30) value -= form_.data;

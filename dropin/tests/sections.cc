@@ -2,6 +2,7 @@
 // each leaves nothing behind, and at last by 120,000 sections or so many. Where libgcc 12 loses
 // frames by its form, or ends the program, a case is asked of the drop-in alone, which is said.
 #include "generated.h"
+#include <malloc.h>
 #include <vector>
 
 static bool drop_in;
@@ -225,6 +226,68 @@ static void objects() {
   check(__deregister_frame_info(one.begin) == object, "its object is given back");
 }
 
+// An array whose first pointer has a low half of 0.
+static void a_table_of_a_round_address() {
+  // sanitizers keep one or the other for themselves
+  void *at = nullptr;
+  for (uint64_t round : {uint64_t(1) << 36, uint64_t(0x6f00) << 32})
+    if (at == nullptr || at == MAP_FAILED)
+      at = mmap(reinterpret_cast<void *>(round), 4096, PROT_READ | PROT_WRITE,
+                MAP_PRIVATE | MAP_ANONYMOUS | MAP_FIXED_NOREPLACE, -1, 0);
+  check(reinterpret_cast<uint64_t>(at) % (uint64_t(1) << 32) == 0, "no memory at a round address");
+  Section writer(static_cast<uint8_t *>(at));
+  writer.cie({1, "", 0});
+  uint8_t *fde = writer.fde(code, 48);
+  writer.end();
+  static void *table[] = {nullptr, nullptr};
+  table[0] = at;
+  __register_frame_table(table);
+  check(finds(code + 5, fde, code), "of a table at a round address");
+  // libgcc takes the table for an empty section when it is given up
+  if (drop_in) __deregister_frame(table);
+  if (drop_in) is_missing("a table that was given up", 5);
+  if (drop_in) munmap(at, 4096);
+}
+
+// Up to the last address of all, in a library and plainly read.
+static void the_last_address() {
+  uint8_t *const last = reinterpret_cast<uint8_t *>(-uint64_t(48));
+  for (uint8_t version : {1, 4}) {
+    Section writer(memory);
+    uint8_t *begin = writer.cie({version, "", 0});
+    uint8_t *fde = writer.fde(last, 48);
+    writer.end();
+    __register_frame(begin);
+    check(finds(last, fde, last) && finds(last + 46, fde, last), "up to the last address", version);
+    __deregister_frame(begin);
+    check(finds(last, nullptr, nullptr), "up to the last address, given up", version);
+  }
+}
+
+// What __register_frame_info was given goes by free.
+static void objects_are_freed() {
+  Placed one = section(0, 0);
+  const size_t before = mallinfo2().uordblks;
+  for (int i = 0; i < 100; i++) {
+    __register_frame_info(one.begin, std::malloc(4096));
+    __deregister_frame(one.begin);
+  }
+  check(mallinfo2().uordblks < before + 8192, "an object was kept");
+}
+
+static void aligned_addresses() {
+  for (size_t skip = 0; skip < 8; skip += 4) {
+    Section writer(memory + skip);
+    uint8_t *begin = writer.cie({1, "zR", 0x50});
+    uint8_t *fde = writer.fde(code, 48);
+    writer.end();
+    __register_frame(begin);
+    check(finds(code + 5, fde, code), "aligned addresses", long(skip));
+    __deregister_frame(begin);
+    is_missing("aligned addresses, given up", 5);
+  }
+}
+
 static void unknown_ones() {
   Placed one = section(0, 0);
   __deregister_frame(one.begin);
@@ -333,6 +396,9 @@ int main(int count, char **words) {
       {"tables of sections", tables, true},
       {"a program's own objects", objects, true},
       {"unknown ones given up", unknown_ones, false},
+      {"up to the last address", the_last_address, false},
+      {"objects go by free", objects_are_freed, true},
+      {"aligned addresses", aligned_addresses, true},
       {"far from their code", far_ones, true},
       {"near to their code and far from it", near_and_far, true},
       {"loaded objects", loaded_ones, true},
@@ -346,5 +412,6 @@ int main(int count, char **words) {
     one.run();
     one.run();
   }
-  std::printf("%zu cases are right\n", sizeof cases / sizeof *cases);
+  a_table_of_a_round_address();
+  std::printf("%zu cases are right\n", sizeof cases / sizeof *cases + 1);
 }
