@@ -1,11 +1,11 @@
 -- The handles, as c_handle speaks of one.
 use mathlib.Core.Path.{refl}
 use Rattle.c_handle.proofs.HandleSteps.Form.{HandleType, handles_to}
-use Rattle.registry_c.specs.contracts.client.Client as Client
-use Rattle.registry_c.proofs.client.Client.TheLaws as client
+use Rattle.registry_client.specs.contracts.client.Client as Client
+use Rattle.registry_client.proofs.client.Client.TheLaws as client
 use Rattle.registry_c.specs.contracts.handles.ClientHandle as ClientHandle
-use Rattle.registry_c.specs.contracts.reader.RegistryReader as RegistryReader
-use Rattle.registry_c.proofs.reader.RegistryReader.TheLaws as reader
+use Rattle.registry_client.specs.contracts.reader.RegistryReader as RegistryReader
+use Rattle.registry_client.proofs.reader.RegistryReader.TheLaws as reader
 use Rattle.registry_c.specs.contracts.handles.ReaderHandle as ReaderHandle
 
 abbrev pub client_handle : HandleType

@@ -1,4 +1,1 @@
-mod Attempting
 mod HandleTypes
-mod FixedMembers
-mod Caches

@@ -4,14 +4,11 @@ ghost use Rattle.std.specs.Prelude.{◌≡◌, ◌↔◌, IfSome, IsSomeAnd, len
 ghost use Rattle.word_rule.specs.Callers.{IsAlone};
 ghost use Rattle.registry_core.specs.Rounds.{IsWholeWhereAlone};
 ghost use Rattle.c_handle.specs.Handles.{HandsBack, LeadsNowhere, LeadsSomewhere};
-ghost use Rattle.registry_c.specs.Limits.{TellsNew};
-ghost use Rattle.registry_c.specs.Splits.{Joins, ShareByName, TellsJoin, TellsSplit};
+ghost use Rattle.registry_client.specs.Limits.{TellsNew};
+ghost use Rattle.registry_client.specs.Splits.{Joins, ShareByName, TellsJoin, TellsSplit};
 
-use crate::client::Client;
 use crate::handles::ClientHandle;
-use crate::limits::RegistryLimits;
-use crate::member::RegistryMember;
-use crate::splits::{JoinAnswer, SplitFault};
+use registry_client::{Client, JoinAnswer, RegistryLimits, RegistryMember, SplitFault};
 use std::alloc::Global;
 
 /// Makes a registry, with members that are there for good, and its first client. What came of it: 0

@@ -5,14 +5,13 @@
 ghost use Rattle.std.specs.Prelude.{◌≡◌, Option, Some};
 ghost use Rattle.std.specs.Coded.{coded_option};
 ghost use Rattle.c_handle.specs.Handles.{LeadsSomewhere, handle_owns};
-ghost use Rattle.registry_c.specs.Clients.{ClientData};
-ghost use Rattle.registry_c.specs.Readers.{ReaderData};
-ghost use Rattle.registry_c.specs.contracts.client.Client.{the_row as client_row};
-ghost use Rattle.registry_c.specs.contracts.reader.RegistryReader.{the_row as reader_row};
+ghost use Rattle.registry_client.specs.Clients.{ClientData};
+ghost use Rattle.registry_client.specs.Readers.{ReaderData};
+ghost use Rattle.registry_client.specs.contracts.client.Client.{the_row as client_row};
+ghost use Rattle.registry_client.specs.contracts.reader.RegistryReader.{the_row as reader_row};
 
-use crate::client::Client;
-use crate::reader::RegistryReader;
 use c_handle::Parts;
+use registry_client::{Client, RegistryReader};
 use std::alloc::Global;
 use std::marker::{Model, Send};
 

@@ -2,14 +2,12 @@
 
 ghost use Rattle.std.specs.Prelude.{◌≡◌, IsSomeAnd, length};
 ghost use Rattle.c_handle.specs.Handles.{HandsBack, LeadsNowhere, LeadsSomewhere};
-ghost use Rattle.registry_c.specs.Finds.{TellsFind, found_told, place_told};
-ghost use Rattle.registry_c.specs.Readers.{MakesAnother, MakesReader};
-ghost use Rattle.registry_c.specs.Readers.{ReaderAsksLoaded, ReaderAsksRegistered, ReaderFinds};
+ghost use Rattle.registry_client.specs.Finds.{TellsFind, found_told, place_told};
+ghost use Rattle.registry_client.specs.Readers.{MakesAnother, MakesReader};
+ghost use Rattle.registry_client.specs.Readers.{ReaderAsksLoaded, ReaderAsksRegistered, ReaderFinds};
 
-use crate::client::Client;
-use crate::find::{RegistryFound, RegistryPlace};
 use crate::handles::{ClientHandle, ReaderHandle};
-use crate::reader::RegistryReader;
+use registry_client::{Client, RegistryFound, RegistryPlace, RegistryReader};
 use std::alloc::Global;
 
 /// Makes a reader of a client, and writes its handle, where there is one.

@@ -1,6 +1,6 @@
 use Rattle.std.proofs.Common.{refl, sym, ap, Ok, Err}
-use Rattle.registry_c.specs.Splits.{split_told}
-use Rattle.registry_c.specs.declared.splits.SplitFault.{SplitFault}
+use Rattle.registry_client.specs.Splits.{split_told}
+use Rattle.registry_client.specs.declared.splits.SplitFault.{SplitFault}
 use Rattle.registry_c.proofs.clients.split.Goals as goal
 
 pub returns-in-Ok : goal.returns-in-Ok

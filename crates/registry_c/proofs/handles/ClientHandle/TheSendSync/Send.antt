@@ -2,8 +2,8 @@
 use denote.Struct.Owning.{to}
 use denote.Param.Send.{IsSend, owning_send}
 use Rattle.c_handle.proofs.HandleSteps.Crossing.{pointer_sends, owned, leaves}
-use Rattle.registry_c.specs.contracts.client.Client as Client
-use Rattle.registry_c.proofs.client.Client.TheSendSync.{the_send as client}
+use Rattle.registry_client.specs.contracts.client.Client as Client
+use Rattle.registry_client.proofs.client.Client.TheSendSync.{the_send as client}
 use Rattle.registry_c.specs.contracts.handles.ClientHandle.{the_row, the_type}
 
 pub send : IsSend the_row

@@ -1,0 +1,3 @@
+mod Attempting
+mod FixedMembers
+mod Caches

@@ -1,0 +1,8 @@
+use Rattle.std.proofs.Common.{rules}
+use Rattle.registry_client.proofs.Caches.{by_copy, goes_on}
+use Rattle.registry_client.proofs.client.Client.try_loaded.Goals as goal
+
+pub invariant_of-self : goal.invariant_of-self
+invariant_of-self c =
+    let adds = by_copy _ c.args.pc c.self.inside.me c.try_loaded.new.me c.try_loaded.result c.try_loaded.ensures.looks in
+    (goes_on c.caches_go_on_to_fit.ensures _ c.try_loaded.new.me _ _ adds c.self.invariant.0 (search rules) (search rules) (search rules) (search rules) (search rules), c.self.invariant.1)

@@ -1,0 +1,10 @@
+pub mod Answers
+pub mod Clients
+pub mod Finds
+pub mod Kinds
+pub mod Limits
+pub mod Members
+pub mod Readers
+pub mod Splits
+pub mod Tries
+pub mod Updates
