@@ -1,45 +1,46 @@
-//! Sixteen threads that register and deregister at addresses that meet, for 64 rounds, with finds
-//! and unwinds. Their journal is judged, and its accepted updates are made again, one by one, to
-//! see how the tree changes.
+//! Updates of ranges at addresses that meet: more come than go, then more go than come.
 
 ghost use Rattle.std.specs.Prelude.{◌<◌, ◌≤◌};
 
-use crate::history::history_of;
-use crate::judged::judged;
-use crate::side_by_side::{ALONE, SECTION, SNAPSHOT};
 use crate::tree_changes::{Kind, kinds_of};
+use reg_model::{Member, Span, Update};
 use std::alloc::Global;
-use std::fmt::Write;
 use std::test::Fail;
 
-/// Places of which each has a short, a wide and a long image: the long one reaches into the next
+/// Places of which each has a short, a wide and a long range: the long one reaches into the next
 /// place, and the wide one beyond the short one.
 const PLACES: u64 = 256;
 
 /// The sizes of the three.
-const SIZES: [&str; 3] = ["40", "90", "180"];
+const SIZES: [u64; 3] = [0x40, 0x90, 0x180];
+
+const ROUNDS: u64 = 64;
+
+/// How many draw up updates in a round.
+const TURNS: u64 = 16;
 
 fn base_of(place: u64) -> u64 {
     0x10_000 + place % PLACES * 0x100
 }
 
-/// The images' lines.
-fn put_images(text: &mut String) -> Result<(), Fail> {
-    let mut number = 0u64;
-    for size in SIZES {
-        for place in 0..PLACES {
-            number = number.saturating_add(1);
-            let base = base_of(place);
-            write!(text, "image {number} {base:x} {size} 0 -\n")?;
-        }
-    }
-    Ok(())
+/// A registration of one of the three ranges of a place, under a payload of its own.
+fn registration(place: u64, which: usize) -> Option<Update> {
+    let size = *SIZES.get(which)?;
+    let span = Span::new(base_of(place), size)?;
+    let payload = u32::try_from(place % PLACES * 3).ok()? + u32::try_from(which % 3).ok()?;
+    Some(Update::Register {
+        member: Member { span, payload },
+    })
 }
 
-/// Which of the three images of a place is registered in a turn: short ones most often.
-fn size_at(turn: u64) -> u64
-    ensures { result ≤ 2 }
-{
+fn removal(place: u64) -> Update {
+    Update::Deregister {
+        base: base_of(place),
+    }
+}
+
+/// Which of the three ranges of a place is registered in a turn: short ones most often.
+fn size_at(turn: u64) -> usize {
     match turn % 5 {
         3 => 1,
         4 => 2,
@@ -47,78 +48,63 @@ fn size_at(turn: u64) -> u64
     }
 }
 
-/// A thread of a round in which more comes than goes: ranges of all sizes at places that are
-/// scattered, and one that is put in the place of another.
-fn put_growth(text: &mut String, round: u64, thread: u64) -> Result<(), Fail>
-    requires { (round < 64) × (thread < 16) }
+/// More comes than goes: ranges of all sizes at places that are scattered, and one that is put in
+/// the place of another.
+fn put_growth(updates: &mut Vec<Update>, round: u64, turn: u64) -> Result<(), Fail>
+    requires { (round < 64) × (turn < 16) }
 {
-    for turn in 0..6u64 {
-        let place = (round * 37 + thread * 101 + turn * 17) % PLACES;
-        let image = 1 + size_at(round + thread + turn) * PLACES + place;
-        let base = base_of(place);
-        write!(text, "register {image}\nfind {base:x}\n")?;
+    for step in 0..6u64 {
+        let place = (round * 37 + turn * 101 + step * 17) % PLACES;
+        let registration = registration(place, size_at(round + turn + step));
+        updates.push(registration.ok_or("a range")?)?;
     }
-    let place = (round * 53 + thread * 29) % PLACES;
-    let wide = 1 + PLACES + place;
-    let base = base_of(place);
-    write!(
-        text,
-        "deregister {base:x}\nregister {wide}\nfind {base:x}\n"
-    )?;
+    let place = (round * 53 + turn * 29) % PLACES;
+    updates.push(removal(place))?;
+    updates.push(registration(place, 1).ok_or("a wide range")?)?;
     Ok(())
 }
 
-/// A thread of a round in which ranges go: those of its own places, and of the next thread's.
-fn put_decline(text: &mut String, round: u64, thread: u64) -> Result<(), Fail>
-    requires { (round < 64) × (thread < 16) }
+/// Ranges go: those of some places, and of those behind them.
+fn put_decline(updates: &mut Vec<Update>, round: u64, turn: u64) -> Result<(), Fail>
+    requires { (round < 64) × (turn < 16) }
 {
-    for turn in 0..8u64 {
-        let base = base_of(thread * 16 + round % 4 * 4 + turn % 4 + turn / 4 * 16);
-        write!(text, "deregister {base:x}\nfind {base:x}\n")?;
+    for step in 0..8u64 {
+        let place = turn * 16 + round % 4 * 4 + step % 4 + step / 4 * 16;
+        updates.push(removal(place))?;
     }
     Ok(())
 }
 
-/// Rounds of growth and of decline, four at a time, after one of a thread alone.
-fn script_of(alloc: Global) -> Result<String, Fail> {
-    let mut text = String::new(alloc);
-    text.push_str("frames 1\nnodes 64\nloads 1\n")?;
-    text.push_str(SECTION)?;
-    put_images(&mut text)?;
-    text.push_str(SNAPSHOT)?;
-    text.push_str(ALONE)?;
-    for round in 1..64u64 {
-        text.push_str("round\n")?;
-        for thread in 0..16u64 {
-            text.push_str("thread\nregister 0\nunwind 0\n")?;
+/// Rounds of growth and of decline, four at a time.
+fn updates_of_rounds(alloc: Global) -> Result<Vec<Update>, Fail> {
+    let mut updates = Vec::new(alloc);
+    for round in 1..ROUNDS {
+        for turn in 0..TURNS {
             if round % 8 < 4 {
-                put_growth(&mut text, round, thread)?;
+                put_growth(&mut updates, round, turn)?;
             } else {
-                put_decline(&mut text, round, thread)?;
+                put_decline(&mut updates, round, turn)?;
             }
-            text.push_str("load 0\nderegister 1000\nunload 1000\n")?;
         }
     }
-    text.push_str("end\n")?;
-    Ok(text)
+    Ok(updates)
 }
 
+/// Every way in which an update changes a tree's nodes.
+const KINDS: [Kind; 6] = [
+    Kind::Split,
+    Kind::Joined,
+    Kind::Shared,
+    Kind::Fence,
+    Kind::Lifted,
+    Kind::Sunk,
+];
+
 #[test]
-fn sixteen_threads_register_for_64_rounds(rt: HostRuntime) -> Result<(), Fail> {
+fn nodes_change_in_every_way(rt: HostRuntime) -> Result<(), Fail> {
     let alloc = rt.alloc();
-    let (script, journal) = judged(&rt, alloc, script_of(alloc)?)?;
-    assert_eq!(rt; journal.rounds.len(), 64);
-    let history = history_of(alloc, &script, &journal)?;
-    let kinds = kinds_of(&rt, alloc, &history)?;
-    for kind in [
-        Kind::Split,
-        Kind::Joined,
-        Kind::Shared,
-        Kind::Fence,
-        Kind::Lifted,
-        Kind::Sunk,
-    ] {
-        assert!(rt; kinds.contains(&kind), "none {kind:?}");
-    }
+    let updates = updates_of_rounds(alloc)?;
+    let kinds = kinds_of(&rt, alloc, &updates)?;
+    assert!(rt; KINDS.iter().all(|kind| kinds.contains(kind)));
     Ok(())
 }

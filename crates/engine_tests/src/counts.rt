@@ -1,8 +1,7 @@
 //! How often what was told to a gate.
 
-use crate::history::number_of;
 use event_script::Answer;
-use reg_model::{Found, Place};
+use reg_model::{Found, Inserted, Loading, Place, Removed, Replaced};
 use std::sync::atomic::{AtomicU64, Ordering};
 
 /// Counts what passes.
@@ -70,5 +69,32 @@ impl Counts {
         if let Some(answer) = answer {
             self.see_answer(answer);
         }
+    }
+}
+
+/// The number of an update, where it was accepted.
+fn number_of(answer: &Answer) -> Option<u32> {
+    match answer {
+        Answer::Register {
+            answer: Inserted::Done { number },
+            ..
+        } => Some(*number),
+        Answer::Replace {
+            answer: Replaced::Done { number, .. },
+            ..
+        } => Some(*number),
+        Answer::Load {
+            answer: Loading::Done { number },
+            ..
+        } => Some(*number),
+        Answer::Deregister {
+            answer: Removed::Done { number, .. },
+            ..
+        }
+        | Answer::Unload {
+            answer: Removed::Done { number, .. },
+            ..
+        } => Some(*number),
+        _ => None,
     }
 }

@@ -1,27 +1,11 @@
-//! Lines of journals, refusals and summaries, as the worked cases have them.
+//! Lines of a journal, as the worked cases have them.
 
 use event_script::{
-    Answer, EventNumber, Journal, Reason, print_answer, print_fault, print_journal, print_updates,
-    put_event_line,
+    Answer, EventNumber, Journal, print_answer, print_journal, print_updates, put_event_line,
 };
-use frame_parse::FrameFault;
 use reg_model::Inserted;
-use script_generator::{Summary, print_summary};
 use std::test::Fail;
 use unwind_step::{End, Trace};
-
-#[test]
-fn lines_of_refusals(rt: HostRuntime) -> Result<(), Fail> {
-    let alloc = rt.alloc();
-    let fault = FrameFault::Version {
-        start: 0,
-        at: 8,
-        byte: 4,
-    };
-    let text = print_fault(alloc, 4, Reason::Section { fault })?;
-    assert!(rt; text.as_slice() == b"script line 4: section version 0 8\n".as_slice());
-    Ok(())
-}
 
 #[test]
 fn lines_of_a_journal(rt: HostRuntime) -> Result<(), Fail> {
@@ -62,25 +46,3 @@ const JOURNAL: &str = "\
 1.1.2 end nobytes 7000
 updates 1
 ";
-
-#[test]
-fn lines_of_a_summary(rt: HostRuntime) -> Result<(), Fail> {
-    let alloc = rt.alloc();
-    let summary = Summary {
-        threads: 4,
-        events: 24,
-        updates: 8,
-        hits: 4,
-        misses: 8,
-        frames: 12,
-    };
-    let mut text = Vec::new(alloc);
-    for line in &print_summary(alloc, &summary)? {
-        text.extend_from_slice(line)?;
-    }
-    assert!(rt; text.as_slice() == SUMMARY.as_bytes());
-    Ok(())
-}
-
-/// What `gen 1` writes: the case gen_one.
-const SUMMARY: &str = "threads 4\nevents 24\nupdates 8\nhits 4\nmisses 8\nframes 12\n";

@@ -1,6 +1,6 @@
 //! A script is read, and printed back.
 
-use event_script::{Event, Reason, ScriptFault, print_script, read};
+use event_script::{Event, Script, print_script, read};
 use frame_expr::{Regs, WordSource};
 use std::test::Fail;
 
@@ -49,40 +49,52 @@ const COLUMNS: [u64; 17] = [
     u64::MAX,
 ];
 
+fn has_images(script: &Script) -> bool {
+    let spans = match script.images.get(2) {
+        Some(image) => image.first() == 0x3000 && image.last() == 0x300f,
+        None => false,
+    };
+    spans && script.nodes == 16 && script.loads == 2 && script.fixed.as_slice() == [0, 2].as_slice()
+}
+
+fn has_snapshot(script: &Script) -> bool {
+    match script.snapshots.first() {
+        Some(snapshot) => {
+            snapshot.regs == Regs { columns: COLUMNS }
+                && snapshot.memory.word(0x7000) == Some(0x1020)
+                && snapshot.memory.word(0x7001).is_none()
+        }
+        None => false,
+    }
+}
+
+const EVENTS: [Event; 6] = [
+    Event::Register { image: 1 },
+    Event::Find { pc: 0x1010 },
+    Event::Load { image: 2 },
+    Event::Unwind { snapshot: 1 },
+    Event::Unload { base: 0x3000 },
+    Event::Deregister { base: 0x1010 },
+];
+
+fn has_events(script: &Script) -> bool {
+    match script.rounds.first() {
+        Some(round) => match round.threads.first() {
+            Some(thread) => thread.events.as_slice() == EVENTS.as_slice(),
+            None => false,
+        },
+        None => false,
+    }
+}
+
 #[test]
 fn each_kind_of_line_is_read_and_printed_back(rt: HostRuntime) -> Result<(), Fail> {
     let alloc = rt.alloc();
     let script = read(alloc, ALL_LINES.as_bytes())?;
-    assert_eq!(rt; (script.nodes, script.loads), (16, 2));
-    let image = script.images.get(2).ok_or("an image")?;
-    assert_eq!(rt; (image.first(), image.last()), (0x3000, 0x300f));
-    assert_eq!(rt; script.fixed.as_slice(), [0, 2].as_slice());
-    let snapshot = script.snapshots.first().ok_or("a snapshot")?;
-    assert!(rt; snapshot.regs == Regs { columns: COLUMNS });
-    assert_eq!(rt; snapshot.memory.word(0x7000), Some(0x1020));
-    assert_eq!(rt; snapshot.memory.word(0x7001), None);
-    let round = script.rounds.first().ok_or("a round")?;
-    let thread = round.threads.first().ok_or("a thread")?;
-    let events = [
-        Event::Register { image: 1 },
-        Event::Find { pc: 0x1010 },
-        Event::Load { image: 2 },
-        Event::Unwind { snapshot: 1 },
-        Event::Unload { base: 0x3000 },
-        Event::Deregister { base: 0x1010 },
-    ];
-    assert!(rt; thread.events.as_slice() == events.as_slice());
+    assert!(rt; has_images(&script));
+    assert!(rt; has_snapshot(&script));
+    assert!(rt; has_events(&script));
     let printed = print_script(alloc, &script)?;
     assert!(rt; printed.as_slice() == ALL_LINES.as_bytes());
     Ok(())
-}
-
-#[test]
-fn a_bad_line_is_refused(rt: HostRuntime) {
-    let fault = read(rt.alloc(), b"frames 1\nnodes 3\n").err();
-    let wanted = ScriptFault::Bad {
-        line: 2,
-        reason: Reason::Limit,
-    };
-    assert!(rt; fault == Some(wanted));
 }

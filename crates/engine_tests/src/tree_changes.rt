@@ -1,12 +1,11 @@
-//! Accepted updates are made again, one by one, in a registry and over plain lists, which answer
-//! alike; after each the nodes are looked at: so it is seen that nodes were split, joined and
-//! shared, fences moved, and the root lifted and sunk. (Updates that were refused change nodes too,
-//! and are left out.)
+//! Updates are made one by one, in a registry and over plain lists, which answer alike; after each
+//! the nodes are looked at: so it is seen that nodes were split, joined and shared, fences moved,
+//! and the root lifted and sunk.
 
 ghost use Rattle.std.specs.Prelude.{◌≡◌, ◌≤◌};
 ghost use Rattle.word_rule.specs.Callers.{IsIdle};
 
-use reg_model::{Inserted, PlainRegistry, Removed, Replaced, Update};
+use reg_model::{PlainRegistry, Update};
 use registry_core::Registry;
 use std::alloc::Global;
 use std::sync::Wait;
@@ -102,9 +101,8 @@ fn kind_of(update: &Update, before: &[Option<Look>], after: &[Option<Look>]) -> 
     }
 }
 
-/// Makes an accepted update again in both, and says whether they answer alike that it was accepted.
-/// Those of the loader are passed over.
-fn make_again<R: Wait>(
+/// Makes an update in both, and says whether they answer alike. Those of the loader are none.
+fn answers_alike<R: Wait>(
     rt: &R,
     registry: &Registry,
     me: &mut Caller,
@@ -126,27 +124,27 @@ fn make_again<R: Wait>(
                 return Ok(false);
             }
             let answer = registry.register(rt, me, *member);
-            Ok(matches!(answer, Inserted::Done { .. }) && lists.register(*member)? == answer)
+            Ok(lists.register(*member)? == answer)
         }
         Update::Deregister { base } => {
             let answer = registry.deregister(rt, me, *base);
-            Ok(matches!(answer, Removed::Done { .. }) && lists.deregister(*base) == answer)
+            Ok(lists.deregister(*base) == answer)
         }
         Update::Replace { member } => {
             if member.payload >= PAYLOADS {
                 return Ok(false);
             }
             let answer = registry.replace(rt, me, *member);
-            Ok(matches!(answer, Replaced::Done { .. }) && lists.replace(*member) == answer)
+            Ok(lists.replace(*member) == answer)
         }
-        Update::Load { .. } | Update::Unload { .. } => Ok(true),
+        Update::Load { .. } | Update::Unload { .. } => Ok(false),
     }
 }
 
-/// What each of the accepted updates made of the nodes, one after another.
-pub fn kinds_of<R: Wait>(rt: &R, alloc: Global, history: &[Update]) -> Result<Vec<Kind>, Fail> {
+/// What each of the updates made of the nodes, one after another.
+pub fn kinds_of<R: Wait>(rt: &R, alloc: Global, updates: &[Update]) -> Result<Vec<Kind>, Fail> {
     let (registry, mut me) = Registry::new(alloc, NODES, 1, PAYLOADS, Vec::new(alloc))?;
-    kinds_in(rt, alloc, &registry, &mut me, history)
+    kinds_in(rt, alloc, &registry, &mut me, updates)
 }
 
 fn kinds_in<R: Wait>(
@@ -154,7 +152,7 @@ fn kinds_in<R: Wait>(
     alloc: Global,
     registry: &Registry,
     me: &mut Caller,
-    history: &[Update],
+    updates: &[Update],
 ) -> Result<Vec<Kind>, Fail>
     requires table { me.old.table ≡ registry.now.table }
     requires idle { IsIdle me.old.log }
@@ -164,9 +162,9 @@ fn kinds_in<R: Wait>(
     let mut lists = PlainRegistry::new(alloc, Vec::new(alloc), 1);
     let mut kinds = Vec::new(alloc);
     let mut before = look_at(alloc, registry, me)?;
-    for update in history {
-        if !make_again(rt, registry, me, &mut lists, update)? {
-            Err("an update that isn't accepted again")?;
+    for update in updates {
+        if !answers_alike(rt, registry, me, &mut lists, update)? {
+            Err("an update that both don't answer alike")?;
         }
         let after = look_at(alloc, registry, me)?;
         kinds.push(kind_of(update, &before, &after))?;
