@@ -4,7 +4,7 @@ the tables.
 
 Of scripts each case is one, and each row of the tables about scripts; of journals each check, and
 each case with its journal behind its script. Of frames a section of the
-tables, of the cases' images and of the questions to frame_tables, in the form that frames.c reads.
+tables, of the cases' images and of the questions in C, in the form that frames.c reads.
 """
 import pathlib
 import subprocess
@@ -24,8 +24,8 @@ def sections():
         yield address, digits
     for line in (TOP / 'cases/tables/more_sections.tsv').read_text().splitlines()[1:]:
         yield '2000', line.split('\t')[0]
-    for line in (TOP / 'crates/frame_tables/stdin').read_text().splitlines():
-        words = line.split()
+    for line in (TOP / 'cases/tables/frames.txt').read_text().splitlines():
+        words = line.partition(' = ')[0].split()
         if len(words) == 4 and words[0] == 'section' and not words[1].startswith('S1_CUT'):
             yield words[2], words[3]
     for script in sorted((TOP / 'cases').glob('*.script')):

@@ -1,6 +1,6 @@
 #!/usr/bin/env python3
 """Tries the reader on cases/ and cases/tables/, whose answers come from outside the product, and on
-the tables of call sites of crates/frame_tables, which were worked by hand.
+the tables of call sites of cases/tables/frames.txt, which were worked by hand.
 
     check_reader.py [CASES]     CASES is a directory of cases; without it, that of this repository
 
@@ -30,7 +30,7 @@ FULL = re.compile("register [0-9]+ full")
 FAULTS = {"short": "Short", "wide": "TooWide", "encoding": "Encoding", "filter": "Filter",
           "chain": "Chain", "typeentry": "TypeEntry"}
 HERE = os.path.dirname(os.path.abspath(__file__))
-TABLES = os.path.join(HERE, "..", "..", "crates", "frame_tables", "stdout")
+TABLES = os.path.join(HERE, "..", "..", "cases", "tables", "frames.txt")
 
 
 def rows(directory, name):

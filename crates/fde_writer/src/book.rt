@@ -9,7 +9,7 @@ ghost use Rattle.fde_writer.specs.Places.{PlaceData};
 ghost use Rattle.fde_writer.specs.Standing.{HasAsMany, Rewrites, StandingData, standing_under};
 
 use crate::places::Places;
-use crate::stack::Stack;
+use crate::stack::StandingStack;
 use crate::standing::Standing;
 use std::alloc::Global;
 use std::borrow::Cow;
@@ -21,7 +21,7 @@ use std::marker::Model;
 /// its key: a tree would leave half of each leaf empty where keys ascend.
 #[derive(Drop)]
 pub struct Book {
-    stands: HashMap<u64, Stack>,
+    stands: HashMap<u64, StandingStack>,
     alloc: Global,
 }
 
@@ -62,7 +62,7 @@ impl Book {
         ensures back { IfErr result (λ x. x ≡ standing) }
         ensures err { OnErr result (self.new ≡ self.old) }
     {
-        let stack = match Stack::of(self.alloc, standing) {
+        let stack = match StandingStack::of(self.alloc, standing) {
             Ok(stack) => stack,
             Err(standing) => return Err(standing),
         };

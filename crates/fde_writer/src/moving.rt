@@ -8,13 +8,13 @@ ghost use Rattle.reg_model.specs.SpanData.{IsSpan};
 ghost use Rattle.fde_writer.specs.Moves.{IsMoveFault, moved_member, moved_members};
 ghost use Rattle.fde_writer.specs.Places.{PlaceData, placed_members};
 
-use crate::place::Place;
+use crate::place::MemberInHalf;
 use fde_members::{MembersFault, fde_address};
 use reg_model::Member;
 use std::alloc::Global;
 
 /// The members of places have spans.
-pub fn have_spans(places: &[Place])
+pub fn have_spans(places: &[MemberInHalf])
     ensures { All (λ m. IsSpan m.span) (placed_members places.now) }
 {
     for place in places {
@@ -47,7 +47,7 @@ pub fn moved_members(
     alloc: Global,
     from: u64,
     to: u64,
-    places: &[Place],
+    places: &[MemberInHalf],
 ) -> Result<Vec<Member>, MembersFault>
     ensures members { IfOk result
         (λ v. v.items ≡ moved_members from to (placed_members places.now)) }

@@ -14,14 +14,14 @@ use std::marker::Model;
 /// A member, and the half in which it stands. Its fields are the member's, so that it takes 24
 /// bytes.
 #[derive(Clone, Copy, Debug, PartialEq, Eq)]
-pub struct Place {
+pub struct MemberInHalf {
     first: u64,
     last: u64,
     payload: u32,
     half: Half,
 }
 
-impl Model for Place {
+impl Model for MemberInHalf {
     ghost use Rattle.reg_model.specs.SpanData.{IsSpan};
     ghost use Rattle.fde_writer.specs.Places.{PlaceData};
 
@@ -45,11 +45,11 @@ impl Model for Place {
     } };
 }
 
-impl Place {
-    pub fn new(member: &Member, half: Half) -> Place
+impl MemberInHalf {
+    pub fn new(member: &Member, half: Half) -> MemberInHalf
         ensures { result ≡ record { member = member.now; half = half } }
     {
-        Place {
+        MemberInHalf {
             first: member.span.first(),
             last: member.span.last(),
             payload: member.payload,
@@ -83,14 +83,14 @@ impl Place {
 }
 
 /// A registered place for each member.
-pub fn registered_places(alloc: Global, members: &[Member]) -> Result<Vec<Place>, NoMemory>
+pub fn registered_places(alloc: Global, members: &[Member]) -> Result<Vec<MemberInHalf>, NoMemory>
     ensures places { IfOk result (λ v. v.items ≡ all_registered members.now) }
     ensures members { IfOk result (λ v. placed_members v.items ≡ members.now) }
 {
     let mut places = Vec::new(alloc);
     places.try_reserve_exact(members.len())?;
     for member in members {
-        places.push(Place::new(member, Half::Registered))?;
+        places.push(MemberInHalf::new(member, Half::Registered))?;
     }
     Ok(places)
 }

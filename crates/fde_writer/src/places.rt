@@ -6,7 +6,7 @@ ghost use Rattle.fde_writer.specs.Places.{PlaceData, all_registered, placed_memb
 ghost use Rattle.fde_writer.specs.Puttings.{HasCallsFor, HasPayloadsOf, IsFaultOfAll, PutsAll};
 
 use crate::outcome::Numbers;
-use crate::place::{Place, registered_places};
+use crate::place::{MemberInHalf, registered_places};
 use crate::putting::{PutFault, put_all};
 use reg_model::{Half, Member, NoMemory};
 use sole_writer::Writer;
@@ -23,8 +23,8 @@ pub struct Places {
 /// Most sections of compilers have one member, whose place needs no vector.
 #[derive(Drop)]
 pub enum PlacesForm {
-    One { place: Place },
-    Many { places: Vec<Place> },
+    One { place: MemberInHalf },
+    Many { places: Vec<MemberInHalf> },
 }
 
 impl Model for Places {
@@ -44,7 +44,7 @@ impl Places {
         ensures members { IfOk result (λ p. placed_members p ≡ members.now) }
     {
         if let [member] = members {
-            let place = Place::new(member, Half::Registered);
+            let place = MemberInHalf::new(member, Half::Registered);
             let places = PlacesForm::One { place };
             return Ok(Places { places });
         }
@@ -91,7 +91,7 @@ impl Places {
     }
 
     /// The only one.
-    pub fn only(&self) -> Place
+    pub fn only(&self) -> MemberInHalf
         requires { length self.now ≡ 1 }
         ensures { self.now ≡ result ∷ [] }
     {

@@ -9,7 +9,7 @@ ghost use Rattle.fde_writer.specs.Puttings.{StopsTaking, TakesAway, UnlessStuck,
 ghost use Rattle.fde_writer.specs.Puttings.{removal_from};
 
 use crate::outcome::Numbers;
-use crate::place::Place;
+use crate::place::MemberInHalf;
 use node_store::Busy;
 use reg_model::{Half, Inserted, Loading, Member, Removed};
 use sole_writer::Writer;
@@ -31,7 +31,7 @@ struct PutMember {
 
 /// A lock was found taken.
 #[derive(Clone, Copy, Debug, PartialEq, Eq)]
-pub struct Stopped;
+pub struct LockTaken;
 
 /// Puts a member into the half of registered members, or where it overlaps one there into the
 /// other half.
@@ -85,7 +85,7 @@ fn load(writer: &mut Writer, member: &Member) -> Result<PutMember, PutFault>
 }
 
 /// Asks the half of a place to let its member go.
-fn remove(writer: &mut Writer, place: &Place) -> Result<Removed, Busy>
+fn remove(writer: &mut Writer, place: &MemberInHalf) -> Result<Removed, Busy>
     requires free { writer.old.stuck ≡ false }
     requires left { 0 < writer.old.me.left }
     ensures answers { IfOk result (λ answer. WriterAnswers
@@ -99,7 +99,7 @@ fn remove(writer: &mut Writer, place: &Place) -> Result<Removed, Busy>
 }
 
 /// Takes away the member of a place.
-fn take(writer: &mut Writer, place: &Place) -> Result<u32, Stopped>
+fn take(writer: &mut Writer, place: &MemberInHalf) -> Result<u32, LockTaken>
     requires free { writer.old.stuck ≡ false }
     requires left { 0 < writer.old.me.left }
     requires there { HoldsAtLeast (writer_state writer.old) (place.now ∷ []) }
@@ -110,7 +110,7 @@ fn take(writer: &mut Writer, place: &Place) -> Result<u32, Stopped>
     writer.known();
     let removed = match remove(writer, place) {
         Ok(removed) => removed,
-        Err(_) => return Err(Stopped),
+        Err(_) => return Err(LockTaken),
     };
     match removed {
         Removed::Done { number, .. } => Ok(number),
@@ -120,7 +120,7 @@ fn take(writer: &mut Writer, place: &Place) -> Result<u32, Stopped>
 }
 
 /// Takes away the members of places, in order.
-pub fn take_back(writer: &mut Writer, places: &[Place]) -> Result<Numbers, Stopped>
+pub fn take_back(writer: &mut Writer, places: &[MemberInHalf]) -> Result<Numbers, LockTaken>
     requires free { writer.old.stuck ≡ false }
     requires left { length places.now ≤ writer.old.me.left }
     requires there { HoldsAtLeast (writer_state writer.old) places.now }
@@ -136,7 +136,7 @@ pub fn take_back(writer: &mut Writer, places: &[Place]) -> Result<Numbers, Stopp
 }
 
 /// Takes back what was put before a fault, and tells why all was in vain.
-fn undo(writer: &mut Writer, places: &[Place], fault: PutFault) -> PutFault
+fn undo(writer: &mut Writer, places: &[MemberInHalf], fault: PutFault) -> PutFault
     requires { UnlessStuck fault (MayUndo places.now writer.old) }
     ensures { IsUndone places.now writer.old writer.new fault result }
 {
@@ -154,7 +154,7 @@ fn undo(writer: &mut Writer, places: &[Place], fault: PutFault) -> PutFault
 }
 
 /// Puts the members of places, and tells in which halves they stand: all of them, or none.
-pub fn put_all(writer: &mut Writer, places: &mut [Place]) -> Result<Numbers, PutFault>
+pub fn put_all(writer: &mut Writer, places: &mut [MemberInHalf]) -> Result<Numbers, PutFault>
     requires free { writer.old.stuck ≡ false }
     requires left { HasCallsFor places.old writer.old }
     requires payloads { HasPayloadsOf places.old writer.old }
@@ -168,7 +168,7 @@ pub fn put_all(writer: &mut Writer, places: &mut [Place]) -> Result<Numbers, Put
             Ok(put) => put,
             Err(fault) => return Err(undo(writer, &places[..index], fault)),
         };
-        places[index] = Place::new(&member, put.half);
+        places[index] = MemberInHalf::new(&member, put.half);
         numbers = numbers.and(put.number);
     }
     Ok(numbers)

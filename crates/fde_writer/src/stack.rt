@@ -8,7 +8,7 @@ ghost use Rattle.std.specs.Option.{option_to_list};
 ghost use Rattle.fde_writer.specs.Places.{PlaceData};
 ghost use Rattle.fde_writer.specs.Standing.{HasAsMany, StandingData, bare_standing};
 
-use crate::place::Place;
+use crate::place::MemberInHalf;
 use crate::places::Places;
 use crate::seen::SeenSection;
 use crate::standing::Standing;
@@ -19,7 +19,7 @@ use std::marker::Model;
 
 /// Sections that stand, of which the latest goes first.
 #[derive(Drop)]
-pub struct Stack {
+pub struct StandingStack {
     layers: Layers,
 }
 
@@ -39,9 +39,9 @@ enum Layers {
 }
 
 /// A map keeps so much for each key.
-const _: () = prove!(size_of::<Stack>() == 24);
+const _: () = prove!(size_of::<StandingStack>() == 24);
 
-impl Model for Stack {
+impl Model for StandingStack {
     ghost use Rattle.std.specs.Prelude.{List};
     ghost use Rattle.fde_writer.specs.Layers.{layered};
     ghost use Rattle.fde_writer.specs.Standing.{StandingData};
@@ -51,24 +51,24 @@ impl Model for Stack {
     ghost view = { λ s. layered s.layers };
 }
 
-impl Stack {
+impl StandingStack {
     /// One section, which is given back where memory runs out.
-    pub fn of(alloc: Global, only: Standing) -> Result<Stack, Standing>
+    pub fn of(alloc: Global, only: Standing) -> Result<StandingStack, Standing>
         ensures ok { IfOk result (λ stack. stack ≡ only ∷ []) }
         ensures back { IfErr result (λ x. x ≡ only) }
     {
         match only.bare_place() {
-            Some(place) => Ok(Stack::bare(only.section(), &place)),
-            None => Stack::one(alloc, only),
+            Some(place) => Ok(StandingStack::bare(only.section(), &place)),
+            None => StandingStack::one(alloc, only),
         }
     }
 
     /// One section with one member and no note.
-    fn bare(section: SeenSection, place: &Place) -> Stack
+    fn bare(section: SeenSection, place: &MemberInHalf) -> StandingStack
         ensures { result ≡ bare_standing section.section place.now ∷ [] }
     {
         let Member { span, payload } = place.member();
-        Stack {
+        StandingStack {
             layers: Layers::Bare {
                 section,
                 half: place.half(),
@@ -79,14 +79,14 @@ impl Stack {
     }
 
     /// Any section, which is given back where memory runs out.
-    fn one(alloc: Global, only: Standing) -> Result<Stack, Standing>
+    fn one(alloc: Global, only: Standing) -> Result<StandingStack, Standing>
         ensures ok { IfOk result (λ stack. stack ≡ only ∷ []) }
         ensures back { IfErr result (λ x. x ≡ only) }
     {
         let Ok(all) = room(alloc, 1) else {
             return Err(only);
         };
-        Ok(Stack {
+        Ok(StandingStack {
             layers: Layers::More {
                 all: with(all, only),
             },
@@ -94,14 +94,14 @@ impl Stack {
     }
 
     /// Two sections, of which the second is given back where memory runs out.
-    fn two(alloc: Global, first: Standing, second: Standing) -> Result<Stack, Standing>
+    fn two(alloc: Global, first: Standing, second: Standing) -> Result<StandingStack, Standing>
         ensures ok { IfOk result (λ stack. stack ≡ first ∷ second ∷ []) }
         ensures back { IfErr result (λ x. x ≡ second) }
     {
         let Ok(all) = room(alloc, 2) else {
             return Err(second);
         };
-        Ok(Stack {
+        Ok(StandingStack {
             layers: Layers::More {
                 all: with(with(all, first), second),
             },
@@ -133,7 +133,7 @@ impl Stack {
             } => made(section, *half, *payload, *span),
             Layers::More { all } => return add(all, standing),
         };
-        match Stack::two(alloc, only, standing) {
+        match StandingStack::two(alloc, only, standing) {
             Ok(stack) => *self = stack,
             Err(standing) => return Err(standing),
         }
@@ -171,7 +171,7 @@ impl Stack {
             Layers::Bare { section, .. } => section.same(),
             Layers::More { all } => return settle_last(all, places),
         };
-        *self = Stack::bare(section, &places.only());
+        *self = StandingStack::bare(section, &places.only());
     }
 
     /// Takes the latest one out, where it isn't kept alone.
@@ -208,7 +208,10 @@ fn made(section: &SeenSection, half: Half, payload: u32, span: Span) -> Standing
     ensures { result ≡ bare_standing section.now.section
         (record { member = record { span = span; payload = payload }; half = half }) }
 {
-    Standing::bare(section.same(), Place::new(&Member { span, payload }, half))
+    Standing::bare(
+        section.same(),
+        MemberInHalf::new(&Member { span, payload }, half),
+    )
 }
 
 /// Room for so many sections, and none yet.

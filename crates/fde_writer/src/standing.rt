@@ -3,7 +3,7 @@
 ghost use Rattle.std.specs.Prelude.{◌≡◌, IfSome};
 ghost use Rattle.fde_writer.specs.Standing.{StandingData, bare_standing};
 
-use crate::place::Place;
+use crate::place::MemberInHalf;
 use crate::places::{Places, PlacesForm};
 use crate::seen::SeenSection;
 use std::marker::Model;
@@ -22,12 +22,12 @@ enum Form {
     One {
         section: SeenSection,
         note: u64,
-        place: Place,
+        place: MemberInHalf,
     },
     Many {
         section: SeenSection,
         note: u64,
-        places: Vec<Place>,
+        places: Vec<MemberInHalf>,
     },
 }
 
@@ -64,7 +64,7 @@ impl Standing {
     }
 
     /// One with one member and no note.
-    pub fn bare(section: SeenSection, place: Place) -> Standing
+    pub fn bare(section: SeenSection, place: MemberInHalf) -> Standing
         ensures { result ≡ bare_standing section.section place }
     {
         Standing {
@@ -77,7 +77,7 @@ impl Standing {
     }
 
     /// The place of its only member, where it has no note.
-    pub fn bare_place(&self) -> Option<Place>
+    pub fn bare_place(&self) -> Option<MemberInHalf>
         ensures { IfSome result (λ place. self.now ≡ bare_standing self.now.section place) }
     {
         match &self.form {
@@ -95,7 +95,7 @@ impl Standing {
         }
     }
 
-    pub fn places(&self) -> &[Place]
+    pub fn places(&self) -> &[MemberInHalf]
         ensures { result.now ≡ self.now.places }
     {
         match &self.form {

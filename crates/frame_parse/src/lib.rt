@@ -16,6 +16,7 @@ mod laws;
 mod placed_program;
 mod program;
 mod program_state;
+mod record_reading;
 mod records;
 mod section;
 
@@ -32,8 +33,6 @@ pub use laws::{
 pub use placed_program::PlacedProgram;
 pub use program::Program;
 pub use program_state::{ProgramState, Remembered};
-pub use records::{
-    Augmentation, CieRecord, Entry, Extent, FdeEntry, four_bytes, pointer, range, record_length,
-    whole_record,
-};
+pub use record_reading::{record_length, whole_record};
+pub use records::{Augmentation, CieRecord, Entry, Extent, FdeEntry, four_bytes, pointer, range};
 pub use section::{Section, is_end, one_answer, section_is_answered};

@@ -1,26 +1,31 @@
 //! Fields of bytes, one after another.
 
-use crate::words::{Refusal, Wanted, Words, hexadecimal, refuse};
+use crate::words::{LineWords, Refusal, WantedWord, hexadecimal, refuse};
 use eh_bytes::{ByteFault, Cursor};
 use std::fmt::Display;
 
 /// `read BYTES FROM TO FIELD..`: each field in turn, from one place of the bytes to another.
-pub fn read(words: &Words<'_>, text: &mut String) -> Result<(), Refusal> {
+pub fn read(words: LineWords<'_>, text: &mut String) -> Result<(), Refusal> {
     let bytes = words.bytes(1)?;
+    fields(words, &bytes, text)
+}
+
+/// The fields of the bytes.
+fn fields(words: LineWords<'_>, bytes: &[u8], text: &mut String) -> Result<(), Refusal> {
     let (from, to) = (words.decimal(2)?, words.decimal(3)?);
     if to > bytes.len() {
-        return Err(refuse(3, Wanted::Place));
+        return Err(refuse(3, WantedWord::Place));
     }
     if from > to {
-        return Err(refuse(2, Wanted::Place));
+        return Err(refuse(2, WantedWord::Place));
     }
-    let mut cursor = Cursor::new(&bytes, from, to);
+    let mut cursor = Cursor::new(bytes, from, to);
     for index in 4..words.len() {
         if index > 4 {
             text.push_str(", ")?;
         }
         if !field(&mut cursor, words.get(index), text)? {
-            return Err(refuse(index, Wanted::Field));
+            return Err(refuse(index, WantedWord::Field));
         }
     }
     Ok(())

@@ -7,14 +7,14 @@ use std::fmt;
 #[derive(Debug, Drop)]
 pub enum Refusal {
     /// Something else is wanted in a word's place; the first word is 1.
-    Unreadable { word: usize, wanted: Wanted },
+    Unreadable { word: usize, wanted: WantedWord },
     /// Memory ran out.
     NoMemory(AllocError),
 }
 
 /// What is wanted in a word's place.
 #[derive(Clone, Copy, Debug, PartialEq, Eq)]
-pub enum Wanted {
+pub enum WantedWord {
     Question,
     Hexadecimal,
     Decimal,
@@ -24,18 +24,10 @@ pub enum Wanted {
     Place,
     /// A read of a field, as `u16` or `pointer:1b:1000`.
     Field,
-    /// A column up to 16 and its number, as `7=7000`.
-    Column,
-    /// The name of an accepted section.
+    /// The address of a section that is accepted.
     Section,
-    /// The name of a section of which at most 65,536 rows differ.
-    FewerRows,
-    /// The name of an accepted header.
+    /// The address of a header that is accepted.
     Header,
-    /// An address not before that in the second word.
-    Later,
-    /// An accepted section's name, a first address and a size, as `S1:1000:30`.
-    Image,
     End,
 }
 
@@ -43,22 +35,18 @@ impl Refusal {
     pub const NO_MEMORY: Refusal = Refusal::NoMemory(AllocError);
 }
 
-impl fmt::Display for Wanted {
+impl fmt::Display for WantedWord {
     fn fmt<W: fmt::Write>(&self, f: &mut fmt::Formatter<W>) -> fmt::Result {
         let wanted = match self {
-            Wanted::Question => "a question",
-            Wanted::Hexadecimal => "a hexadecimal number",
-            Wanted::Decimal => "a decimal number",
-            Wanted::Bytes => "bytes",
-            Wanted::Place => "a place in the bytes",
-            Wanted::Field => "a field",
-            Wanted::Column => "a column and its number",
-            Wanted::Section => "an accepted section",
-            Wanted::FewerRows => "a section with fewer rows",
-            Wanted::Header => "an accepted header",
-            Wanted::Later => "an address from the first one on",
-            Wanted::Image => "an image",
-            Wanted::End => "the end of the line",
+            WantedWord::Question => "a question",
+            WantedWord::Hexadecimal => "a hexadecimal number",
+            WantedWord::Decimal => "a decimal number",
+            WantedWord::Bytes => "bytes",
+            WantedWord::Place => "a place in the bytes",
+            WantedWord::Field => "a field",
+            WantedWord::Section => "an accepted section",
+            WantedWord::Header => "an accepted header",
+            WantedWord::End => "the end of the line",
         };
         write!(f, "{wanted} is wanted")
     }
@@ -76,67 +64,66 @@ impl<T: Drop> From<AllocFailed<T>> for Refusal {
     }
 }
 
-/// The words of a line.
-#[derive(Drop)]
-pub struct Words<'a> {
-    alloc: Global,
-    words: Vec<&'a str>,
+/// The words of a line, with a blank between each two.
+#[derive(Clone, Copy)]
+pub struct LineWords<'a> {
+    pub alloc: Global,
+    line: &'a str,
 }
 
-impl<'a> Words<'a> {
-    pub fn of(alloc: Global, line: &'a str) -> Result<Words<'a>, AllocError> {
-        let words = line.split(' ').collect(alloc)?;
-        Ok(Words { alloc, words })
+impl<'a> LineWords<'a> {
+    pub fn of(alloc: Global, line: &'a str) -> LineWords<'a> {
+        LineWords { alloc, line }
     }
 
     /// How many there are.
-    pub fn len(&self) -> usize {
-        self.words.len()
+    pub fn len(self) -> usize {
+        self.line.split(' ').count()
     }
 
     /// A word by its number from 0 on, or no letters where there is none.
-    pub fn get(&self, index: usize) -> &'a str {
-        match self.words.get(index) {
-            Some(word) => word,
-            None => "",
-        }
+    pub fn get(self, index: usize) -> &'a str {
+        self.line.split(' ').nth(index).unwrap_or("")
     }
 
     /// Nothing stands after the first so many words.
-    pub fn end(&self, count: usize) -> Result<(), Refusal> {
-        if self.words.len() <= count {
+    pub fn end(self, count: usize) -> Result<(), Refusal> {
+        if self.len() <= count {
             Ok(())
         } else {
-            Err(refuse(count, Wanted::End))
+            Err(refuse(count, WantedWord::End))
         }
     }
 
-    pub fn hexadecimal(&self, index: usize) -> Result<u64, Refusal> {
-        hexadecimal(self.get(index)).ok_or(refuse(index, Wanted::Hexadecimal))
+    pub fn hexadecimal(self, index: usize) -> Result<u64, Refusal> {
+        match hexadecimal(self.get(index)) {
+            Some(number) => Ok(number),
+            None => Err(refuse(index, WantedWord::Hexadecimal)),
+        }
     }
 
-    pub fn decimal(&self, index: usize) -> Result<usize, Refusal> {
+    pub fn decimal(self, index: usize) -> Result<usize, Refusal> {
         match self.get(index).parse() {
             Ok(number) => Ok(number),
-            Err(_) => Err(refuse(index, Wanted::Decimal)),
+            Err(_) => Err(refuse(index, WantedWord::Decimal)),
         }
     }
 
-    pub fn bytes(&self, index: usize) -> Result<Vec<u8>, Refusal> {
+    pub fn bytes(self, index: usize) -> Result<Vec<u8>, Refusal> {
         let word = self.get(index);
         if word == "-" {
             return Ok(Vec::new(self.alloc));
         }
         match hex::decode(self.alloc, word) {
             Ok(bytes) if !bytes.is_empty() => Ok(bytes),
-            Err(hex::FromHexError::OutOfMemory) => Err(Refusal::NoMemory(AllocError)),
-            _ => Err(refuse(index, Wanted::Bytes)),
+            Err(hex::FromHexError::OutOfMemory) => Err(Refusal::NO_MEMORY),
+            _ => Err(refuse(index, WantedWord::Bytes)),
         }
     }
 }
 
 /// The refusal of a word by its number from 0 on.
-pub fn refuse(index: usize, wanted: Wanted) -> Refusal {
+pub fn refuse(index: usize, wanted: WantedWord) -> Refusal {
     Refusal::Unreadable {
         word: index.saturating_add(1),
         wanted,

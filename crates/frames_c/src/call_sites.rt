@@ -12,7 +12,7 @@ use raise_phases::{LsdaFault, Verdict, verdict};
 
 /// Where an exception goes on, or why its table doesn't say. What the outcome hasn't is 0.
 #[repr(C)]
-#[derive(Clone, Copy, Debug, PartialEq, Eq)]
+#[derive(Clone, Copy)]
 pub struct FramesVerdict {
     pub outcome: u64,
     /// The address at which a cleanup or a handler stands.

@@ -17,7 +17,7 @@ use std::alloc::Global;
 /// How many records are refused, and the refusal of the first one in order of bytes; 0 where none
 /// is.
 #[repr(C)]
-#[derive(Clone, Copy, Debug, PartialEq, Eq)]
+#[derive(Clone, Copy)]
 pub struct FramesRefused {
     pub count: u64,
     pub first: FramesRefusal,
@@ -25,7 +25,7 @@ pub struct FramesRefused {
 
 /// A refused record: the addresses that it claims, and its refusal.
 #[repr(C)]
-#[derive(Clone, Copy, Debug, PartialEq, Eq)]
+#[derive(Clone, Copy)]
 pub struct FramesClaim {
     pub first: u64,
     pub range: u64,

@@ -14,7 +14,7 @@ use std::alloc::Global;
 
 /// An FDE. What it hasn't is 0, and its flag too.
 #[repr(C)]
-#[derive(Clone, Copy, Debug, PartialEq, Eq)]
+#[derive(Clone, Copy)]
 pub struct FramesFde {
     pub first: u64,
     pub range: u64,

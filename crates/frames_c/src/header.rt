@@ -21,7 +21,7 @@ use std::alloc::Global;
 /// What came of a header: whether it is accepted, else the kind of its refusal and the place that
 /// is refused.
 #[repr(C)]
-#[derive(Clone, Copy, Debug, PartialEq, Eq)]
+#[derive(Clone, Copy)]
 pub struct FramesHeader {
     pub accepted: u64,
     pub kind: u64,

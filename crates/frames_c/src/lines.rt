@@ -9,7 +9,7 @@ use unwind_step::AddressKind;
 
 /// A frame that a walk shows.
 #[repr(C)]
-#[derive(Clone, Copy, Debug, PartialEq, Eq)]
+#[derive(Clone, Copy)]
 pub struct FramesLine {
     /// The frame's address, column 16.
     pub pc: u64,

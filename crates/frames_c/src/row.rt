@@ -1,22 +1,19 @@
-//! The row of an address.
+//! A row in the form that C is told.
 
-ghost use Rattle.std.specs.Prelude.{◌≡◌, length, true, false};
-ghost use Rattle.c_handle.specs.Handles.{LeadsNowhere, LeadsSomewhere};
+ghost use Rattle.std.specs.Prelude.{◌≡◌, length};
 ghost use Rattle.unwind_step.specs.Backtrace.{fde_in};
-ghost use Rattle.frames_c.specs.Held.{held_loaded, unclaimed_fde};
+ghost use Rattle.frames_c.specs.Held.{unclaimed_fde};
 ghost use Rattle.frames_c.specs.Rows.{rule_kind, rule_number, cfa_rule_kind, cfa_rule_column};
 ghost use Rattle.frames_c.specs.Rows.{cfa_rule_offset};
 ghost use Rattle.frames_c.specs.Rows.{AreToldRules, IsToldRow, IsRowOf, AnswersRow};
 
-use crate::handles::{RowTableHandle, SectionHandle};
 use crate::share::LoadedSection;
 use frame_parse::Fde;
 use frame_rows::{CfaRuleWith, Row, RuleWith, row_at};
-use std::alloc::Global;
 
 /// How the CFA and the columns 0 to 16 are found: for each the kind of its rule, and its number.
 #[repr(C)]
-#[derive(Clone, Copy, Debug, PartialEq, Eq)]
+#[derive(Clone, Copy)]
 pub struct FramesRow {
     pub cfa: u64,
     pub cfa_column: u64,
@@ -105,53 +102,11 @@ pub(crate) fn row_by_fde(section: &LoadedSection, pc: u64, out: &mut FramesRow) 
 }
 
 /// The same, unless a refused record answers.
-fn row_in(section: &LoadedSection, pc: u64, out: &mut FramesRow) -> bool
+pub(crate) fn row_in(section: &LoadedSection, pc: u64, out: &mut FramesRow) -> bool
     ensures { AnswersRow (unclaimed_fde pc section.now) pc result out.old out.new }
 {
     match section.claim_at(pc) {
         Some(_) => false,
         None => row_by_fde(section, pc, out),
     }
-}
-
-/// The row of an address by the first FDE in order of bytes that covers it; false where none does,
-/// or a refused record answers, and then nothing is written.
-#[unsafe(no_mangle)]
-pub extern "C" fn frames_c_row(
-    alloc: Global,
-    section: SectionHandle,
-    pc: u64,
-    out: &mut FramesRow,
-    back: &mut SectionHandle,
-) -> bool
-    requires held { LeadsSomewhere section.held }
-    requires back { LeadsNowhere back.old.held }
-    ensures back { back.new.held ≡ section.held }
-    ensures row { AnswersRow (unclaimed_fde pc (held_loaded section.held))
-        pc result out.old out.new }
-{
-    let share = section.open(alloc);
-    let found = row_in(share.get(), pc, out);
-    *back = SectionHandle::of(share);
-    found
-}
-
-/// The row of an address, as `frames_c_row` of the section tells it.
-#[unsafe(no_mangle)]
-pub extern "C" fn frames_c_row_table_row(
-    alloc: Global,
-    table: RowTableHandle,
-    pc: u64,
-    out: &mut FramesRow,
-    back: &mut RowTableHandle,
-) -> bool
-    requires held { LeadsSomewhere table.held }
-    requires back { LeadsNowhere back.old.held }
-    ensures back { back.new.held ≡ table.held }
-    ensures row { AnswersRow (unclaimed_fde pc (held_loaded table.held)) pc result out.old out.new }
-{
-    let share = table.open(alloc);
-    let found = share.get().row_in(pc, out);
-    *back = RowTableHandle::of(share);
-    found
 }

@@ -9,16 +9,17 @@ ghost use Rattle.frames_c.specs.AskedSteps.{ServesMemory, told_in};
 ghost use Rattle.frames_c.specs.Held.{held_list, held_loaded};
 
 use crate::handles::{MemoryHandle, RowTableHandle, SectionHandle};
+use crate::row_share::RowsOfSection;
 use crate::share::LoadedSection;
 use frame_expr::{Lent, Regs, WordSource};
 use std::alloc::Global;
 use told_memory::laws::{asks_anew, told_words_serve};
 use told_memory::{ToldMemory, ToldWord};
-use unwind_step::{RowSource, Stepped, step, step_at};
+use unwind_step::{RowSource, Stepped, step_at};
 
 /// The registers of a frame, in the columns of x86-64.
 #[repr(C)]
-#[derive(Clone, Copy, Debug, PartialEq, Eq)]
+#[derive(Clone, Copy)]
 pub struct FramesFrame {
     pub columns: [u64; 17],
     /// Column 16 is the address of the frame's instruction, and not one to which a call returns.
@@ -62,26 +63,6 @@ impl FramesFrame {
     }
 }
 
-/// Makes of a frame the one before it.
-fn step_in<M: WordSource>(section: &LoadedSection, memory: &M, frame: &mut FramesFrame) -> u64
-    ensures { AnswersStep section.now (M.regions memory.now) frame.old result frame.new }
-{
-    let look = frame.look();
-    if section.claim_at(look).is_some() {
-        return 5;
-    }
-    match section.fde_at(look) {
-        None => 1,
-        Some(fde) => {
-            let regs = Regs {
-                columns: frame.columns,
-            };
-            let outcome = step(&fde, look, &regs, memory);
-            frame.take(outcome, fde.signal())
-        }
-    }
-}
-
 /// Makes of a frame the one before it, by what tells the rows of a section.
 pub(crate) fn step_by<S: RowSource, M: WordSource>(
     section: &LoadedSection,
@@ -103,6 +84,24 @@ pub(crate) fn step_by<S: RowSource, M: WordSource>(
         None => 1,
         Some(found) => frame.take(found.outcome, found.signal),
     }
+}
+
+/// The same by a section.
+fn step_by_section<M: WordSource>(
+    section: &LoadedSection,
+    memory: &M,
+    frame: &mut FramesFrame,
+) -> u64
+    ensures { AnswersStep section.now (M.regions memory.now) frame.old result frame.new }
+{
+    step_by(section, section, memory, frame)
+}
+
+/// The same by a row table.
+fn step_by_rows<M: WordSource>(rows: &RowsOfSection, memory: &M, frame: &mut FramesFrame) -> u64
+    ensures { AnswersStep rows.now (M.regions memory.now) frame.old result frame.new }
+{
+    step_by(rows.loaded(), &rows.rows(), memory, frame)
 }
 
 /// Makes of a frame the one before it, by the section and the recorded memory. What came of it: 0
@@ -129,7 +128,7 @@ pub extern "C" fn frames_c_step(
 {
     let share = section.open(alloc);
     let recorded = memory.open(alloc);
-    let outcome = step_in(share.get(), &*recorded, frame);
+    let outcome = step_by_section(share.get(), &*recorded, frame);
     *memory_back = MemoryHandle::of(recorded);
     *back = SectionHandle::of(share);
     outcome
@@ -157,7 +156,7 @@ pub extern "C" fn frames_c_step_lent(
         address,
         bytes: stack,
     };
-    let outcome = step_in(share.get(), &lent, frame);
+    let outcome = step_by_section(share.get(), &lent, frame);
     *back = SectionHandle::of(share);
     outcome
 }
@@ -183,7 +182,7 @@ pub extern "C" fn frames_c_row_table_step(
 {
     let share = table.open(alloc);
     let recorded = memory.open(alloc);
-    let outcome = step_by(share.get().loaded(), &share.get().rows(), &*recorded, frame);
+    let outcome = step_by_rows(share.get(), &*recorded, frame);
     *memory_back = MemoryHandle::of(recorded);
     *back = RowTableHandle::of(share);
     outcome
@@ -210,7 +209,7 @@ pub extern "C" fn frames_c_row_table_step_lent(
         address,
         bytes: stack,
     };
-    let outcome = step_by(share.get().loaded(), &share.get().rows(), &lent, frame);
+    let outcome = step_by_rows(share.get(), &lent, frame);
     *back = RowTableHandle::of(share);
     outcome
 }
@@ -230,6 +229,24 @@ fn step_told<S: RowSource>(
     told_words_serve();
     asks_anew();
     step_by(section, source, told, frame)
+}
+
+/// The same by a section.
+fn step_section_told(section: &LoadedSection, told: &ToldMemory<'_>, frame: &mut FramesFrame) -> u64
+    ensures step { AnswersStep section.now (told_in told.now) frame.old result frame.new }
+    ensures serves { ServesMemory section.now (told_in told.now) frame.old result frame.new }
+    ensures anew { result ≡ 4 → word_at frame.new.missing (told_in told.now) ≡ None }
+{
+    step_told(section, section, told, frame)
+}
+
+/// The same by a row table.
+fn step_rows_told(rows: &RowsOfSection, told: &ToldMemory<'_>, frame: &mut FramesFrame) -> u64
+    ensures step { AnswersStep rows.now (told_in told.now) frame.old result frame.new }
+    ensures serves { ServesMemory rows.now (told_in told.now) frame.old result frame.new }
+    ensures anew { result ≡ 4 → word_at frame.new.missing (told_in told.now) ≡ None }
+{
+    step_told(rows.loaded(), &rows.rows(), told, frame)
 }
 
 /// Makes of a frame the one before it, as `frames_c_step` does, by what was told of a memory: bytes
@@ -262,7 +279,7 @@ pub extern "C" fn frames_c_step_asking(
         bytes: stack,
     };
     let told = ToldMemory { lent, words };
-    let outcome = step_told(share.get(), share.get(), &told, frame);
+    let outcome = step_section_told(share.get(), &told, frame);
     *back = SectionHandle::of(share);
     outcome
 }
@@ -294,7 +311,7 @@ pub extern "C" fn frames_c_row_table_step_asking(
         bytes: stack,
     };
     let told = ToldMemory { lent, words };
-    let outcome = step_told(share.get().loaded(), &share.get().rows(), &told, frame);
+    let outcome = step_rows_told(share.get(), &told, frame);
     *back = RowTableHandle::of(share);
     outcome
 }

@@ -16,7 +16,7 @@ use std::alloc::Global;
 
 /// The addresses that an FDE covers, and the place of its first byte among those of the section.
 #[repr(C)]
-#[derive(Clone, Copy, Debug, PartialEq, Eq)]
+#[derive(Clone, Copy)]
 pub struct FramesEntry {
     pub first: u64,
     pub range: u64,

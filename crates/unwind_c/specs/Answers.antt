@@ -20,8 +20,8 @@ use Rattle.unwind_c.specs.Kinds.{SECTION_DONE, SECTION_REFUSED, SECTION_FAR, SEC
 use Rattle.unwind_c.specs.Kinds.{SECTION_NO_MEMORY, SECTION_OVERLAP, SECTION_FULL, SECTION_STUCK}
 use Rattle.unwind_c.specs.Kinds.{SECTION_UNKNOWN, SECTION_LEFT, SECTION_INTO_STUCK}
 use Rattle.unwind_c.specs.Reach.{section_reach}
-use Rattle.unwind_c.specs.declared.reach.Reach.{Reach}
-use Rattle.unwind_c.specs.declared.sections.Placed.{Placed}
+use Rattle.unwind_c.specs.declared.reach.AddressReach.{AddressReach}
+use Rattle.unwind_c.specs.declared.outcome.SectionOutcome.{SectionOutcome}
 use Rattle.unwind_c.specs.declared.told.UnwindTold.{UnwindTold}
 
 -- no bytes were refused
@@ -93,7 +93,7 @@ fault_told fault = refused_told fault
 -- Bytes at an address were read: what they are was registered, and has these addresses; or they
 -- weren't read, and the writer is as it was.
 abbrev pub RegistersBytes : ℕ → ℕ → ℕ → List ℕ → FdeWriterData → FdeWriterData
-    → Result Placed LoadFault → Type 0
+    → Result SectionOutcome LoadFault → Type 0
 RegistersBytes key note address bytes u u' (Ok placed) = (s : SectionData)
     × IsLoaded address bytes s × IsRegistration key note s u u' placed.answer
     × (placed.reach ≡ section_reach s)
@@ -101,14 +101,14 @@ RegistersBytes key note address bytes u u' (Err fault) =
     IsLoadFault address bytes fault × (u' ≡ u)
 
 -- of a section that stands, with its addresses
-abbrev pub placed_told : Registration → Reach → UnwindTold
+abbrev pub placed_told : Registration → AddressReach → UnwindTold
 placed_told (registration.Done numbers) reach = record (kind_told_with SECTION_DONE numbers 0) {
   lowest = reach.lowest;
   end = reach.end;
 }
 placed_told answer reach = registration_told answer
 
-abbrev pub bytes_told : Result Placed LoadFault → UnwindTold
+abbrev pub bytes_told : Result SectionOutcome LoadFault → UnwindTold
 bytes_told (Ok placed) = placed_told placed.answer placed.reach
 bytes_told (Err fault) = fault_told fault
 

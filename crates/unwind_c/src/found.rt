@@ -10,7 +10,7 @@ use reg_model::{Again, Half, Span};
 /// The FDE that covers an address: in which half it was found, at which stamp, the addresses of its
 /// range, and its own address; or that there is none, each half at its stamp. What isn't told is 0.
 #[repr(C)]
-#[derive(Clone, Copy, Debug, PartialEq, Eq)]
+#[derive(Clone, Copy)]
 pub struct UnwindFound {
     pub kind: u32,
     pub registered: u32,

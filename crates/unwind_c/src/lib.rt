@@ -11,6 +11,7 @@ mod handles;
 mod keys;
 mod kinds;
 mod limits;
+mod outcome;
 mod ranges;
 mod reach;
 mod readers;

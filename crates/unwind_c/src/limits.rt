@@ -5,7 +5,7 @@ use c_handle::SizeFault;
 /// How many nodes its tree has, how many ranges may stand in the loaded half at a time, and from
 /// where distances from code to FDEs are counted.
 #[repr(C)]
-#[derive(Clone, Copy, Debug, PartialEq, Eq)]
+#[derive(Clone, Copy)]
 pub struct UnwindLimits {
     pub nodes: u32,
     pub loads: u32,
@@ -13,7 +13,7 @@ pub struct UnwindLimits {
 }
 
 /// Why a library isn't made.
-#[derive(Clone, Copy, Debug, PartialEq, Eq)]
+#[derive(Clone, Copy)]
 pub enum NewFault {
     NoMemory,
     Size(SizeFault),

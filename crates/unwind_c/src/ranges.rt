@@ -7,7 +7,7 @@ ghost use Rattle.unwind_c.specs.Ranges.{AreSearchable, IsInRange, IsInRangeAt, I
 /// The `size` addresses from `first` on, what stands there as the program knows it, and the address
 /// after all that this range has and those before it.
 #[repr(C)]
-#[derive(Clone, Copy, Debug, PartialEq, Eq)]
+#[derive(Clone, Copy)]
 pub struct UnwindRange {
     pub at: u64,
     pub first: u64,

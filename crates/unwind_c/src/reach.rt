@@ -7,40 +7,40 @@ use frame_parse::{Fde, Section};
 
 /// The least address of ranges, and the one after the greatest, modulo 2^64. Of no ranges the
 /// greatest number and 0, between which no address is.
-#[derive(Clone, Copy, Debug, PartialEq, Eq)]
-pub struct Reach {
+#[derive(Clone, Copy)]
+pub struct AddressReach {
     pub lowest: u64,
     pub end: u64,
 }
 
-impl Reach {
-    fn none() -> Reach
+impl AddressReach {
+    fn none() -> AddressReach
         ensures { result ≡ no_reach }
     {
-        Reach {
+        AddressReach {
             lowest: u64::MAX,
             end: 0,
         }
     }
 
     /// This one and that of an FDE, where it has addresses.
-    fn with(self, fde: &Fde<'_>) -> Reach
+    fn with(self, fde: &Fde<'_>) -> AddressReach
         ensures { result ≡ reach_with self fde.now.entry }
     {
         if !(0 < fde.first() && 0 < fde.range()) {
             return self;
         }
-        Reach {
+        AddressReach {
             lowest: self.lowest.min(fde.first()),
             end: self.end.max(fde.first().wrapping_add(fde.range())),
         }
     }
 
     /// That of a section.
-    pub(crate) fn of(section: &Section) -> Reach
+    pub(crate) fn of(section: &Section) -> AddressReach
         ensures { result ≡ section_reach section.now }
     {
-        let mut reach = Reach::none();
+        let mut reach = AddressReach::none();
         for index in 0..section.count() {
             reach = reach.with(&section.fde(index));
         }

@@ -7,7 +7,8 @@ ghost use Rattle.unwind_c.specs.Answers.{RegistersBytes, TellsMove, TellsSection
 ghost use Rattle.unwind_c.specs.Answers.{deregistration_told};
 
 use crate::handles::FdeWriterHandle;
-use crate::reach::Reach;
+use crate::outcome::SectionOutcome;
+use crate::reach::AddressReach;
 use crate::told::UnwindTold;
 use c_sections::{LoadFault, read_section};
 use fde_writer::{FdeWriter, Registration};
@@ -15,18 +16,11 @@ use std::alloc::Global;
 
 /// What C gives with a section's bytes: the key under which it is to stand, the program's own note,
 /// and where the bytes stand.
-#[derive(Clone, Copy, Debug, PartialEq, Eq)]
+#[derive(Clone, Copy)]
 struct Given {
     key: u64,
     note: u64,
     address: u64,
-}
-
-/// What became of a section, and which addresses its ranges have.
-#[derive(Clone, Copy, Debug, PartialEq, Eq)]
-pub struct Placed {
-    pub answer: Registration,
-    pub reach: Reach,
 }
 
 /// Registers the section of bytes.
@@ -35,7 +29,7 @@ fn register(
     alloc: Global,
     given: &Given,
     bytes: &[u8],
-) -> Result<Placed, LoadFault>
+) -> Result<SectionOutcome, LoadFault>
     ensures { RegistersBytes given.now.key given.now.note given.now.address bytes.now writer.old
         writer.new result }
 {
@@ -43,9 +37,9 @@ fn register(
         Ok(section) => section,
         Err(fault) => return Err(fault),
     };
-    let reach = Reach::of(&section);
+    let reach = AddressReach::of(&section);
     let answer = writer.register(given.key, given.note, &section);
-    Ok(Placed { answer, reach })
+    Ok(SectionOutcome { answer, reach })
 }
 
 /// Registers the section whose bytes stand at an address, all of its FDEs that have addresses or

@@ -5,7 +5,7 @@ ghost use Rattle.unwind_c.specs.Tables.{BeginsAfter, BeginsUpTo, IsEntryUpTo};
 
 /// Where code begins, and where its FDE stands. Both count from the table's header on.
 #[repr(C)]
-#[derive(Clone, Copy, Debug, PartialEq, Eq)]
+#[derive(Clone, Copy)]
 pub struct UnwindEntry {
     pub first: i32,
     pub fde: i32,

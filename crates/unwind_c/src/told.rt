@@ -11,8 +11,8 @@ use crate::kinds::{
     SECTION_DONE, SECTION_FAR, SECTION_FULL, SECTION_INTO_STUCK, SECTION_LEFT, SECTION_NO_MEMORY,
     SECTION_OVERLAP, SECTION_REFUSED, SECTION_SPENT, SECTION_STUCK, SECTION_UNKNOWN,
 };
-use crate::reach::Reach;
-use crate::sections::Placed;
+use crate::outcome::SectionOutcome;
+use crate::reach::AddressReach;
 use c_sections::{FramesRefusal, LoadFault};
 use fde_writer::{Deregistration, Moving, Numbers, Registration};
 use frame_parse::FrameFault;
@@ -22,7 +22,7 @@ use frame_parse::FrameFault;
 /// was registered, and the one after the greatest; and why bytes are refused. What isn't told is
 /// 0.
 #[repr(C)]
-#[derive(Clone, Copy, Debug, PartialEq, Eq)]
+#[derive(Clone, Copy)]
 pub struct UnwindTold {
     pub kind: u32,
     pub first_number: u32,
@@ -98,7 +98,7 @@ impl UnwindTold {
     }
 
     /// Of a section that has these addresses.
-    fn of_placed(answer: Registration, reach: Reach) -> UnwindTold
+    fn of_placed(answer: Registration, reach: AddressReach) -> UnwindTold
         ensures { result ≡ placed_told answer reach }
     {
         match answer {
@@ -112,7 +112,7 @@ impl UnwindTold {
         }
     }
 
-    pub(crate) fn of_bytes(answer: Result<Placed, LoadFault>) -> UnwindTold
+    pub(crate) fn of_bytes(answer: Result<SectionOutcome, LoadFault>) -> UnwindTold
         ensures { result ≡ bytes_told answer }
     {
         match answer {

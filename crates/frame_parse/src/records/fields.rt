@@ -29,7 +29,7 @@ fn field<T: Drop>(read: Result<T, ByteFault>) -> Result<T, RecordFault>
 }
 
 /// What was read at the front of a record, where the record's start is refused if it isn't whole.
-pub(super) fn at_front<T: Drop>(read: Result<T, ByteFault>, start: usize) -> Result<T, RecordFault>
+pub(crate) fn at_front<T: Drop>(read: Result<T, ByteFault>, start: usize) -> Result<T, RecordFault>
     ensures { result ≡ with_fault (λ _. RecordFault.Short start) read }
 {
     match read {

@@ -1,7 +1,7 @@
 use Rattle.std.proofs.Common.{◌∙◌, [], ap, sym}
 use Rattle.fde_writer.specs.Layers.{layered}
 use Rattle.fde_writer.specs.Standing.{bare_standing}
-use Rattle.fde_writer.proofs.stack.Stack.settle.Goals as goal
+use Rattle.fde_writer.proofs.stack.StandingStack.settle.Goals as goal
 
 pub only-requires : goal.only-requires
 only-requires c =

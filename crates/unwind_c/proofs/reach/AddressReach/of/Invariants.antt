@@ -1,6 +1,6 @@
 use Rattle.std.proofs.Common.{◌≡◌, drop}
 use Rattle.unwind_c.specs.Reach.{reach_of_more, section_reach}
-use Rattle.unwind_c.proofs.reach.Reach.of.Given as goal
+use Rattle.unwind_c.proofs.reach.AddressReach.of.Given as goal
 
 -- the FDEs that are left make of that so far what all make of none
 abbrev pub invariant-loop-index : goal.invariant-loop-index
