@@ -34,7 +34,7 @@ use Rattle.btree_lookup.specs.Loads.{after_looks, after_try, load_events, loaded
 use Rattle.btree_lookup.specs.Tries.{EndsAgain, EndsAtLeaf, TriesTree}
 use Rattle.btree_lookup.specs.Visits.{Agrees, IsEntry, Sees, SeesEntry, entry_member}
 use Rattle.btree_lookup.specs.Ways.{AreLed}
-use Rattle.btree_lookup.specs.declared.entry.Entry.{Entry}
+use Rattle.btree_lookup.specs.declared.entry.SeenEntry.{SeenEntry}
 use Rattle.btree_lookup.specs.declared.visit.Visit.{Visit}
 use Rattle.btree_lookup.proofs.Loading.{come_in_order, last_loaded, led_more, more, still_led, version_led}
 use Rattle.btree_lookup.proofs.Visiting.{agrees, still_found, told_again}
@@ -60,7 +60,7 @@ few_loads t pc k k' result h =
     let same : length (load_events k.log h.loaded) ≡ length h.loaded = length-map h.loaded (λ (w : LoadedWord). load_of k.log w.at w.value) in
     let few = h.few in omega (arith, is, sum, same, few)
 
-module _ (t : Terms) (pc : ℕ) (k : CallerData) (visit : Visit) (bottom : visit.level ≡ 0) (entry : Option Entry) (k1 : CallerData) (w : SeesEntry t pc k visit entry k1) (clock : ℕ) (k2 : CallerData)
+module _ (t : Terms) (pc : ℕ) (k : CallerData) (visit : Visit) (bottom : visit.level ≡ 0) (entry : Option SeenEntry) (k1 : CallerData) (w : SeesEntry t pc k visit entry k1) (clock : ℕ) (k2 : CallerData)
     (clocked : AfterClock t ask.Nothing clock k1.log k2.log) (rest : k2 ≡ record k1 { log = k2.log }) where
   abbrev s : Sees t pc k visit 13 k1
   s = w.sees

@@ -21,7 +21,7 @@ use Rattle.word_rule.specs.Sights.{loaded_word, place_of, place_under, sight_of}
 use Rattle.btree_lookup.specs.Loads.{after_looks, loaded_at, loaded_of}
 use Rattle.btree_lookup.specs.Ways.{AreLed, IsLed}
 use Rattle.btree_lookup.specs.declared.entry.Begun.{Begun}
-use Rattle.btree_lookup.specs.declared.entry.Entry.{Entry}
+use Rattle.btree_lookup.specs.declared.entry.SeenEntry.{SeenEntry}
 use Rattle.btree_lookup.specs.declared.visit.Visit.{Visit}
 
 -- the address is inside a place's fences
@@ -160,18 +160,18 @@ pub record SeesBegun (t : Terms) (pc : ℕ) (k : CallerData) (visit : Visit) (be
       → AreBegun pc begun words
 
 -- the member that an entry is, where it has a span and a payload of 32 bits
-abbrev pub entry_member : Entry → Member
+abbrev pub entry_member : SeenEntry → Member
 entry_member e = record {
   span = record { first = e.base; last = e.base + e.size - 1 };
   payload = e.payload;
 }
 
-abbrev pub IsEntry : Entry → Type 0
+abbrev pub IsEntry : SeenEntry → Type 0
 IsEntry e = (1 ≤ e.size) × (e.base + e.size ≤ TOP) × (e.payload < 2 ^ 32)
 
 -- Whatever node has the words that were loaded: it is a leaf whose fences hold the address, and
 -- this is its entry that contains the address.
-pub record SeesEntry (t : Terms) (pc : ℕ) (k : CallerData) (visit : Visit) (entry : Option Entry)
+pub record SeesEntry (t : Terms) (pc : ℕ) (k : CallerData) (visit : Visit) (entry : Option SeenEntry)
     (k' : CallerData) : Type 0 where
   pub sees : Sees t pc k visit 13 k'
   pub found : (shape : NodeData) → Agrees t sees.sight shape

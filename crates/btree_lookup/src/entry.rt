@@ -29,13 +29,13 @@ pub struct Begun {
 
 /// What the words of a leaf say of an entry.
 #[derive(Clone, Copy)]
-pub struct Entry {
+pub struct SeenEntry {
     pub base: u64,
     pub size: u64,
     pub payload: u64,
 }
 
-impl Entry {
+impl SeenEntry {
     /// The member that is meant. None where there is no such span or payload, as no leaf has it.
     pub fn member(self) -> Option<Member>
         ensures { IsEntry self → result ≡ Some (entry_member self) }
@@ -98,7 +98,7 @@ fn begun_at<L: Looker>(words: &Words, me: &mut L, visit: Visit, pc: u64) -> Begu
 
 /// The entry that contains the address: the last one that begins at or below it, where it is long
 /// enough.
-pub fn entry_at<L: Looker>(words: &Words, me: &mut L, visit: Visit, pc: u64) -> Option<Entry>
+pub fn entry_at<L: Looker>(words: &Words, me: &mut L, visit: Visit, pc: u64) -> Option<SeenEntry>
     requires table { (L.known me.old).table ≡ words.now.table }
     requires inside { visit.node < words.now.terms.nodes }
     ensures table { (L.known me.new).table ≡ (L.known me.old).table }
@@ -116,7 +116,7 @@ pub fn entry_at<L: Looker>(words: &Words, me: &mut L, visit: Visit, pc: u64) -> 
         return None;
     }
     let payload = me.load_node(words, visit.node, PAYLOAD + place);
-    Some(Entry {
+    Some(SeenEntry {
         base,
         size,
         payload,

@@ -6,14 +6,14 @@ ghost use Rattle.word_rule.specs.Callers.{IsAlone};
 ghost use Rattle.btree_lookup.specs.Tries.{TriesTree};
 ghost use Rattle.btree_lookup.specs.Visits.{IsEntry, Way, entry_member};
 
-use crate::entry::{self, Entry};
+use crate::entry::{self, SeenEntry};
 use crate::visit::{self, Visit};
 use reg_model::{Again, Found};
 use word_rule::places::{COUNT, updates_at};
 use word_rule::{Ask, Looker, Words};
 
 /// The answer at a stamp.
-fn answer(entry: Option<Entry>, stamp: u32) -> Found
+fn answer(entry: Option<SeenEntry>, stamp: u32) -> Found
     ensures stamp { stamp_of result ≡ stamp }
     ensures member { IfSome entry IsEntry
         → member_of result ≡ option_map entry_member entry }

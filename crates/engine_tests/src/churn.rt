@@ -2,7 +2,7 @@
 
 ghost use Rattle.std.specs.Prelude.{◌<◌, ◌≤◌};
 
-use crate::tree_changes::{Kind, kinds_of};
+use crate::tree_changes::{TreeChange, kinds_of};
 use reg_model::{Member, Span, Update};
 use std::alloc::Global;
 use std::test::Fail;
@@ -91,13 +91,13 @@ fn updates_of_rounds(alloc: Global) -> Result<Vec<Update>, Fail> {
 }
 
 /// Every way in which an update changes a tree's nodes.
-const KINDS: [Kind; 6] = [
-    Kind::Split,
-    Kind::Joined,
-    Kind::Shared,
-    Kind::Fence,
-    Kind::Lifted,
-    Kind::Sunk,
+const KINDS: [TreeChange; 6] = [
+    TreeChange::Split,
+    TreeChange::Joined,
+    TreeChange::Shared,
+    TreeChange::Fence,
+    TreeChange::Lifted,
+    TreeChange::Sunk,
 ];
 
 #[test]

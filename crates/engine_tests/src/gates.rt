@@ -18,11 +18,11 @@ struct Pass {
 
 /// Keeps its calls, in order.
 #[derive(Drop)]
-struct Notes {
+struct GateNotes {
     passes: Mutex<Vec<Pass>>,
 }
 
-impl Gate for Notes {
+impl Gate for GateNotes {
     fn pass<R: Wait>(&self, rt: &R, round: u32, thread: u32, event: u32, answer: Option<&Answer>) {
         let answered = match answer {
             Some(Answer::Find { pc, .. }) => Some(*pc),
@@ -120,12 +120,12 @@ fn by_thread(alloc: Global, passes: &[Pass]) -> Result<Vec<Pass>, Fail> {
 #[test]
 fn each_event_passes_twice(rt: HostRuntime) -> Result<(), Fail> {
     let alloc = rt.alloc();
-    let gate = Notes {
+    let gate = GateNotes {
         passes: Mutex::new(Vec::new(alloc)),
     };
     let (status, _) = run_text(&rt, alloc, "run", TWO_ROUNDS, &gate)?;
     assert!(rt; status == Status::Done);
-    let Notes { passes } = gate;
+    let GateNotes { passes } = gate;
     let passes = passes.into_inner();
     let wanted = wanted(alloc)?;
     assert!(rt; passes.len() == wanted.len());

@@ -64,7 +64,7 @@ fn root_level(nodes: &[Option<Look>]) -> u64 {
 
 /// What an update made of the nodes.
 #[derive(Clone, Copy, Debug, PartialEq, Eq)]
-pub enum Kind {
+pub enum TreeChange {
     Kept,
     Split,
     Joined,
@@ -77,27 +77,27 @@ pub enum Kind {
 /// The root was lifted or sunk where its level changed; else nodes were split or joined where there
 /// are more or fewer; else, where a fence is another, a registration moved it, and a removal shared
 /// two nodes.
-fn kind_of(update: &Update, before: &[Option<Look>], after: &[Option<Look>]) -> Kind {
+fn kind_of(update: &Update, before: &[Option<Look>], after: &[Option<Look>]) -> TreeChange {
     let (low, high) = (root_level(before), root_level(after));
     let (few, many) = (tree_nodes(before), tree_nodes(after));
     if high > low {
-        return Kind::Lifted;
+        return TreeChange::Lifted;
     }
     if high < low {
-        return Kind::Sunk;
+        return TreeChange::Sunk;
     }
     if many > few {
-        return Kind::Split;
+        return TreeChange::Split;
     }
     if many < few {
-        return Kind::Joined;
+        return TreeChange::Joined;
     }
     if before == after {
-        return Kind::Kept;
+        return TreeChange::Kept;
     }
     match update {
-        Update::Register { .. } => Kind::Fence,
-        _ => Kind::Shared,
+        Update::Register { .. } => TreeChange::Fence,
+        _ => TreeChange::Shared,
     }
 }
 
@@ -142,7 +142,11 @@ fn answers_alike<R: Wait>(
 }
 
 /// What each of the updates made of the nodes, one after another.
-pub fn kinds_of<R: Wait>(rt: &R, alloc: Global, updates: &[Update]) -> Result<Vec<Kind>, Fail> {
+pub fn kinds_of<R: Wait>(
+    rt: &R,
+    alloc: Global,
+    updates: &[Update],
+) -> Result<Vec<TreeChange>, Fail> {
     let (registry, mut me) = Registry::new(alloc, NODES, 1, PAYLOADS, Vec::new(alloc))?;
     kinds_in(rt, alloc, &registry, &mut me, updates)
 }
@@ -153,7 +157,7 @@ fn kinds_in<R: Wait>(
     registry: &Registry,
     me: &mut Caller,
     updates: &[Update],
-) -> Result<Vec<Kind>, Fail>
+) -> Result<Vec<TreeChange>, Fail>
     requires table { me.old.table ≡ registry.now.table }
     requires idle { IsIdle me.old.log }
     requires nodes { NODES ≤ registry.now.terms.nodes }

@@ -13,8 +13,8 @@ use Rattle.event_script.specs.Reasons.{LineText, Says, SaysSome, HasBadSection, 
 use Rattle.event_script.specs.Refusal.{whole_line, text_before, HasLineHere, MakeKnown, IsFirstBad, HasOneReading}
 use Rattle.event_script.specs.Reading.{◌>=>◌, section_or, image_added, last_fixed, is_above, accepts, region_added, is_named, has_room, added, after_line, at_end, BadLine, at_line, after_lines, outcome}
 use Rattle.event_script.specs.Fault.{Tells, FailsAt}
-use Rattle.event_script.specs.declared.reader.ScriptFault.{ScriptFault}
-use Rattle.event_script.specs.declared.reader.ScriptFault.TheVariants.{Bad, NoMemory}
+use Rattle.event_script.specs.declared.reader.fault.ScriptFault.{ScriptFault}
+use Rattle.event_script.specs.declared.reader.fault.ScriptFault.TheVariants.{Bad, NoMemory}
 use Rattle.script_text.specs.declared.reason.Reason.{Reason}
 use Rattle.script_text.specs.declared.reason.Reason.TheVariants as reason
 use Rattle.script_text.specs.declared.statement.Statement.{Statement}

@@ -2,8 +2,8 @@
 use Rattle.std.proofs.Common.{◌≡◌, ℕ, zero, suc, ◌+◌, ◌<◌, ◌≤◌, ◌≢◌, List, [], ◌∷◌, ◌++◌, length, get_or, take, drop, Result, Ok, Err, refl, sym, ap, ap₂, subst, ◌∙◌, append_assoc, append-nil, length-append, take-append-drop, take_all, arith}
 use Rattle.std.specs.List.{AllByRecursion}
 use Rattle.std.proofs.lemmas.List.{drop_more}
-use Rattle.event_script.specs.declared.reader.ScriptFault.{ScriptFault}
-use Rattle.event_script.specs.declared.reader.ScriptFault.TheVariants.{Bad, NoMemory}
+use Rattle.event_script.specs.declared.reader.fault.ScriptFault.{ScriptFault}
+use Rattle.event_script.specs.declared.reader.fault.ScriptFault.TheVariants.{Bad, NoMemory}
 use Rattle.event_script.specs.Fault.{FailsAt, IsOfScript}
 use Rattle.script_text.specs.Fields.{pieces}
 use Rattle.event_script.specs.Draft.{DraftData, nothing_known, with_statement}

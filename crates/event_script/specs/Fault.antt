@@ -1,7 +1,7 @@
 -- What the reader's faults say.
 use Rattle.std.specs.Prelude.{◌≡◌, List, ℕ, Result, Ok, Err}
-use Rattle.event_script.specs.declared.reader.ScriptFault.{ScriptFault}
-use Rattle.event_script.specs.declared.reader.ScriptFault.TheVariants.{Bad, NoMemory}
+use Rattle.event_script.specs.declared.reader.fault.ScriptFault.{ScriptFault}
+use Rattle.event_script.specs.declared.reader.fault.ScriptFault.TheVariants.{Bad, NoMemory}
 use Rattle.event_script.specs.Draft.{DraftData}
 use Rattle.event_script.specs.Refusal.{IsFirstBad}
 use Rattle.event_script.specs.Reading.{BadLine, IsOfBytes}

@@ -4,7 +4,7 @@ use Rattle.script_text.specs.Fields.{pieces}
 use Rattle.event_script.specs.Draft.{DraftData, nothing_known}
 use Rattle.event_script.specs.Refusal.{MakeKnown}
 use Rattle.event_script.specs.Fault.{Tells, IsOfScript}
-use Rattle.event_script.specs.declared.reader.ScriptFault.{ScriptFault}
+use Rattle.event_script.specs.declared.reader.fault.ScriptFault.{ScriptFault}
 
 -- what good lines make known, and the line that goes on: its number, and its bytes so far
 pub record LinesData : Type 0 where

@@ -18,18 +18,11 @@ mod statement;
 mod totals;
 
 use crate::reader::good_lines::GoodLines;
-use script_text::{Reason, Script};
+pub use fault::ScriptFault;
+use script_text::Script;
 use std::alloc::Global;
 use std::marker::Model;
 use std::mem::replace;
-
-/// Why bytes are not read as a script.
-#[derive(Clone, Copy, Debug, PartialEq, Eq)]
-pub enum ScriptFault {
-    /// The first bad line, numbered from 1, and the first reason that holds of it.
-    Bad { line: u32, reason: Reason },
-    NoMemory,
-}
 
 /// Reads a script whose bytes come in pieces. No more of them are kept than of the line that goes
 /// on. Behind a first bad line they are taken without being looked at.
@@ -41,7 +34,7 @@ pub struct ScriptReader {
 impl Model for ScriptReader {
     ghost use Rattle.std.specs.Prelude.{Result};
     ghost use Rattle.event_script.specs.Taken.{LinesData};
-    ghost use Rattle.event_script.specs.declared.reader.ScriptFault.{ScriptFault};
+    ghost use Rattle.event_script.specs.declared.reader.fault.ScriptFault.{ScriptFault};
 
     ghost Value = { Result LinesData ScriptFault };
 

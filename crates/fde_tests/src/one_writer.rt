@@ -21,7 +21,7 @@ fn code() -> Option<Member>
 
 // A call, and what it is to answer.
 #[derive(Clone, Copy)]
-enum Wanted {
+enum WantedFde {
     Registers(Inserted),
     Deregisters(Removed),
     Loads(Loading),
@@ -29,7 +29,7 @@ enum Wanted {
 }
 
 // Whether a call is answered so, of a member or of the one at its first address.
-fn answers(writer: &mut Writer, told: &Member, wanted: Wanted) -> bool
+fn answers(writer: &mut Writer, told: &Member, wanted: WantedFde) -> bool
     requires { told.now.payload < writer.old.words.terms.payloads }
     ensures { writer.new.words ≡ writer.old.words }
 {
@@ -38,10 +38,10 @@ fn answers(writer: &mut Writer, told: &Member, wanted: Wanted) -> bool
     }
     let base = told.span.first();
     match wanted {
-        Wanted::Registers(answer) => writer.register(*told) == Ok(answer),
-        Wanted::Deregisters(answer) => writer.deregister(base) == Ok(answer),
-        Wanted::Loads(answer) => writer.load(*told) == Ok(answer),
-        Wanted::Unloads(answer) => writer.unload(base) == Ok(answer),
+        WantedFde::Registers(answer) => writer.register(*told) == Ok(answer),
+        WantedFde::Deregisters(answer) => writer.deregister(base) == Ok(answer),
+        WantedFde::Loads(answer) => writer.load(*told) == Ok(answer),
+        WantedFde::Unloads(answer) => writer.unload(base) == Ok(answer),
     }
 }
 
@@ -68,14 +68,14 @@ fn comes(writer: &mut Writer, reader: &mut FdeReader, code: &Member) -> bool
     let registered = answers(
         writer,
         code,
-        Wanted::Registers(Inserted::Done { number: 1 }),
+        WantedFde::Registers(Inserted::Done { number: 1 }),
     );
     let overlap = Inserted::Overlap {
         member: *code,
         stamp: 1,
     };
-    let twice = answers(writer, code, Wanted::Registers(overlap));
-    let loaded = answers(writer, code, Wanted::Loads(Loading::Done { number: 2 }));
+    let twice = answers(writer, code, WantedFde::Registers(overlap));
+    let loaded = answers(writer, code, WantedFde::Loads(Loading::Done { number: 2 }));
     let found = reader.find(0x101f).ok() == hit(Half::Registered, 2, code);
     registered && twice && loaded && found
 }
@@ -91,14 +91,14 @@ fn goes(writer: &mut Writer, reader: &mut FdeReader, code: &Member) -> bool
             member: *code,
         }
     };
-    let deregistered = answers(writer, code, Wanted::Deregisters(done(3)));
+    let deregistered = answers(writer, code, WantedFde::Deregisters(done(3)));
     let absent = answers(
         writer,
         code,
-        Wanted::Deregisters(Removed::NotFound { stamp: 3 }),
+        WantedFde::Deregisters(Removed::NotFound { stamp: 3 }),
     );
     let loaded = reader.find(0x1000).ok() == hit(Half::Loaded, 3, code);
-    let unloaded = answers(writer, code, Wanted::Unloads(done(4)));
+    let unloaded = answers(writer, code, WantedFde::Unloads(done(4)));
     let nowhere = reader.find(0x1000).ok() == miss(4, 4);
     deregistered && absent && loaded && unloaded && nowhere
 }
@@ -123,13 +123,13 @@ fn readers_that_have_seen_it(rt: HostRuntime) -> Result<(), Fail> {
     let Some(code) = code() else {
         return Err(Fail::from("no span"));
     };
-    let came = Wanted::Registers(Inserted::Done { number: 1 });
+    let came = WantedFde::Registers(Inserted::Done { number: 1 });
     assert!(rt; answers(&mut writer, &code, came));
     let me = writer.reader();
     let mut first = FdeReader::of(writer.share()?, me, NEAR);
     assert!(rt; first.seen() == 1);
     let (number, member) = (2, code);
-    let went = Wanted::Deregisters(Removed::Done { number, member });
+    let went = WantedFde::Deregisters(Removed::Done { number, member });
     assert!(rt; answers(&mut writer, &code, went));
     assert!(rt; first.find(0x1000).ok() == miss(2, 2));
     let second = first.another()?;

@@ -11,7 +11,7 @@ use std::test::Fail;
 
 /// What is asked.
 #[derive(Clone, Copy)]
-enum Step {
+enum SectionStep {
     /// To register the section at an address under a key.
     Put(u64, u64),
     /// To give up the latest one under a key.
@@ -26,7 +26,7 @@ enum Step {
 
 /// What is answered.
 #[derive(Clone, Copy, PartialEq, Eq)]
-enum Told {
+enum ToldFde {
     Done,
     Far,
     Overlap,
@@ -64,57 +64,57 @@ fn begin(alloc: Global, nodes: u32, loads: u32) -> Result<Writers, Fail>
     })
 }
 
-fn put(alloc: Global, writer: &mut FdeWriter, key: u64, address: u64) -> Told {
+fn put(alloc: Global, writer: &mut FdeWriter, key: u64, address: u64) -> ToldFde {
     let section = match read_section(alloc, address, &TWO_FDES) {
         Ok(section) => section,
-        Err(_) => return Told::Other,
+        Err(_) => return ToldFde::Other,
     };
     match writer.register(key, address, &section) {
-        Registration::Done { .. } => Told::Done,
-        Registration::Far { .. } => Told::Far,
-        Registration::Overlap => Told::Overlap,
-        Registration::Full => Told::Full,
-        _ => Told::Other,
+        Registration::Done { .. } => ToldFde::Done,
+        Registration::Far { .. } => ToldFde::Far,
+        Registration::Overlap => ToldFde::Overlap,
+        Registration::Full => ToldFde::Full,
+        _ => ToldFde::Other,
     }
 }
 
-fn take(writer: &mut FdeWriter, key: u64) -> Told {
+fn take(writer: &mut FdeWriter, key: u64) -> ToldFde {
     match writer.deregister(key) {
-        Deregistration::Done { .. } => Told::Done,
-        Deregistration::Unknown => Told::Unknown,
-        Deregistration::Stuck => Told::Other,
+        Deregistration::Done { .. } => ToldFde::Done,
+        Deregistration::Unknown => ToldFde::Unknown,
+        Deregistration::Stuck => ToldFde::Other,
     }
 }
 
-fn find(reader: &mut FdeReader, pc: u64) -> Told {
+fn find(reader: &mut FdeReader, pc: u64) -> ToldFde {
     match reader.find(pc) {
-        Ok(FdeFound::Hit { fde, .. }) => Told::At(fde),
-        Ok(FdeFound::Miss { .. }) => Told::Nowhere,
-        Err(_) => Told::Other,
+        Ok(FdeFound::Hit { fde, .. }) => ToldFde::At(fde),
+        Ok(FdeFound::Miss { .. }) => ToldFde::Nowhere,
+        Err(_) => ToldFde::Other,
     }
 }
 
-fn carry(writer: &mut FdeWriter, there: &mut FdeWriter, key: u64) -> Told {
+fn carry(writer: &mut FdeWriter, there: &mut FdeWriter, key: u64) -> ToldFde {
     match writer.move_to(there, key) {
-        Moving::Done { .. } => Told::Done,
-        Moving::Refused { .. } => Told::Refused,
-        Moving::Unknown => Told::Unknown,
-        _ => Told::Other,
+        Moving::Done { .. } => ToldFde::Done,
+        Moving::Refused { .. } => ToldFde::Refused,
+        Moving::Unknown => ToldFde::Unknown,
+        _ => ToldFde::Other,
     }
 }
 
-fn play(alloc: Global, at: &mut Writers, step: Step) -> Told {
+fn play(alloc: Global, at: &mut Writers, step: SectionStep) -> ToldFde {
     match step {
-        Step::Put(key, address) => put(alloc, &mut at.writer, key, address),
-        Step::Take(key) => take(&mut at.writer, key),
-        Step::Move(key) => carry(&mut at.writer, &mut at.there, key),
-        Step::Find(pc) => find(&mut at.reader, pc),
-        Step::FindThere(pc) => find(&mut at.reader_there, pc),
+        SectionStep::Put(key, address) => put(alloc, &mut at.writer, key, address),
+        SectionStep::Take(key) => take(&mut at.writer, key),
+        SectionStep::Move(key) => carry(&mut at.writer, &mut at.there, key),
+        SectionStep::Find(pc) => find(&mut at.reader, pc),
+        SectionStep::FindThere(pc) => find(&mut at.reader_there, pc),
     }
 }
 
 /// The number of the first step that is answered otherwise, or how many there are.
-fn first_wrong(alloc: Global, at: &mut Writers, steps: &[(Step, Told)]) -> usize {
+fn first_wrong(alloc: Global, at: &mut Writers, steps: &[(SectionStep, ToldFde)]) -> usize {
     let mut number = 0;
     for (step, told) in steps {
         if play(alloc, at, *step) != *told {
@@ -129,23 +129,23 @@ fn first_wrong(alloc: Global, at: &mut Writers, steps: &[(Step, Told)]) -> usize
 fn keys_that_stand(rt: HostRuntime) -> Result<(), Fail> {
     let mut at = begin(rt.alloc(), 16, 8)?;
     let steps = [
-        (Step::Take(1), Told::Unknown),
-        (Step::Put(1, 0x2000), Told::Done),
-        (Step::Find(0x101f), Told::At(0x2018)),
-        (Step::Find(0x1020), Told::At(0x2038)),
-        (Step::Find(0x1030), Told::Nowhere),
-        (Step::Put(1, 0x3000), Told::Done),
-        (Step::Put(1, 0x4000), Told::Done),
-        (Step::Take(1), Told::Done),
-        (Step::Find(0x3000), Told::Nowhere),
-        (Step::Find(0x2000), Told::At(0x3018)),
-        (Step::Take(1), Told::Done),
-        (Step::Find(0x2000), Told::Nowhere),
-        (Step::Find(0x1000), Told::At(0x2018)),
-        (Step::Take(2), Told::Unknown),
-        (Step::Take(1), Told::Done),
-        (Step::Take(1), Told::Unknown),
-        (Step::Find(0x1000), Told::Nowhere),
+        (SectionStep::Take(1), ToldFde::Unknown),
+        (SectionStep::Put(1, 0x2000), ToldFde::Done),
+        (SectionStep::Find(0x101f), ToldFde::At(0x2018)),
+        (SectionStep::Find(0x1020), ToldFde::At(0x2038)),
+        (SectionStep::Find(0x1030), ToldFde::Nowhere),
+        (SectionStep::Put(1, 0x3000), ToldFde::Done),
+        (SectionStep::Put(1, 0x4000), ToldFde::Done),
+        (SectionStep::Take(1), ToldFde::Done),
+        (SectionStep::Find(0x3000), ToldFde::Nowhere),
+        (SectionStep::Find(0x2000), ToldFde::At(0x3018)),
+        (SectionStep::Take(1), ToldFde::Done),
+        (SectionStep::Find(0x2000), ToldFde::Nowhere),
+        (SectionStep::Find(0x1000), ToldFde::At(0x2018)),
+        (SectionStep::Take(2), ToldFde::Unknown),
+        (SectionStep::Take(1), ToldFde::Done),
+        (SectionStep::Take(1), ToldFde::Unknown),
+        (SectionStep::Find(0x1000), ToldFde::Nowhere),
     ];
     assert_eq!(rt; first_wrong(rt.alloc(), &mut at, &steps), 17);
     assert_eq!(rt; at.writer.due(), 0);
@@ -156,17 +156,17 @@ fn keys_that_stand(rt: HostRuntime) -> Result<(), Fail> {
 fn identical_and_crossing_ones(rt: HostRuntime) -> Result<(), Fail> {
     let mut at = begin(rt.alloc(), 16, 8)?;
     let steps = [
-        (Step::Put(1, 0x2000), Told::Done),
-        (Step::Put(2, 0x2000), Told::Done),
-        (Step::Take(1), Told::Done),
-        (Step::Find(0x1000), Told::At(0x2018)),
-        (Step::Put(3, 0x2010), Told::Done),
-        (Step::Find(0x1030), Told::At(0x2048)),
-        (Step::Take(2), Told::Done),
-        (Step::Find(0x1000), Told::Nowhere),
-        (Step::Find(0x1010), Told::At(0x2028)),
-        (Step::Take(3), Told::Done),
-        (Step::Find(0x1010), Told::Nowhere),
+        (SectionStep::Put(1, 0x2000), ToldFde::Done),
+        (SectionStep::Put(2, 0x2000), ToldFde::Done),
+        (SectionStep::Take(1), ToldFde::Done),
+        (SectionStep::Find(0x1000), ToldFde::At(0x2018)),
+        (SectionStep::Put(3, 0x2010), ToldFde::Done),
+        (SectionStep::Find(0x1030), ToldFde::At(0x2048)),
+        (SectionStep::Take(2), ToldFde::Done),
+        (SectionStep::Find(0x1000), ToldFde::Nowhere),
+        (SectionStep::Find(0x1010), ToldFde::At(0x2028)),
+        (SectionStep::Take(3), ToldFde::Done),
+        (SectionStep::Find(0x1010), ToldFde::Nowhere),
     ];
     assert_eq!(rt; first_wrong(rt.alloc(), &mut at, &steps), 11);
     Ok(())
@@ -177,15 +177,15 @@ fn identical_and_crossing_ones(rt: HostRuntime) -> Result<(), Fail> {
 fn an_fde_at_0_is_left_out(rt: HostRuntime) -> Result<(), Fail> {
     let mut at = begin(rt.alloc(), 4, 1)?;
     let steps = [
-        (Step::Put(1, 0x1000), Told::Done),
-        (Step::Find(0), Told::Nowhere),
-        (Step::Find(0x1f), Told::Nowhere),
-        (Step::Find(0x20), Told::At(0x1038)),
-        (Step::Put(1, 0x1000), Told::Done),
-        (Step::Take(1), Told::Done),
-        (Step::Find(0x2f), Told::At(0x1038)),
-        (Step::Take(1), Told::Done),
-        (Step::Find(0x20), Told::Nowhere),
+        (SectionStep::Put(1, 0x1000), ToldFde::Done),
+        (SectionStep::Find(0), ToldFde::Nowhere),
+        (SectionStep::Find(0x1f), ToldFde::Nowhere),
+        (SectionStep::Find(0x20), ToldFde::At(0x1038)),
+        (SectionStep::Put(1, 0x1000), ToldFde::Done),
+        (SectionStep::Take(1), ToldFde::Done),
+        (SectionStep::Find(0x2f), ToldFde::At(0x1038)),
+        (SectionStep::Take(1), ToldFde::Done),
+        (SectionStep::Find(0x20), ToldFde::Nowhere),
     ];
     assert_eq!(rt; first_wrong(rt.alloc(), &mut at, &steps), 9);
     Ok(())
@@ -196,14 +196,14 @@ fn an_fde_at_0_is_left_out(rt: HostRuntime) -> Result<(), Fail> {
 fn all_or_nothing(rt: HostRuntime) -> Result<(), Fail> {
     let mut at = begin(rt.alloc(), 16, 1)?;
     let steps = [
-        (Step::Put(1, 0x2000), Told::Done),
-        (Step::Put(2, 0x2000), Told::Overlap),
-        (Step::Take(2), Told::Unknown),
-        (Step::Put(3, 0x2020), Told::Done),
-        (Step::Take(1), Told::Done),
-        (Step::Find(0x1000), Told::Nowhere),
-        (Step::Find(0x1020), Told::At(0x2038)),
-        (Step::Find(0x1040), Told::At(0x2058)),
+        (SectionStep::Put(1, 0x2000), ToldFde::Done),
+        (SectionStep::Put(2, 0x2000), ToldFde::Overlap),
+        (SectionStep::Take(2), ToldFde::Unknown),
+        (SectionStep::Put(3, 0x2020), ToldFde::Done),
+        (SectionStep::Take(1), ToldFde::Done),
+        (SectionStep::Find(0x1000), ToldFde::Nowhere),
+        (SectionStep::Find(0x1020), ToldFde::At(0x2038)),
+        (SectionStep::Find(0x1040), ToldFde::At(0x2058)),
     ];
     assert_eq!(rt; first_wrong(rt.alloc(), &mut at, &steps), 8);
     assert_eq!(rt; at.writer.due(), 2);
@@ -215,20 +215,20 @@ fn all_or_nothing(rt: HostRuntime) -> Result<(), Fail> {
 fn moved_whole_or_not_at_all(rt: HostRuntime) -> Result<(), Fail> {
     let mut at = begin(rt.alloc(), 16, 8)?;
     let steps = [
-        (Step::Move(1), Told::Unknown),
-        (Step::Put(1, 0x2000), Told::Done),
-        (Step::Put(1, 0x2000), Told::Done),
-        (Step::Put(1, 0x2000), Told::Overlap),
-        (Step::Move(1), Told::Done),
-        (Step::FindThere(0x1000), Told::At(0x2018)),
-        (Step::Move(1), Told::Done),
-        (Step::Put(1, 0x2000), Told::Done),
-        (Step::Move(1), Told::Refused),
-        (Step::FindThere(0x1020), Told::At(0x2038)),
-        (Step::Find(0x1020), Told::At(0x2038)),
-        (Step::Take(1), Told::Done),
-        (Step::Find(0x1020), Told::Nowhere),
-        (Step::Move(1), Told::Unknown),
+        (SectionStep::Move(1), ToldFde::Unknown),
+        (SectionStep::Put(1, 0x2000), ToldFde::Done),
+        (SectionStep::Put(1, 0x2000), ToldFde::Done),
+        (SectionStep::Put(1, 0x2000), ToldFde::Overlap),
+        (SectionStep::Move(1), ToldFde::Done),
+        (SectionStep::FindThere(0x1000), ToldFde::At(0x2018)),
+        (SectionStep::Move(1), ToldFde::Done),
+        (SectionStep::Put(1, 0x2000), ToldFde::Done),
+        (SectionStep::Move(1), ToldFde::Refused),
+        (SectionStep::FindThere(0x1020), ToldFde::At(0x2038)),
+        (SectionStep::Find(0x1020), ToldFde::At(0x2038)),
+        (SectionStep::Take(1), ToldFde::Done),
+        (SectionStep::Find(0x1020), ToldFde::Nowhere),
+        (SectionStep::Move(1), ToldFde::Unknown),
     ];
     assert_eq!(rt; first_wrong(rt.alloc(), &mut at, &steps), 14);
     Ok(())

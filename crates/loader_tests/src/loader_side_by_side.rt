@@ -27,7 +27,7 @@ const LOADS: u32 = 6;
 const MOST: u32 = 10_000;
 
 #[derive(Clone, Copy)]
-enum Event {
+enum LoaderEvent {
     Load { member: Member, answer: Loading },
     Unload { base: u64, answer: Removed },
     Look { pc: u64, found: Found },
@@ -89,7 +89,7 @@ fn one_turn<R: Wait>(
     me: &mut Caller,
     waits: bool,
     turn: u32,
-) -> Option<Event>
+) -> Option<LoaderEvent>
     requires table { me.old.table ≡ words.now.table }
     requires free { me.old.log.loader ≡ None }
     requires payloads { 11 ≤ words.now.terms.payloads }
@@ -105,11 +105,11 @@ fn one_turn<R: Wait>(
         } else {
             load_by_tries(words, me, &member)?
         };
-        return Some(Event::Load { member, answer });
+        return Some(LoaderEvent::Load { member, answer });
     }
     if turn % 3 == 1 {
         let found = look(words, me, base)?;
-        return Some(Event::Look { pc: base, found });
+        return Some(LoaderEvent::Look { pc: base, found });
     }
     let base = 0x1000 + 0x40 * ((place + 5) % PLACES) as u64;
     let answer = if waits {
@@ -117,7 +117,7 @@ fn one_turn<R: Wait>(
     } else {
         unload_by_tries(words, me, base)?
     };
-    Some(Event::Unload { base, answer })
+    Some(LoaderEvent::Unload { base, answer })
 }
 
 fn play<R: Wait>(
@@ -126,7 +126,7 @@ fn play<R: Wait>(
     words: &Words,
     mut me: Caller,
     waits: bool,
-) -> Option<(Caller, Vec<Event>)>
+) -> Option<(Caller, Vec<LoaderEvent>)>
     requires table { me.table ≡ words.now.table }
     requires free { me.log.loader ≡ None }
     requires payloads { 11 ≤ words.now.terms.payloads }
@@ -148,7 +148,10 @@ fn both<R: Threads + Wait + Sync>(
     words: &Words,
     a: Caller,
     b: Caller,
-) -> (Option<(Caller, Vec<Event>)>, Option<(Caller, Vec<Event>)>)
+) -> (
+    Option<(Caller, Vec<LoaderEvent>)>,
+    Option<(Caller, Vec<LoaderEvent>)>,
+)
     requires tables { (a.table ≡ words.now.table) × (b.table ≡ words.now.table) }
     requires free { (a.log.loader ≡ None) × (b.log.loader ≡ None) }
     requires payloads { 11 ≤ words.now.terms.payloads }
@@ -156,12 +159,12 @@ fn both<R: Threads + Wait + Sync>(
 {
     join(
         rt,
-        || -> Option<(Caller, Vec<Event>)>
+        || -> Option<(Caller, Vec<LoaderEvent>)>
             requires { (a.table ≡ words.now.table) × (a.log.loader ≡ None)
                 × (11 ≤ words.now.terms.payloads) }
             ensures { IfSome result (λ r. IsFreeAgain a r.0) }
         { play(rt, alloc, words, a, true) },
-        || -> Option<(Caller, Vec<Event>)>
+        || -> Option<(Caller, Vec<LoaderEvent>)>
             requires { (b.table ≡ words.now.table) × (b.log.loader ≡ None)
                 × (11 ≤ words.now.terms.payloads) }
             ensures { IfSome result (λ r. IsFreeAgain b r.0) }
@@ -170,20 +173,20 @@ fn both<R: Threads + Wait + Sync>(
 }
 
 // The number of an accepted update, or the stamp of another answer.
-fn moment(event: &Event) -> Option<(u32, bool)> {
+fn moment(event: &LoaderEvent) -> Option<(u32, bool)> {
     match event {
-        Event::Load { answer, .. } => match answer {
+        LoaderEvent::Load { answer, .. } => match answer {
             Loading::Done { number } => Some((*number, true)),
             Loading::Overlap { stamp, .. } => Some((*stamp, false)),
             Loading::LoadFull { stamp } => Some((*stamp, false)),
             Loading::Spent => None,
         },
-        Event::Unload { answer, .. } => match answer {
+        LoaderEvent::Unload { answer, .. } => match answer {
             Removed::Done { number, .. } => Some((*number, true)),
             Removed::NotFound { stamp } => Some((*stamp, false)),
             Removed::Spent => None,
         },
-        Event::Look { found, .. } => match found {
+        LoaderEvent::Look { found, .. } => match found {
             Found::Hit { stamp, .. } => Some((*stamp, false)),
             Found::Miss { stamp } => Some((*stamp, false)),
         },
@@ -191,7 +194,7 @@ fn moment(event: &Event) -> Option<(u32, bool)> {
 }
 
 // Whether moments never fall, and lie within so many updates.
-fn in_order(events: &[Event], last: u32) -> bool {
+fn in_order(events: &[LoaderEvent], last: u32) -> bool {
     let mut before = 0;
     for event in events {
         let Some((now, _)) = moment(event) else {
@@ -206,22 +209,22 @@ fn in_order(events: &[Event], last: u32) -> bool {
 }
 
 // Whether the plain registry answers the same.
-fn agrees(model: &mut PlainRegistry, event: &Event) -> bool {
+fn agrees(model: &mut PlainRegistry, event: &LoaderEvent) -> bool {
     if model.updates() > MOST {
         return false;
     }
     match event {
-        Event::Load { member, answer } => match model.load(*member) {
+        LoaderEvent::Load { member, answer } => match model.load(*member) {
             Ok(same) => same == *answer,
             Err(_) => false,
         },
-        Event::Unload { base, answer } => model.unload(*base) == *answer,
-        Event::Look { pc, found } => model.find(*pc).loaded == Some(*found),
+        LoaderEvent::Unload { base, answer } => model.unload(*base) == *answer,
+        LoaderEvent::Look { pc, found } => model.find(*pc).loaded == Some(*found),
     }
 }
 
 // Whether the plain registry agrees with all events of this moment, and how many there are.
-fn all_agree(model: &mut PlainRegistry, events: &[Event], now: (u32, bool)) -> Option<usize> {
+fn all_agree(model: &mut PlainRegistry, events: &[LoaderEvent], now: (u32, bool)) -> Option<usize> {
     let mut count = 0;
     for (index, event) in events.iter().enumerate() {
         if moment(event) == Some(now) {
@@ -236,7 +239,12 @@ fn all_agree(model: &mut PlainRegistry, events: &[Event], now: (u32, bool)) -> O
 
 // Makes the updates in the order of their numbers, each of which one event has, and asks all else
 // at its stamp.
-fn replay(model: &mut PlainRegistry, a: &[Event], b: &[Event], last: u32) -> Option<bool> {
+fn replay(
+    model: &mut PlainRegistry,
+    a: &[LoaderEvent],
+    b: &[LoaderEvent],
+    last: u32,
+) -> Option<bool> {
     for number in 0..MOST {
         if number > last {
             return Some(true);

@@ -48,7 +48,7 @@ pub(crate) fn root_held(alloc: Global) -> Option<(Words, Caller)>
 
 // What is found of a node that was written into the root for an address.
 #[derive(Clone, Copy, PartialEq, Eq)]
-struct Found {
+struct FoundSlot {
     level: u32,
     count: u64,
     slot: usize,
@@ -57,7 +57,7 @@ struct Found {
     high: u64,
 }
 
-fn find_in_root(words: &Words, me: &mut Caller, content: &Node, pc: u64) -> Found
+fn find_in_root(words: &Words, me: &mut Caller, content: &Node, pc: u64) -> FoundSlot
     requires table { me.old.table ≡ words.now.table }
     requires nodes { 0 < words.now.terms.nodes }
     requires may { MayStore 0 me.old.log }
@@ -70,7 +70,7 @@ fn find_in_root(words: &Words, me: &mut Caller, content: &Node, pc: u64) -> Foun
     let slot = slot_of(words, me, 0, &outline, pc);
     let pair = pair_of(words, me, 0, &outline, slot);
     let high = high_of(words, me, 0, &outline);
-    Found {
+    FoundSlot {
         level: outline.level(),
         count: outline.count(),
         slot,
@@ -86,7 +86,7 @@ fn a_held_node_is_outlined(rt: HostRuntime) {
         panic!(rt; "nobody holds it")
     };
     let found = find_in_root(&words, &mut a, &inner(), 0x1410);
-    let wanted = Found {
+    let wanted = FoundSlot {
         level: 1,
         count: 2,
         slot: 1,

@@ -4,7 +4,8 @@ ghost use Rattle.std.specs.Prelude.{◌≡◌, IsSomeAnd, length};
 ghost use Rattle.c_handle.specs.Handles.{HandsBack, LeadsNowhere, LeadsSomewhere};
 ghost use Rattle.registry_client.specs.Finds.{TellsFind, found_told, place_told};
 ghost use Rattle.registry_client.specs.Readers.{MakesAnother, MakesReader};
-ghost use Rattle.registry_client.specs.Readers.{ReaderAsksLoaded, ReaderAsksRegistered, ReaderFinds};
+ghost use Rattle.registry_client.specs.Readers.{ReaderAsksLoaded, ReaderAsksRegistered};
+ghost use Rattle.registry_client.specs.Readers.{ReaderFinds};
 
 use crate::handles::{ClientHandle, ReaderHandle};
 use registry_client::{Client, RegistryFound, RegistryPlace, RegistryReader};

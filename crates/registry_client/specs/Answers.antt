@@ -10,7 +10,8 @@ use Rattle.reg_model.specs.declared.answer.Replaced.{Replaced}
 use Rattle.reg_model.specs.declared.answer.Replaced.TheVariants as replaced
 use Rattle.reg_model.specs.declared.span.Member.{Member}
 use Rattle.registry_client.specs.Clients.{ClientData}
-use Rattle.registry_client.specs.Kinds.{DONE, OVERLAP, ABSENT, FULL, SPENT, BUSY, NO_MEMBER, NO_PAYLOAD}
+use Rattle.registry_client.specs.Kinds.{DONE, OVERLAP, ABSENT, FULL, SPENT, BUSY}
+use Rattle.registry_client.specs.Kinds.{NO_MEMBER, NO_PAYLOAD}
 use Rattle.registry_client.specs.Members.{member_told, no_member}
 use Rattle.registry_client.specs.declared.member.MemberFault.{MemberFault}
 use Rattle.registry_client.specs.declared.member.MemberFault.TheVariants.{Addresses, Payload}

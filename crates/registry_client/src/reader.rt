@@ -3,7 +3,8 @@
 
 ghost use Rattle.std.specs.Prelude.{◌≡◌, IfOk, length};
 ghost use Rattle.std.specs.Arc.{arc_value};
-ghost use Rattle.registry_client.specs.Readers.{ReaderAsksLoaded, ReaderAsksRegistered, ReaderFinds};
+ghost use Rattle.registry_client.specs.Readers.{ReaderAsksLoaded, ReaderAsksRegistered};
+ghost use Rattle.registry_client.specs.Readers.{ReaderFinds};
 ghost use Rattle.registry_client.specs.Readers.{reader_beside, reader_data};
 
 use crate::client::Client;

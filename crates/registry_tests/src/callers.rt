@@ -53,7 +53,7 @@ pub(crate) fn loaded(place: Place) -> Option<(u32, u32, u32)> {
 
 // An update call, and what it is to answer.
 #[derive(Clone, Copy)]
-pub(crate) enum Wanted {
+pub(crate) enum WantedAnswer {
     Registers(Inserted),
     Deregisters(Removed),
     Replaces(Replaced),
@@ -67,7 +67,7 @@ pub(crate) fn answers<R: Wait>(
     registry: &Registry,
     me: &mut Caller,
     told: &Member,
-    wanted: Wanted,
+    wanted: WantedAnswer,
 ) -> bool
     requires table { me.old.table ≡ registry.now.table }
     requires idle { IsIdle me.old.log }
@@ -77,11 +77,11 @@ pub(crate) fn answers<R: Wait>(
 {
     let base = told.span.first();
     match wanted {
-        Wanted::Registers(answer) => registry.register(rt, me, *told) == answer,
-        Wanted::Deregisters(answer) => registry.deregister(rt, me, base) == answer,
-        Wanted::Replaces(answer) => registry.replace(rt, me, *told) == answer,
-        Wanted::Loads(answer) => registry.load(rt, me, *told) == answer,
-        Wanted::Unloads(answer) => registry.unload(rt, me, base) == answer,
+        WantedAnswer::Registers(answer) => registry.register(rt, me, *told) == answer,
+        WantedAnswer::Deregisters(answer) => registry.deregister(rt, me, base) == answer,
+        WantedAnswer::Replaces(answer) => registry.replace(rt, me, *told) == answer,
+        WantedAnswer::Loads(answer) => registry.load(rt, me, *told) == answer,
+        WantedAnswer::Unloads(answer) => registry.unload(rt, me, base) == answer,
     }
 }
 
@@ -119,12 +119,12 @@ fn a_payload_is_exchanged_in_place(rt: HostRuntime) -> Result<(), Fail> {
     let Some(part) = member(0x1000, 0x20, 2) else {
         panic!(rt; "a span")
     };
-    let absent = Wanted::Replaces(Replaced::NotFound { stamp: 0 });
+    let absent = WantedAnswer::Replaces(Replaced::NotFound { stamp: 0 });
     assert!(rt; answers(&rt, &registry, &mut a, &old, absent));
-    let came = Wanted::Registers(Inserted::Done { number: 1 });
+    let came = WantedAnswer::Registers(Inserted::Done { number: 1 });
     assert!(rt; answers(&rt, &registry, &mut a, &old, came));
     let (number, payload) = (2, 0);
-    let done = Wanted::Replaces(Replaced::Done { number, payload });
+    let done = WantedAnswer::Replaces(Replaced::Done { number, payload });
     assert!(rt; answers(&rt, &registry, &mut a, &new, done));
     let hit = Found::Hit {
         member: new,
@@ -135,10 +135,10 @@ fn a_payload_is_exchanged_in_place(rt: HostRuntime) -> Result<(), Fail> {
         loaded: None,
     };
     assert!(rt; is_found(&rt, &registry, &mut a, 0x1010, found));
-    let shorter = Wanted::Replaces(Replaced::NotFound { stamp: 2 });
+    let shorter = WantedAnswer::Replaces(Replaced::NotFound { stamp: 2 });
     assert!(rt; answers(&rt, &registry, &mut a, &part, shorter));
     let (number, member) = (3, new);
-    let went = Wanted::Deregisters(Removed::Done { number, member });
+    let went = WantedAnswer::Deregisters(Removed::Done { number, member });
     assert!(rt; answers(&rt, &registry, &mut a, &new, went));
     Ok(())
 }

@@ -3,7 +3,9 @@
 ghost use Rattle.std.specs.Prelude.{◌≡◌, ◌<◌, None};
 ghost use Rattle.word_rule.specs.Callers.{IsIdle};
 
-use crate::callers::{Wanted, answers, is_found, loaded, member, nowhere, range, two_callers};
+use crate::callers::{
+    WantedAnswer, answers, is_found, loaded, member, nowhere, range, two_callers,
+};
 use reg_model::{Inserted, Loading, Member, Removed, Replaced};
 use registry_core::Registry;
 use std::sync::Wait;
@@ -21,7 +23,7 @@ fn loads_and_tells<R: Wait>(rt: &R, registry: &Registry, a: &mut Caller, b: &mut
     let Some(member) = range(0x1000) else {
         return false;
     };
-    let came = Wanted::Loads(Loading::Done { number: 1 });
+    let came = WantedAnswer::Loads(Loading::Done { number: 1 });
     if !answers(rt, registry, a, &member, came) {
         return false;
     }
@@ -42,12 +44,24 @@ fn knows_and_is_spent<R: Wait>(rt: &R, registry: &Registry, me: &mut Caller) -> 
     let Some(member) = range(0x1000) else {
         return false;
     };
-    let overlap = Wanted::Loads(Loading::Overlap { member, stamp: 1 });
+    let overlap = WantedAnswer::Loads(Loading::Overlap { member, stamp: 1 });
     is_loaded(rt, registry, me, 0x101f)
         && is_found(rt, registry, me, 0x1020, nowhere(1))
         && answers(rt, registry, me, &member, overlap)
-        && answers(rt, registry, me, &member, Wanted::Loads(Loading::Spent))
-        && answers(rt, registry, me, &member, Wanted::Unloads(Removed::Spent))
+        && answers(
+            rt,
+            registry,
+            me,
+            &member,
+            WantedAnswer::Loads(Loading::Spent),
+        )
+        && answers(
+            rt,
+            registry,
+            me,
+            &member,
+            WantedAnswer::Unloads(Removed::Spent),
+        )
 }
 
 // Where a caller finds an address: whether the loader's half has it in the first range.
@@ -86,11 +100,32 @@ fn is_spent<R: Wait>(rt: &R, registry: &Registry, me: &mut Caller, told: &Member
     ensures table { me.new.table ≡ me.old.table }
     ensures idle { IsIdle me.new.log }
 {
-    answers(rt, registry, me, told, Wanted::Registers(Inserted::Spent))
-        && answers(rt, registry, me, told, Wanted::Deregisters(Removed::Spent))
-        && answers(rt, registry, me, told, Wanted::Replaces(Replaced::Spent))
-        && answers(rt, registry, me, told, Wanted::Loads(Loading::Spent))
-        && answers(rt, registry, me, told, Wanted::Unloads(Removed::Spent))
+    answers(
+        rt,
+        registry,
+        me,
+        told,
+        WantedAnswer::Registers(Inserted::Spent),
+    ) && answers(
+        rt,
+        registry,
+        me,
+        told,
+        WantedAnswer::Deregisters(Removed::Spent),
+    ) && answers(
+        rt,
+        registry,
+        me,
+        told,
+        WantedAnswer::Replaces(Replaced::Spent),
+    ) && answers(rt, registry, me, told, WantedAnswer::Loads(Loading::Spent))
+        && answers(
+            rt,
+            registry,
+            me,
+            told,
+            WantedAnswer::Unloads(Removed::Spent),
+        )
 }
 
 #[test]
@@ -102,7 +137,7 @@ fn a_caller_with_nothing_is_spent(rt: HostRuntime) {
     let Some(member) = range(0x1000) else {
         panic!(rt; "a span")
     };
-    let came = Wanted::Registers(Inserted::Done { number: 1 });
+    let came = WantedAnswer::Registers(Inserted::Done { number: 1 });
     assert!(rt; answers(&rt, &registry, &mut a, &member, came));
     assert!(rt; is_spent(&rt, &registry, &mut b, &member));
     let Ok(()) = registry.words().join(&mut a, b) else {

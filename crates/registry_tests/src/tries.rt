@@ -16,7 +16,7 @@ const ROOT: LockId = LockId::Node { node: 0 };
 
 // An update call.
 #[derive(Clone, Copy)]
-enum Change {
+enum TriedChange {
     Register,
     Deregister,
     Replace,
@@ -35,7 +35,7 @@ fn takes(registry: &Registry, me: &mut Caller, lock: LockId, version: u64) -> bo
 }
 
 // Whether a try of a call that was begun finds its half's lock taken.
-fn is_busy(registry: &Registry, me: &mut Caller, change: Change) -> bool
+fn is_busy(registry: &Registry, me: &mut Caller, change: TriedChange) -> bool
     requires table { me.old.table ≡ registry.now.table }
     requires idle { IsIdle me.old.log }
     requires begun { 0 < due me.old }
@@ -51,11 +51,11 @@ fn is_busy(registry: &Registry, me: &mut Caller, change: Change) -> bool
     let lock = LockId::Loader;
     let loader = Busy::Taken { lock };
     match change {
-        Change::Register => registry.register_by(&Trying, me, member) == Err(root),
-        Change::Deregister => registry.deregister_by(&Trying, me, 0x1000) == Err(root),
-        Change::Replace => registry.replace_by(&Trying, me, member) == Err(root),
-        Change::Load => registry.load_by(&Trying, me, member) == Err(loader),
-        Change::Unload => registry.unload_by(&Trying, me, 0x1000) == Err(loader),
+        TriedChange::Register => registry.register_by(&Trying, me, member) == Err(root),
+        TriedChange::Deregister => registry.deregister_by(&Trying, me, 0x1000) == Err(root),
+        TriedChange::Replace => registry.replace_by(&Trying, me, member) == Err(root),
+        TriedChange::Load => registry.load_by(&Trying, me, member) == Err(loader),
+        TriedChange::Unload => registry.unload_by(&Trying, me, 0x1000) == Err(loader),
     }
 }
 
@@ -64,7 +64,7 @@ fn waits(
     registry: &Registry,
     holder: &mut Caller,
     me: &mut Caller,
-    change: Change,
+    change: TriedChange,
     version: u64,
 ) -> bool
     requires tables { (holder.old.table ≡ registry.now.table)
@@ -78,7 +78,7 @@ fn waits(
     ensures begun { IsTrue result → (0 < due me.new) }
 {
     let lock = match change {
-        Change::Load | Change::Unload => LockId::Loader,
+        TriedChange::Load | TriedChange::Unload => LockId::Loader,
         _ => ROOT,
     };
     takes(registry, holder, lock, version)
@@ -144,20 +144,20 @@ fn each_try_to_update_beside_a_lock(rt: HostRuntime) {
             member: *told,
         }
     };
-    assert!(rt; waits(&registry, &mut a, &mut b, Change::Register, 0));
+    assert!(rt; waits(&registry, &mut a, &mut b, TriedChange::Register, 0));
     let came = Inserted::Done { number: 1 };
     assert!(rt; registry.register_by(&Trying, &mut b, *told) == Ok(came));
-    assert!(rt; waits(&registry, &mut a, &mut b, Change::Replace, 4));
+    assert!(rt; waits(&registry, &mut a, &mut b, TriedChange::Replace, 4));
     let (number, payload) = (2, 0);
     let same = Replaced::Done { number, payload };
     assert!(rt; registry.replace_by(&Trying, &mut b, *told) == Ok(same));
-    assert!(rt; waits(&registry, &mut a, &mut b, Change::Deregister, 4));
+    assert!(rt; waits(&registry, &mut a, &mut b, TriedChange::Deregister, 4));
     let went = removed(3);
     assert!(rt; registry.deregister_by(&Trying, &mut b, 0x1000) == Ok(went));
-    assert!(rt; waits(&registry, &mut a, &mut b, Change::Load, 0));
+    assert!(rt; waits(&registry, &mut a, &mut b, TriedChange::Load, 0));
     let loaded = Loading::Done { number: 4 };
     assert!(rt; registry.load_by(&Trying, &mut b, *told) == Ok(loaded));
-    assert!(rt; waits(&registry, &mut a, &mut b, Change::Unload, 4));
+    assert!(rt; waits(&registry, &mut a, &mut b, TriedChange::Unload, 4));
     let unloaded = removed(5);
     assert!(rt; registry.unload_by(&Trying, &mut b, 0x1000) == Ok(unloaded));
 }

@@ -13,7 +13,7 @@ ghost use Rattle.run_engine.specs.Shared.{IsAfterRounds, IsReady};
 
 use crate::gate::Gate;
 use crate::kept::KeptRound;
-use crate::setting::Setting;
+use crate::setting::RunSetting;
 use crate::threads::{PlayedRound, Team, play_threads};
 use crate::turns::Turns;
 use event_script::{Event, Round, Thread};
@@ -74,7 +74,7 @@ fn play_round<R: Threads + Wait + Sync, G: Gate + Sync>(
     rt: &R,
     alloc: Global,
     gate: &G,
-    setting: Setting<'_>,
+    setting: RunSetting<'_>,
     registry: &Registry,
     me: &mut Caller,
     round: NumberedRound<'_>,
@@ -119,7 +119,7 @@ pub fn play_shared<R: Threads + Wait + Sync, G: Gate + Sync>(
     rt: &R,
     alloc: Global,
     gate: &G,
-    setting: Setting<'_>,
+    setting: RunSetting<'_>,
     registry: &Registry,
     me: &mut Caller,
     rounds: &[Round],

@@ -12,7 +12,7 @@ use crate::gate::Gate;
 use crate::kept::KeptJournal;
 use crate::nodes::nodes_for;
 use crate::rounds::play_shared;
-use crate::setting::Setting;
+use crate::setting::RunSetting;
 use crate::telling::tell_journal;
 use event_script::{Journal, Script, members_of};
 use reg_model::NoMemory;
@@ -69,7 +69,7 @@ fn run_kept<R: Threads + Wait + Sync, G: Gate + Sync>(
     // The laws that this rests on; they take no step.
     numbers_tell_histories();
     whole_logs_are_numbered();
-    let setting = Setting {
+    let setting = RunSetting {
         version: script.version,
         images: &script.images,
         sections: &script.sections,

@@ -6,7 +6,7 @@ use reg_model::Span;
 
 /// The images and the recorded stacks of a script, to which its events refer.
 #[derive(Clone, Copy)]
-pub struct Setting<'a> {
+pub struct RunSetting<'a> {
     /// The version of the script, which says what events there are.
     pub version: u32,
     /// The span of each image, by its number.

@@ -12,8 +12,8 @@ ghost use Rattle.run_engine.specs.Played.{IsRightAnswer, updates_of};
 ghost use Rattle.run_engine.specs.Settings.{AreImages, setting_counts};
 ghost use Rattle.run_engine.specs.Shared.{AnswersPlaying, AnswersShared, IsReady};
 
-use crate::setting::Setting;
-use crate::turns::{Turn, Turns};
+use crate::setting::RunSetting;
+use crate::turns::{ThreadTurn, Turns};
 use event_script::{Answer, Event, member_of};
 use reg_model::{NoMemory, Place};
 use registry_core::Registry;
@@ -82,7 +82,7 @@ fn fitted(mut trace: Trace) -> Trace
 pub struct SharedPlayer<'a> {
     registry: &'a Registry,
     me: Caller,
-    turn: Turn<'a>,
+    turn: ThreadTurn<'a>,
 }
 
 impl<'a> Model for SharedPlayer<'a> {
@@ -104,12 +104,12 @@ impl<'a> SharedPlayer<'a> {
         requires terms { me.log.terms ≡ registry.now.terms }
         ensures { result ≡ record { registry = registry.now; me = me } }
     {
-        let turn = Turn::new(turns);
+        let turn = ThreadTurn::new(turns);
         SharedPlayer { registry, me, turn }
     }
 
     /// This thread's part in the turns of its round.
-    pub fn turn(&self) -> &Turn<'a> {
+    pub fn turn(&self) -> &ThreadTurn<'a> {
         &self.turn
     }
 
@@ -126,7 +126,7 @@ impl<'a> SharedPlayer<'a> {
         &mut self,
         rt: &R,
         alloc: Global,
-        setting: Setting<'_>,
+        setting: RunSetting<'_>,
         event: Event,
     ) -> Result<Answer, NoMemory>
         requires images { AreImages setting.images.now setting.sections.now }
@@ -186,7 +186,7 @@ impl<'a> SharedPlayer<'a> {
         &mut self,
         rt: &R,
         alloc: Global,
-        setting: Setting<'_>,
+        setting: RunSetting<'_>,
         number: u32,
     ) -> Result<Trace, NoMemory>
         requires images { AreImages setting.images.now setting.sections.now }

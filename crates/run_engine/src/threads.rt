@@ -15,7 +15,7 @@ ghost use Rattle.run_engine.specs.Shared.{AreManned, IsReady};
 
 use crate::gate::Gate;
 use crate::kept::{KeptAnswer, KeptThread, keep, keep_place};
-use crate::setting::Setting;
+use crate::setting::RunSetting;
 use crate::shared::SharedPlayer;
 use crate::turns::Turns;
 use event_script::{Answer, Event, Thread};
@@ -66,7 +66,7 @@ fn play_one<R: Wait, G: Gate>(
     rt: &R,
     alloc: Global,
     gate: &G,
-    setting: Setting<'_>,
+    setting: RunSetting<'_>,
     player: &mut SharedPlayer<'_>,
     event: NumberedEvent,
 ) -> Result<KeptAnswer, NoMemory>
@@ -133,7 +133,7 @@ fn play_thread<R: Wait, G: Gate>(
     alloc: Global,
     gate: &G,
     number: ThreadNumber,
-    setting: Setting<'_>,
+    setting: RunSetting<'_>,
     mut player: SharedPlayer<'_>,
     events: &[Event],
 ) -> Result<PlayedThread, NoMemory>
@@ -176,7 +176,7 @@ pub fn play_threads<R: Threads + Wait + Sync, G: Gate + Sync>(
     alloc: Global,
     gate: &G,
     round: u32,
-    setting: Setting<'_>,
+    setting: RunSetting<'_>,
     team: Team<'_>,
     threads: &[Thread],
 ) -> Result<PlayedRound, NoMemory>
@@ -196,7 +196,7 @@ pub fn play_threads<R: Threads + Wait + Sync, G: Gate + Sync>(
         (round_told setting.entry.images.now threads.now played.kept.items))
         team.entry.callers.items played.callers.items) }
 {
-    let Setting {
+    let RunSetting {
         version,
         images,
         sections,
@@ -246,7 +246,7 @@ pub fn play_threads<R: Threads + Wait + Sync, G: Gate + Sync>(
                 (round_told images.entry.now before.entry.now played.kept.items))
                 callers.items played.callers.items) }
         {
-            let setting = Setting {
+            let setting = RunSetting {
                 version,
                 images,
                 sections,
@@ -273,7 +273,7 @@ pub fn play_threads<R: Threads + Wait + Sync, G: Gate + Sync>(
                 (thread_told images.entry.now events.entry.now played.kept))
                 me played.caller) }
         {
-            let setting = Setting {
+            let setting = RunSetting {
                 version,
                 images,
                 sections,

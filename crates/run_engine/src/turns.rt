@@ -95,7 +95,7 @@ impl Turns {
 
 /// A thread's part in the turns of its round. It ends, and gives back a turn that it has, on every
 /// way out of the thread.
-pub struct Turn<'a> {
+pub struct ThreadTurn<'a> {
     turns: &'a Turns,
     /// For how many events the thread still has the turn.
     left: Cell<u32>,
@@ -105,10 +105,10 @@ pub struct Turn<'a> {
     apart: Cell<u32>,
 }
 
-impl<'a> Turn<'a> {
+impl<'a> ThreadTurn<'a> {
     /// That of a thread that hasn't got the turn.
-    pub fn new(turns: &'a Turns) -> Turn<'a> {
-        Turn {
+    pub fn new(turns: &'a Turns) -> ThreadTurn<'a> {
+        ThreadTurn {
             turns,
             left: Cell::new(0),
             next: Cell::new(SHORTEST),
@@ -176,10 +176,10 @@ impl<'a> Turn<'a> {
     }
 }
 
-impl Drop for Turn<'_> {
+impl Drop for ThreadTurn<'_> {
     fn drop(self) {
         self.give_back();
-        let Turn {
+        let ThreadTurn {
             turns: _,
             left: _,
             next: _,
@@ -193,7 +193,7 @@ impl Drop for Turn<'_> {
 #[derive(Drop)]
 pub struct InTurn<'b, 'a, R> {
     rt: &'b R,
-    turn: &'b Turn<'a>,
+    turn: &'b ThreadTurn<'a>,
     /// How often the call has paused.
     pauses: Cell<u32>,
 }

@@ -29,16 +29,16 @@ struct Part {
 }
 
 #[derive(Clone, Copy)]
-enum Change {
+enum WriterChange {
     Comes,
     Goes,
 }
 
 // A change of a range that was accepted, with its number.
 #[derive(Clone, Copy)]
-struct Step {
+struct WriterStep {
     range: u32,
-    change: Change,
+    change: WriterChange,
     number: u32,
 }
 
@@ -48,7 +48,7 @@ fn change_range<R: Wait>(
     registry: &Registry,
     me: &mut Caller,
     number: u32,
-    change: Change,
+    change: WriterChange,
 ) -> Option<u32>
     requires table { me.old.table ≡ registry.now.table }
     requires idle { IsIdle me.old.log }
@@ -59,11 +59,11 @@ fn change_range<R: Wait>(
 {
     let member = range(number)?;
     match change {
-        Change::Comes => match registry.register(rt, me, member) {
+        WriterChange::Comes => match registry.register(rt, me, member) {
             Inserted::Done { number } => Some(number),
             _ => None,
         },
-        Change::Goes => match registry.deregister(rt, me, member.span.first()) {
+        WriterChange::Goes => match registry.deregister(rt, me, member.span.first()) {
             Removed::Done { number, .. } => Some(number),
             _ => None,
         },
@@ -78,7 +78,7 @@ fn write_part<R: Wait>(
     registry: &Registry,
     caller: Caller,
     part: Part,
-) -> Option<Vec<Step>>
+) -> Option<Vec<WriterStep>>
     requires table { caller.table ≡ registry.now.table }
     requires idle { IsIdle caller.log }
     requires part { (0 < part.ranges) × (part.first + part.ranges ≤ RANGES) }
@@ -89,12 +89,12 @@ fn write_part<R: Wait>(
     for turn in 0..PASSES * part.ranges {
         let own = part.first + turn * 7_919 % part.ranges;
         let change = if turn / part.ranges % 2 == 0 {
-            Change::Comes
+            WriterChange::Comes
         } else {
-            Change::Goes
+            WriterChange::Goes
         };
         if let Some(number) = change_range(rt, registry, &mut me, own, change) {
-            let step = Step {
+            let step = WriterStep {
                 range: own,
                 change,
                 number,
@@ -114,7 +114,7 @@ fn two_write<R: Threads + Wait + Sync>(
     registry: &Registry,
     callers: (Caller, Caller),
     parts: (Part, Part),
-) -> (Option<Vec<Step>>, Option<Vec<Step>>)
+) -> (Option<Vec<WriterStep>>, Option<Vec<WriterStep>>)
     requires tables { (callers.0.table ≡ registry.now.table)
         × (callers.1.table ≡ registry.now.table) }
     requires idle { IsIdle callers.0.log × IsIdle callers.1.log }
@@ -126,11 +126,11 @@ fn two_write<R: Threads + Wait + Sync>(
     let (low, high) = parts;
     join(
         rt,
-        || -> Option<Vec<Step>>
+        || -> Option<Vec<WriterStep>>
             requires { (a.table ≡ registry.now.table) × IsIdle a.log × (0 < low.ranges)
                 × (low.first + low.ranges ≤ RANGES) × (RANGES ≤ registry.now.terms.payloads) }
         { write_part(rt, alloc, registry, a, low) },
-        || -> Option<Vec<Step>>
+        || -> Option<Vec<WriterStep>>
             requires { (b.table ≡ registry.now.table) × IsIdle b.log × (0 < high.ranges)
                 × (high.first + high.ranges ≤ RANGES) × (RANGES ≤ registry.now.terms.payloads) }
         { write_part(rt, alloc, registry, b, high) },
@@ -145,8 +145,8 @@ fn four_write<R: Threads + Wait + Sync>(
     callers: ((Caller, Caller), (Caller, Caller)),
     apart: u32,
 ) -> (
-    (Option<Vec<Step>>, Option<Vec<Step>>),
-    (Option<Vec<Step>>, Option<Vec<Step>>),
+    (Option<Vec<WriterStep>>, Option<Vec<WriterStep>>),
+    (Option<Vec<WriterStep>>, Option<Vec<WriterStep>>),
 )
     requires low_tables { (callers.0.0.table ≡ registry.now.table)
         × (callers.0.1.table ≡ registry.now.table) }
@@ -160,12 +160,12 @@ fn four_write<R: Threads + Wait + Sync>(
     let (low, high) = callers;
     join(
         rt,
-        || -> (Option<Vec<Step>>, Option<Vec<Step>>)
+        || -> (Option<Vec<WriterStep>>, Option<Vec<WriterStep>>)
             requires { (low.0.table ≡ registry.now.table) × (low.1.table ≡ registry.now.table)
                 × IsIdle low.0.log × IsIdle low.1.log × (apart ≤ 500)
                 × (RANGES ≤ registry.now.terms.payloads) }
         { two_write(rt, alloc, registry, low, (quarter(0), quarter(apart))) },
-        || -> (Option<Vec<Step>>, Option<Vec<Step>>)
+        || -> (Option<Vec<WriterStep>>, Option<Vec<WriterStep>>)
             requires { (high.0.table ≡ registry.now.table) × (high.1.table ≡ registry.now.table)
                 × IsIdle high.0.log × IsIdle high.1.log × (apart ≤ 500)
                 × (RANGES ≤ registry.now.terms.payloads) }
@@ -200,10 +200,14 @@ fn half(first: u32) -> Part
 
 // The changes of all threads by their numbers, none where two have the same, or one is above the
 // stamp, or a thread wanted for memory.
-fn by_number(alloc: Global, parts: &[Option<Vec<Step>>], stamp: u32) -> Option<Vec<Option<Step>>> {
+fn by_number(
+    alloc: Global,
+    parts: &[Option<Vec<WriterStep>>],
+    stamp: u32,
+) -> Option<Vec<Option<WriterStep>>> {
     let mut steps = Vec::new(alloc);
     for _ in 0..stamp {
-        steps.push(None::<Step>).ok()?;
+        steps.push(None::<WriterStep>).ok()?;
     }
     for part in parts {
         let Some(part) = part else {
@@ -221,7 +225,7 @@ fn by_number(alloc: Global, parts: &[Option<Vec<Step>>], stamp: u32) -> Option<V
 
 // Which ranges are there after these changes: each comes where it wasn't there, and goes where it
 // was.
-fn there_after(alloc: Global, steps: &[Option<Step>]) -> Option<Vec<bool>> {
+fn there_after(alloc: Global, steps: &[Option<WriterStep>]) -> Option<Vec<bool>> {
     let mut there = Vec::new(alloc);
     for _ in 0..RANGES {
         there.push(false).ok()?;
@@ -230,7 +234,7 @@ fn there_after(alloc: Global, steps: &[Option<Step>]) -> Option<Vec<bool>> {
         let Some(step) = step else {
             return None;
         };
-        let comes = matches!(step.change, Change::Comes);
+        let comes = matches!(step.change, WriterChange::Comes);
         match there.get_mut(step.range as usize) {
             Some(is) if *is != comes => *is = comes,
             _ => return None,
@@ -287,7 +291,7 @@ fn accepted<R: Wait>(
     alloc: Global,
     registry: &Registry,
     me: &mut Caller,
-    parts: &[Option<Vec<Step>>],
+    parts: &[Option<Vec<WriterStep>>],
 ) -> Option<u32>
     requires table { me.old.table ≡ registry.now.table }
     requires idle { IsIdle me.old.log }

@@ -3,7 +3,7 @@ ghost use Rattle.std.specs.Prelude.{◌≡◌, ◌<◌, ◌≤◌};
 ghost use Rattle.word_rule.specs.Callers.{IsIdle};
 
 use crate::tree_rounds::{
-    ALL, EACH, Event, are_all_right, numbers_of, range, register_all, registry_of, split_off,
+    ALL, EACH, RoundEvent, are_all_right, numbers_of, range, register_all, registry_of, split_off,
     two_take_part,
 };
 use reg_model::{Found, Member};
@@ -16,14 +16,14 @@ use word_rule::{Caller, Reader};
 const READERS: usize = 16;
 
 // Looks at the base of a range.
-fn look_at<R: Wait>(rt: &R, registry: &Registry, me: &mut Reader, number: u32) -> Option<Event>
+fn look_at<R: Wait>(rt: &R, registry: &Registry, me: &mut Reader, number: u32) -> Option<RoundEvent>
     requires table { me.old.table ≡ registry.now.table }
     requires small { number < ALL }
     ensures { me.new.table ≡ me.old.table }
 {
     let pc = range(number)?.span.first();
     let found = registry.find(rt, me, pc).registered;
-    Some(Event::Looked {
+    Some(RoundEvent::Looked {
         range: number,
         found,
     })
@@ -35,7 +35,7 @@ fn read_along<R: Wait>(
     alloc: Global,
     registry: &Registry,
     reader: u32,
-) -> Option<Vec<Event>>
+) -> Option<Vec<RoundEvent>>
     requires { reader < 16 }
 {
     let mut me = registry.reader();
@@ -57,8 +57,8 @@ fn write_and_read<R: Threads + Wait + Sync>(
     registry: &Registry,
     writers: (Caller, Caller),
 ) -> (
-    (Option<Vec<Event>>, Option<Vec<Event>>),
-    Option<Vec<Option<Vec<Event>>>>,
+    (Option<Vec<RoundEvent>>, Option<Vec<RoundEvent>>),
+    Option<Vec<Option<Vec<RoundEvent>>>>,
 )
     requires tables { (writers.0.table ≡ registry.now.table)
         × (writers.1.table ≡ registry.now.table) }
@@ -67,12 +67,12 @@ fn write_and_read<R: Threads + Wait + Sync>(
 {
     join(
         rt,
-        || -> (Option<Vec<Event>>, Option<Vec<Event>>)
+        || -> (Option<Vec<RoundEvent>>, Option<Vec<RoundEvent>>)
             requires { (writers.0.table ≡ registry.now.table)
                 × (writers.1.table ≡ registry.now.table) × IsIdle writers.0.log
                 × IsIdle writers.1.log × (ALL ≤ registry.now.terms.payloads) }
         { two_take_part(rt, alloc, registry, writers, 0) },
-        || -> Option<Vec<Option<Vec<Event>>>> { read_side_by_side(rt, alloc, registry) },
+        || -> Option<Vec<Option<Vec<RoundEvent>>>> { read_side_by_side(rt, alloc, registry) },
     )
 }
 
@@ -80,8 +80,8 @@ fn read_side_by_side<R: Threads + Wait + Sync>(
     rt: &R,
     alloc: Global,
     registry: &Registry,
-) -> Option<Vec<Option<Vec<Event>>>> {
-    let read = &|reader: usize| -> Option<Vec<Event>>
+) -> Option<Vec<Option<Vec<RoundEvent>>>> {
+    let read = &|reader: usize| -> Option<Vec<RoundEvent>>
         requires { reader < 16 }
     { read_along(rt, alloc, registry, reader as u32) };
     map_indices(rt, alloc, READERS, read).ok()

@@ -129,7 +129,7 @@ pub(crate) const EACH: u32 = 2_500;
 pub(crate) const ALL: u32 = 10_000;
 
 #[derive(Clone, Copy)]
-pub(crate) enum Event {
+pub(crate) enum RoundEvent {
     Registered { range: u32, answer: Inserted },
     Looked { range: u32, found: Found },
 }
@@ -140,7 +140,7 @@ fn one_turn<R: Wait>(
     registry: &Registry,
     me: &mut Caller,
     numbers: (u32, u32),
-) -> Option<(Event, Event)>
+) -> Option<(RoundEvent, RoundEvent)>
     requires table { me.old.table ≡ registry.now.table }
     requires idle { IsIdle me.old.log }
     requires small { numbers.0 < ALL }
@@ -150,10 +150,10 @@ fn one_turn<R: Wait>(
 {
     let (own, other) = numbers;
     let answer = registry.register(rt, me, range(own)?);
-    let registered = Event::Registered { range: own, answer };
+    let registered = RoundEvent::Registered { range: own, answer };
     let pc = range(other)?.span.first();
     let place = registry.find(rt, me, pc);
-    let looked = Event::Looked {
+    let looked = RoundEvent::Looked {
         range: other,
         found: place.registered,
     };
@@ -167,7 +167,7 @@ fn take_part<R: Wait>(
     registry: &Registry,
     caller: Caller,
     part: u32,
-) -> Option<Vec<Event>>
+) -> Option<Vec<RoundEvent>>
     requires table { caller.table ≡ registry.now.table }
     requires idle { IsIdle caller.log }
     requires part { part < 4 }
@@ -193,7 +193,7 @@ pub(crate) fn two_take_part<R: Threads + Wait + Sync>(
     registry: &Registry,
     callers: (Caller, Caller),
     part: u32,
-) -> (Option<Vec<Event>>, Option<Vec<Event>>)
+) -> (Option<Vec<RoundEvent>>, Option<Vec<RoundEvent>>)
     requires tables { (callers.0.table ≡ registry.now.table)
         × (callers.1.table ≡ registry.now.table) }
     requires idle { IsIdle callers.0.log × IsIdle callers.1.log }
@@ -203,11 +203,11 @@ pub(crate) fn two_take_part<R: Threads + Wait + Sync>(
     let (a, b) = callers;
     join(
         rt,
-        || -> Option<Vec<Event>>
+        || -> Option<Vec<RoundEvent>>
             requires { (a.table ≡ registry.now.table) × IsIdle a.log × (part < 3)
                 × (ALL ≤ registry.now.terms.payloads) }
         { take_part(rt, alloc, registry, a, part) },
-        || -> Option<Vec<Event>>
+        || -> Option<Vec<RoundEvent>>
             requires { (b.table ≡ registry.now.table) × IsIdle b.log × (part < 3)
                 × (ALL ≤ registry.now.terms.payloads) }
         { take_part(rt, alloc, registry, b, part + 1) },
@@ -222,8 +222,8 @@ fn four_take_part<R: Threads + Wait + Sync>(
     low: (Caller, Caller),
     high: (Caller, Caller),
 ) -> (
-    (Option<Vec<Event>>, Option<Vec<Event>>),
-    (Option<Vec<Event>>, Option<Vec<Event>>),
+    (Option<Vec<RoundEvent>>, Option<Vec<RoundEvent>>),
+    (Option<Vec<RoundEvent>>, Option<Vec<RoundEvent>>),
 )
     requires low_tables { (low.0.table ≡ registry.now.table) × (low.1.table ≡ registry.now.table) }
     requires high_tables { (high.0.table ≡ registry.now.table)
@@ -234,11 +234,11 @@ fn four_take_part<R: Threads + Wait + Sync>(
 {
     join(
         rt,
-        || -> (Option<Vec<Event>>, Option<Vec<Event>>)
+        || -> (Option<Vec<RoundEvent>>, Option<Vec<RoundEvent>>)
             requires { (low.0.table ≡ registry.now.table) × (low.1.table ≡ registry.now.table)
                 × IsIdle low.0.log × IsIdle low.1.log × (ALL ≤ registry.now.terms.payloads) }
         { two_take_part(rt, alloc, registry, low, 0) },
-        || -> (Option<Vec<Event>>, Option<Vec<Event>>)
+        || -> (Option<Vec<RoundEvent>>, Option<Vec<RoundEvent>>)
             requires { (high.0.table ≡ registry.now.table) × (high.1.table ≡ registry.now.table)
                 × IsIdle high.0.log × IsIdle high.1.log × (ALL ≤ registry.now.terms.payloads) }
         { two_take_part(rt, alloc, registry, high, 2) },
@@ -247,7 +247,7 @@ fn four_take_part<R: Threads + Wait + Sync>(
 
 // The number of each range, where an event says it, once each. One that none registered never has
 // any. None also where a thread wanted for memory.
-pub(crate) fn numbers_of(alloc: Global, parts: &[Option<Vec<Event>>]) -> Option<Vec<u32>> {
+pub(crate) fn numbers_of(alloc: Global, parts: &[Option<Vec<RoundEvent>>]) -> Option<Vec<u32>> {
     let mut numbers = Vec::new(alloc);
     let mut taken = Vec::new(alloc);
     for _ in 0..ALL {
@@ -263,7 +263,7 @@ pub(crate) fn numbers_of(alloc: Global, parts: &[Option<Vec<Event>>]) -> Option<
             return None;
         };
         for event in events {
-            let Event::Registered { range, answer } = event else {
+            let RoundEvent::Registered { range, answer } = event else {
                 continue;
             };
             let Inserted::Done { number } = answer else {
@@ -288,15 +288,15 @@ pub(crate) fn numbers_of(alloc: Global, parts: &[Option<Vec<Event>>]) -> Option<
 
 // Whether the range was found exactly where its number isn't above the stamp, and stamps and
 // numbers never fall.
-fn are_right(numbers: &[u32], events: &[Event]) -> bool {
+fn are_right(numbers: &[u32], events: &[RoundEvent]) -> bool {
     let mut since = 0;
     for event in events {
         let now = match event {
-            Event::Registered { answer, .. } => match answer {
+            RoundEvent::Registered { answer, .. } => match answer {
                 Inserted::Done { number } if *number > since => *number,
                 _ => return false,
             },
-            Event::Looked {
+            RoundEvent::Looked {
                 range: number,
                 found,
             } => {
@@ -328,7 +328,7 @@ fn are_right(numbers: &[u32], events: &[Event]) -> bool {
 }
 
 // Whether all threads were told what is right.
-pub(crate) fn are_all_right(numbers: &[u32], parts: &[Option<Vec<Event>>]) -> bool {
+pub(crate) fn are_all_right(numbers: &[u32], parts: &[Option<Vec<RoundEvent>>]) -> bool {
     for part in parts {
         match part {
             Some(events) if are_right(numbers, events) => {}

@@ -1,10 +1,18 @@
-//! Why reading ends before the bytes do.
+//! Why bytes are not read as a script.
 
 ghost use Rattle.std.specs.Prelude.{◌≡◌};
 ghost use Rattle.event_script.specs.declared.reader.fault.LineFault.TheVariants.{Bad, NoMemory};
 
 use script_text::Reason;
 use std::alloc::AllocFailed;
+
+/// Why bytes are not read as a script.
+#[derive(Clone, Copy, Debug, PartialEq, Eq)]
+pub enum ScriptFault {
+    /// The first bad line, numbered from 1, and the first reason that holds of it.
+    Bad { line: u32, reason: Reason },
+    NoMemory,
+}
 
 /// Why reading ends before the bytes do.
 #[derive(Clone, Copy)]

@@ -8,9 +8,8 @@ ghost use Rattle.event_script.specs.Reading.{LeavesDraft, after_line, at_line, o
 ghost use Rattle.event_script.specs.Taken.{AreLinesOf, HasTaken};
 ghost use Rattle.script_text.specs.declared.reason.Reason.{Reason};
 
-use crate::reader::ScriptFault;
 use crate::reader::draft::Draft;
-use crate::reader::fault::LineFault;
+use crate::reader::fault::{LineFault, ScriptFault};
 use script_text::place_of;
 use std::alloc::Global;
 use std::marker::Model;

@@ -5,7 +5,7 @@ use Rattle.script_text.specs.Spelling.{IsScript}
 use Rattle.event_script.specs.Draft.{DraftData}
 use Rattle.event_script.specs.Fault.{Tells}
 use Rattle.event_script.specs.Taken.{LinesData, HasTaken}
-use Rattle.event_script.specs.declared.reader.ScriptFault.{ScriptFault}
+use Rattle.event_script.specs.declared.reader.fault.ScriptFault.{ScriptFault}
 use Rattle.event_script.proofs.FirstBad.{tells}
 use Rattle.event_script.proofs.LinesRead.{outcome_sound}
 use Rattle.event_script.proofs.reader.ScriptReader.finish.Goals as goal

@@ -1,7 +1,7 @@
 use Rattle.std.proofs.Common.{List, ℕ, ◌++◌, Result, sym, subst, ◌∙◌, append_assoc}
 use Rattle.event_script.specs.Fault.{Tells}
 use Rattle.event_script.specs.Taken.{LinesData, HasTaken}
-use Rattle.event_script.specs.declared.reader.ScriptFault.{ScriptFault}
+use Rattle.event_script.specs.declared.reader.fault.ScriptFault.{ScriptFault}
 use Rattle.event_script.proofs.reader.ScriptReader.take.Goals.{in-Ok, in-Err}
 use Rattle.event_script.proofs.reader.ScriptReader.take.Goals as goal
 
