@@ -171,8 +171,8 @@ IsEntry e = (1 ≤ e.size) × (e.base + e.size ≤ TOP) × (e.payload < 2 ^ 32)
 
 -- Whatever node has the words that were loaded: it is a leaf whose fences hold the address, and
 -- this is its entry that contains the address.
-pub record SeesEntry (t : Terms) (pc : ℕ) (k : CallerData) (visit : Visit) (entry : Option SeenEntry)
-    (k' : CallerData) : Type 0 where
+pub record SeesEntry (t : Terms) (pc : ℕ) (k : CallerData) (visit : Visit)
+    (entry : Option SeenEntry) (k' : CallerData) : Type 0 where
   pub sees : Sees t pc k visit 13 k'
   pub found : (shape : NodeData) → Agrees t sees.sight shape
       → (member_at pc (entries_of shape) ≡ option_map entry_member entry)
