@@ -3,7 +3,7 @@
 #![tactic(auto)]
 
 #[cfg(test)]
-mod free_list;
+mod free_nodes;
 #[cfg(test)]
 mod node_words;
 #[cfg(test)]

@@ -3,7 +3,7 @@ ghost use Rattle.tree_laws.specs.Numbers.{is_among};
 ghost use Rattle.word_rule.specs.CallerData.{surplus};
 ghost use Rattle.free_list.specs.Free.{HoldsOut};
 
-use crate::free_list::{gives, taken};
+use crate::free_nodes::{gives, taken};
 use node_store::{CONTENT_WORDS, Sight, check, peek, write_held};
 use reg_model::{Member, Span};
 use std::sync::Wait;

@@ -1,6 +1,6 @@
 use Rattle.std.proofs.Common.{Ok}
 use Rattle.node_store.proofs.OutNodes.{took}
-use Rattle.node_tests.proofs.free_list.taken.Goals as goal
+use Rattle.node_tests.proofs.free_nodes.taken.Goals as goal
 
 pub returns : goal.returns
 returns g c =

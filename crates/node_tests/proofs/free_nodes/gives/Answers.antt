@@ -1,5 +1,5 @@
 use Rattle.node_store.proofs.OutNodes.{gave, out_held}
-use Rattle.node_tests.proofs.free_list.gives.Goals as goal
+use Rattle.node_tests.proofs.free_nodes.gives.Goals as goal
 
 pub give_free-requires-clause-held : goal.give_free-requires-clause-held
 give_free-requires-clause-held g c = out_held c.args.node c.args.me.now.log c.requires.holds c.requires.out
