@@ -210,21 +210,54 @@ fn a_sleep_goes_on_until_the_word_changes(rt: HostRuntime) -> Result<(), Fail> {
     Ok(())
 }
 
+// One takes the loader's lock, and lets go of it unchanged; another finds it taken by either try.
+fn is_busy_beside(words: &Words, me: &mut Caller, other: &mut Caller) -> bool
+    requires tables { (me.old.table ≡ words.now.table) × (other.old.table ≡ words.now.table) }
+    ensures tables { (me.new.table ≡ me.old.table) × (other.new.table ≡ other.old.table) }
+    ensures surplus { surplus other.new ≡ surplus other.old }
+{
+    let id = LockId::Loader;
+    if !Once.take(words, me, id) {
+        return false;
+    }
+    let busy = !Once.take(words, other, id) && !Trying.take(words, other, id);
+    Once.let_go_same(words, me, id);
+    busy && words.load_version(me, id, Ask::Nothing) == 0
+}
+
+// One that takes it by tries lets go of it with the next version; another finds it taken.
+fn is_changed_beside(words: &Words, me: &mut Caller, other: &mut Caller) -> bool
+    requires tables { (me.old.table ≡ words.now.table) × (other.old.table ≡ words.now.table) }
+    requires surplus { 0 < surplus me.old }
+    ensures tables { (me.new.table ≡ me.old.table) × (other.new.table ≡ other.old.table) }
+{
+    let id = LockId::Loader;
+    if !Trying.take(words, me, id) {
+        return false;
+    }
+    let busy = !Once.take(words, other, id);
+    Trying.let_go(words, me, id);
+    busy && words.load_version(me, id, Ask::Nothing) == 4
+}
+
+// One that waits for it gets it, and lets go of it unchanged.
+fn is_got_by_waiting<R: Wait>(rt: &R, words: &Words, me: &mut Caller, other: &mut Caller) -> bool
+    requires tables { (me.old.table ≡ words.now.table) × (other.old.table ≡ words.now.table) }
+{
+    let (waiting, id) = (Waiting { rt }, LockId::Loader);
+    if !waiting.take(words, me, id) {
+        return false;
+    }
+    waiting.let_go_same(words, me, id);
+    words.load_version(other, id, Ask::Nothing) == 4
+}
+
 #[test]
 fn a_lock_that_is_taken_is_busy(rt: HostRuntime) -> Result<(), Fail> {
     let (words, mut a) = four_nodes(rt.alloc())?;
     let mut b = words.split(&mut a, 1)?;
-    let id = LockId::Loader;
-    assert!(rt; Once.take(&words, &mut a, id));
-    assert!(rt; !Once.take(&words, &mut b, id) && !Trying.take(&words, &mut b, id));
-    Once.let_go_same(&words, &mut a, id);
-    assert!(rt; words.load_version(&mut a, id, Ask::Nothing) == 0);
-    assert!(rt; Trying.take(&words, &mut b, id) && !Once.take(&words, &mut a, id));
-    Trying.let_go(&words, &mut b, id);
-    assert!(rt; words.load_version(&mut a, id, Ask::Nothing) == 4);
-    let waiting = Waiting { rt: &rt };
-    assert!(rt; waiting.take(&words, &mut a, id));
-    waiting.let_go_same(&words, &mut a, id);
-    assert!(rt; words.load_version(&mut b, id, Ask::Nothing) == 4);
+    let busy = is_busy_beside(&words, &mut a, &mut b);
+    let changed = is_changed_beside(&words, &mut b, &mut a);
+    assert!(rt; busy && changed && is_got_by_waiting(&rt, &words, &mut a, &mut b));
     Ok(())
 }
