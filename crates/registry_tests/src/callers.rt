@@ -1,4 +1,4 @@
-//! A registry with two callers, and what one is answered.
+//! A registry with two callers, and whether one is answered so.
 
 ghost use Rattle.std.specs.Prelude.{◌≡◌, ◌<◌, ◌≤◌, IfSome, None};
 ghost use Rattle.word_rule.specs.CallerData.{surplus};
@@ -8,7 +8,6 @@ use reg_model::{Found, Inserted, Loading, Member, Place, Removed, Replaced, Span
 use registry_core::Registry;
 use std::alloc::Global;
 use std::sync::Wait;
-use std::test::Fail;
 use word_rule::Caller;
 
 // So many addresses from a base on, with a payload.
@@ -26,17 +25,17 @@ pub(crate) fn range(base: u64) -> Option<Member>
     member(base, 0x20, 0)
 }
 
-// A registry with room for one loaded member, its first caller, and one with so many update calls.
+// A registry of sixteen nodes, its first caller, and one with so many update calls.
 pub(crate) fn two_callers(alloc: Global, calls: u32) -> Option<(Registry, Caller, Caller)>
     requires { calls ≤ 8 }
-    ensures terms { IfSome result (λ made. (made.0.terms.payloads ≡ 1)
-        × (made.0.terms.nodes ≡ 4)) }
+    ensures terms { IfSome result (λ made. (made.0.terms.payloads ≡ 9)
+        × (made.0.terms.nodes ≡ 16)) }
     ensures tables { IfSome result (λ made. (made.1.table ≡ made.0.table)
         × (made.2.table ≡ made.0.table)) }
     ensures idle { IfSome result (λ made. IsIdle made.1.log × IsIdle made.2.log) }
     ensures spare { IfSome result (λ made. 0 < surplus made.1) }
 {
-    let (registry, mut first) = Registry::new(alloc, 4, 1, 1, Vec::new(alloc)).ok()?;
+    let (registry, mut first) = Registry::new(alloc, 16, 9, 9, Vec::new(alloc)).ok()?;
     let other = registry.words().split(&mut first, calls).ok()?;
     Some((registry, first, other))
 }
@@ -53,7 +52,7 @@ pub(crate) fn loaded(place: Place) -> Option<(u32, u32, u32)> {
 
 // An update call, and what it is to answer.
 #[derive(Clone, Copy)]
-pub(crate) enum WantedAnswer {
+pub(crate) enum Wanted {
     Registers(Inserted),
     Deregisters(Removed),
     Replaces(Replaced),
@@ -67,7 +66,7 @@ pub(crate) fn answers<R: Wait>(
     registry: &Registry,
     me: &mut Caller,
     told: &Member,
-    wanted: WantedAnswer,
+    wanted: Wanted,
 ) -> bool
     requires table { me.old.table ≡ registry.now.table }
     requires idle { IsIdle me.old.log }
@@ -77,11 +76,11 @@ pub(crate) fn answers<R: Wait>(
 {
     let base = told.span.first();
     match wanted {
-        WantedAnswer::Registers(answer) => registry.register(rt, me, *told) == answer,
-        WantedAnswer::Deregisters(answer) => registry.deregister(rt, me, base) == answer,
-        WantedAnswer::Replaces(answer) => registry.replace(rt, me, *told) == answer,
-        WantedAnswer::Loads(answer) => registry.load(rt, me, *told) == answer,
-        WantedAnswer::Unloads(answer) => registry.unload(rt, me, base) == answer,
+        Wanted::Registers(answer) => registry.register(rt, me, *told) == answer,
+        Wanted::Deregisters(answer) => registry.deregister(rt, me, base) == answer,
+        Wanted::Replaces(answer) => registry.replace(rt, me, *told) == answer,
+        Wanted::Loads(answer) => registry.load(rt, me, *told) == answer,
+        Wanted::Unloads(answer) => registry.unload(rt, me, base) == answer,
     }
 }
 
@@ -107,38 +106,4 @@ pub(crate) fn nowhere(stamp: u32) -> Place {
         registered: Found::Miss { stamp },
         loaded: Some(Found::Miss { stamp }),
     }
-}
-
-#[test]
-fn a_payload_is_exchanged_in_place(rt: HostRuntime) -> Result<(), Fail> {
-    let alloc = rt.alloc();
-    let (registry, mut a) = Registry::new(alloc, 16, 8, 3, Vec::new(alloc))?;
-    let (Some(old), Some(new)) = (member(0x1000, 0x30, 0), member(0x1000, 0x30, 1)) else {
-        panic!(rt; "spans")
-    };
-    let Some(part) = member(0x1000, 0x20, 2) else {
-        panic!(rt; "a span")
-    };
-    let absent = WantedAnswer::Replaces(Replaced::NotFound { stamp: 0 });
-    assert!(rt; answers(&rt, &registry, &mut a, &old, absent));
-    let came = WantedAnswer::Registers(Inserted::Done { number: 1 });
-    assert!(rt; answers(&rt, &registry, &mut a, &old, came));
-    let (number, payload) = (2, 0);
-    let done = WantedAnswer::Replaces(Replaced::Done { number, payload });
-    assert!(rt; answers(&rt, &registry, &mut a, &new, done));
-    let hit = Found::Hit {
-        member: new,
-        stamp: 2,
-    };
-    let found = Place {
-        registered: hit,
-        loaded: None,
-    };
-    assert!(rt; is_found(&rt, &registry, &mut a, 0x1010, found));
-    let shorter = WantedAnswer::Replaces(Replaced::NotFound { stamp: 2 });
-    assert!(rt; answers(&rt, &registry, &mut a, &part, shorter));
-    let (number, member) = (3, new);
-    let went = WantedAnswer::Deregisters(Removed::Done { number, member });
-    assert!(rt; answers(&rt, &registry, &mut a, &new, went));
-    Ok(())
 }

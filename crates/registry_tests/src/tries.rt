@@ -2,14 +2,15 @@
 
 ghost use Rattle.std.specs.Prelude.{◌≡◌, ◌<◌, ◌≤◌, IsTrue};
 ghost use Rattle.word_rule.specs.Callers.{IsIdle};
-ghost use Rattle.word_rule.specs.CallerData.{due};
+ghost use Rattle.word_rule.specs.CallerData.{due, surplus};
 ghost use Rattle.word_rule.specs.VersionLocks.{IsHeldClean, IsLock};
 ghost use Rattle.node_store.specs.Sights.{IsKept};
 
-use crate::callers::{range, two_callers};
+use crate::callers::range;
 use node_store::{Busy, Sight, Trying, check, lock, peek, unlock};
 use reg_model::{Again, Found, Inserted, Loading, Removed, Replaced};
 use registry_core::Registry;
+use std::sync::Wait;
 use word_rule::{Caller, LockId};
 
 const ROOT: LockId = LockId::Node { node: 0 };
@@ -104,38 +105,54 @@ fn has_changed(registry: &Registry, me: &mut Caller, sight: &Sight, wanted: Agai
     matches!(check(registry.words(), me, sight), Err(again) if again == wanted)
 }
 
-#[test]
-fn a_try_beside_a_locked_root(rt: HostRuntime) {
-    let Some((registry, mut a, mut b)) = two_callers(rt.alloc(), 1) else {
-        panic!(rt; "no memory")
+// While one holds the root, a lookup by another is told so; and a sight of the root from before has
+// changed behind it.
+pub(crate) fn is_tried_beside_the_root<R: Wait>(
+    rt: &R,
+    registry: &Registry,
+    holder: &mut Caller,
+    me: &mut Caller,
+) -> bool
+    requires tables { (holder.old.table ≡ registry.now.table)
+        × (me.old.table ≡ registry.now.table) }
+    requires nodes { registry.now.terms.nodes ≡ 16 }
+    requires surplus { 0 < surplus holder.old }
+{
+    let words = registry.words();
+    let Ok(mut watcher) = words.split(me, 0) else {
+        return false;
     };
-    let Ok(mut watcher) = registry.words().split(&mut b, 0) else {
-        panic!(rt; "no memory")
+    let Ok(sight) = peek(words, &mut watcher, 0) else {
+        return false;
     };
-    let Ok(sight) = peek(registry.words(), &mut watcher, 0) else {
-        panic!(rt; "nobody has the root")
-    };
-    assert!(rt; sight.version == 0);
-    lock(&rt, registry.words(), &mut a, ROOT);
-    assert!(rt; is_told(&registry, &mut b, Err(Again::Locked { word: 4, seen: 1 })));
-    unlock(&rt, registry.words(), &mut a, ROOT);
+    lock(rt, words, holder, ROOT);
+    let told = is_told(registry, me, Err(Again::Locked { word: 4, seen: 1 }));
+    unlock(rt, words, holder, ROOT);
     // It was let go with the next version.
     let changed = Again::Changed {
         word: 4,
         first: 0,
         second: 4,
     };
-    assert!(rt; has_changed(&registry, &mut watcher, &sight, changed));
-    assert!(rt; is_told(&registry, &mut b, Ok(Found::Miss { stamp: 0 })));
+    told && sight.version == 0
+        && has_changed(registry, &mut watcher, &sight, changed)
+        && is_told(registry, me, Ok(Found::Miss { stamp: 0 }))
 }
 
-#[test]
-fn each_try_to_update_beside_a_lock(rt: HostRuntime) {
-    let Some((registry, mut a, mut b)) = two_callers(rt.alloc(), 5) else {
-        panic!(rt; "no memory")
-    };
+// Each update is begun beside its half's lock, and done behind it.
+pub(crate) fn is_tried_beside_each_lock(
+    registry: &Registry,
+    holder: &mut Caller,
+    me: &mut Caller,
+) -> bool
+    requires tables { (holder.old.table ≡ registry.now.table)
+        × (me.old.table ≡ registry.now.table) }
+    requires nodes { 0 < registry.now.terms.nodes }
+    requires idle { IsIdle me.old.log }
+    requires payload { 0 < registry.now.terms.payloads }
+{
     let Some(one) = range(0x1000) else {
-        panic!(rt; "a span")
+        return false;
     };
     let told = &one;
     let removed = |number: u32| -> Removed {
@@ -144,20 +161,18 @@ fn each_try_to_update_beside_a_lock(rt: HostRuntime) {
             member: *told,
         }
     };
-    assert!(rt; waits(&registry, &mut a, &mut b, TriedChange::Register, 0));
     let came = Inserted::Done { number: 1 };
-    assert!(rt; registry.register_by(&Trying, &mut b, *told) == Ok(came));
-    assert!(rt; waits(&registry, &mut a, &mut b, TriedChange::Replace, 4));
     let (number, payload) = (2, 0);
     let same = Replaced::Done { number, payload };
-    assert!(rt; registry.replace_by(&Trying, &mut b, *told) == Ok(same));
-    assert!(rt; waits(&registry, &mut a, &mut b, TriedChange::Deregister, 4));
-    let went = removed(3);
-    assert!(rt; registry.deregister_by(&Trying, &mut b, 0x1000) == Ok(went));
-    assert!(rt; waits(&registry, &mut a, &mut b, TriedChange::Load, 0));
     let loaded = Loading::Done { number: 4 };
-    assert!(rt; registry.load_by(&Trying, &mut b, *told) == Ok(loaded));
-    assert!(rt; waits(&registry, &mut a, &mut b, TriedChange::Unload, 4));
-    let unloaded = removed(5);
-    assert!(rt; registry.unload_by(&Trying, &mut b, 0x1000) == Ok(unloaded));
+    waits(registry, holder, me, TriedChange::Register, 0)
+        && registry.register_by(&Trying, me, *told) == Ok(came)
+        && waits(registry, holder, me, TriedChange::Replace, 4)
+        && registry.replace_by(&Trying, me, *told) == Ok(same)
+        && waits(registry, holder, me, TriedChange::Deregister, 4)
+        && registry.deregister_by(&Trying, me, 0x1000) == Ok(removed(3))
+        && waits(registry, holder, me, TriedChange::Load, 0)
+        && registry.load_by(&Trying, me, *told) == Ok(loaded)
+        && waits(registry, holder, me, TriedChange::Unload, 4)
+        && registry.unload_by(&Trying, me, 0x1000) == Ok(removed(5))
 }

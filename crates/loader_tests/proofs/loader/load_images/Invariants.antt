@@ -1,5 +1,0 @@
-use Rattle.array_publish.specs.Update.{IsFreeAgain}
-use Rattle.loader_tests.proofs.loader.load_images.Given as goal
-
-abbrev pub invariant-loop-image : goal.invariant-loop-image
-invariant-loop-image g l = IsFreeAgain l.fn.me l.me
